@@ -1,0 +1,3 @@
+-- facts on numbers, lists and tables
+pub mod Cases
+pub mod Tables
