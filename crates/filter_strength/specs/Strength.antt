@@ -22,25 +22,34 @@ abbrev pub nearest : ℕ → Float
 nearest n = ofInt binary32 (pos n)
 
 -- multiplier × 65536, / scale
-unfoldable pub scaled : Float → ℕ → Float
+abbrev pub scaled : Float → ℕ → Float
 scaled m scale = div binary32 (mul binary32 m two16) (nearest scale)
 
 -- / hf_mul
-unfoldable pub dulled : Float → ℕ → Float
-dulled a h = div binary32 a (nearest h)
+abbrev pub shared : Float → ℕ → Float
+shared a h = div binary32 a (nearest h)
 
 -- × look-up[sharpness]
-unfoldable pub strength : Float → ℕ → ℕ → Float → Float
-strength m scale h look = mul binary32 (dulled (scaled m scale) h) look
+abbrev pub looked : Float → List Float → ℕ → Float
+looked q lookups sharpness = mul binary32 q (getD lookups sharpness nan)
 
--- filter off: +0.0
-abbrev pub sigmaOf : Filter → List Float → ℕ → ℕ → ℕ → Float
-sigmaOf Off lookups scale h sharpness = zero32
-sigmaOf (On m) lookups scale h sharpness = strength m scale h (getD lookups sharpness nan)
+-- all four steps; filter off: +0.0
+unfoldable pub sigmaOf : Filter → ℕ → ℕ → List Float → ℕ → Float
+sigmaOf Off scale h lookups sharpness = zero32
+sigmaOf (On m) scale h lookups sharpness = looked (shared (scaled m scale) h) lookups sharpness
+
+-- the steps on a filter, off staying off
+unfoldable pub scaledFilter : Filter → ℕ → Filter
+scaledFilter Off scale = Off
+scaledFilter (On m) scale = On (scaled m scale)
+
+unfoldable pub sharedFilter : Filter → ℕ → Filter
+sharedFilter Off h = Off
+sharedFilter (On a) h = On (shared a h)
 
 -- M7: multiplier 0.5, scale 32,768, hf_mul 4, look-up 2.0 give 0.5
-pub m7 : strength (fin false 1 (negsuc 0)) 32768 4 (fin false 1 (pos 1)) ≡ fin false 1 (negsuc 0)
-unfolding strength dulled scaled mul div ofInt round size span climb units odd trailingZeros
+pub m7 : sigmaOf (On (fin false 1 (negsuc 0))) 32768 4 (fin false 1 (pos 1) ∷ []) 0 ≡ fin false 1 (negsuc 0)
+unfolding sigmaOf mul div ofInt round size span climb units odd trailingZeros
 m7 = refl
 
 -- M8: hf_mul 16,777,217 becomes 16,777,216

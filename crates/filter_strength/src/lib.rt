@@ -3,7 +3,7 @@ ghost use mathlib.Core.Path.{_≡_};
 ghost use mathlib.Core.Bool.{Bool};
 ghost use lib.IntN.{pos};
 ghost use lib.Ieee.{Float, binary32, mul, ofInt};
-ghost use Rattle.filter_strength.specs.Strength.{scaled, dulled};
+ghost use Rattle.filter_strength.specs.Strength.{scaled, shared, scaledFilter, sharedFilter};
 ghost use Rattle.filter_strength.specs.Limits.{inLimits, filterFits, lookupsFit, paramsFit};
 
 // The filter is off, or carries its multiplier.
@@ -21,18 +21,40 @@ fn nearest(n: u32) -> f32
 }
 
 // multiplier × 65536 / scale
-pub fn scaled_multiplier(multiplier: f32, scale: u32) -> f32
+fn scaled_multiplier(multiplier: f32, scale: u32) -> f32
     ensures { λ r. ⌜ r ≡ scaled multiplier scale ⌝ }
 {
     let m = multiplier * 65536.0;
     m / nearest(scale)
 }
 
-// A varblock's share: the scaled multiplier / hf_mul.
-pub fn varblock_strength(scaled_multiplier: f32, hf_mul: u32) -> f32
-    ensures { λ r. ⌜ r ≡ dulled «scaled_multiplier» «hf_mul» ⌝ }
+// A scaled multiplier / hf_mul.
+fn varblock_share(multiplier: f32, hf_mul: u32) -> f32
+    ensures { λ r. ⌜ r ≡ shared multiplier «hf_mul» ⌝ }
 {
-    scaled_multiplier / nearest(hf_mul)
+    multiplier / nearest(hf_mul)
+}
+
+impl Filter {
+    // With its multiplier × 65536 / scale.
+    pub fn scaled_by(self, scale: u32) -> Filter
+        ensures { λ r. ⌜ r ≡ scaledFilter self scale ⌝ }
+    {
+        match self {
+            Filter::Off => Filter::Off,
+            Filter::On(multiplier) => Filter::On(scaled_multiplier(multiplier, scale)),
+        }
+    }
+
+    // With its multiplier / hf_mul.
+    pub fn shared_by(self, hf_mul: u32) -> Filter
+        ensures { λ r. ⌜ r ≡ sharedFilter self «hf_mul» ⌝ }
+    {
+        match self {
+            Filter::Off => Filter::Off,
+            Filter::On(multiplier) => Filter::On(varblock_share(multiplier, hf_mul)),
+        }
+    }
 }
 
 // From −65,504 to 65,504.

@@ -1,0 +1,7 @@
+-- the layout call: columns, the scan of a rectangle, the reading, what it answers and leaves
+pub mod Columns
+pub mod Scan
+pub mod Reading
+pub mod Call
+pub mod Loops
+pub mod Steps
