@@ -10,6 +10,7 @@ use Rattle.refusal.specs.Said.{said}
 use Rattle.refusal.specs.Said as refusals
 use Rattle.lf_group.specs.Blocks.{sizeFits, modesFit, wideIn, highIn}
 use Rattle.filter_strength.specs.declared.Filter.{Filter}
+use Rattle.filter_strength.specs.Strength.{scaledFilter}
 use Rattle.filter_strength.specs.Limits.{paramsFit}
 use Rattle.hf_metadata.specs.declared.LayoutAnswer.{LayoutAnswer}
 use Rattle.hf_metadata.specs.declared.LayoutAnswer.the-variants.{Accepted, Refused}
@@ -56,9 +57,8 @@ jobOf i =
       types = i .types;
       muls = i .muls;
       sharpness = i .sharpness;
-      filter = i .filter;
+      filter = scaledFilter (i .filter) (i .scale);
       lookups = i .lookups;
-      scale = i .scale;
     }
 
 -- 11: scale, modes, multiplier and look-up numbers

@@ -5,3 +5,5 @@ pub mod Reading
 pub mod Call
 pub mod Loops
 pub mod Steps
+pub mod Judged
+pub mod Places

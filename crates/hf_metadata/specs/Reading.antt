@@ -11,11 +11,12 @@ use Rattle.dct_select.specs.Transforms.{COUNT, wide, high}
 use Rattle.layout.specs.Walk.{walk}
 use Rattle.layout.specs.Grid.{at}
 use Rattle.filter_strength.specs.declared.Filter.{Filter}
-use Rattle.filter_strength.specs.Strength.{zero32, scaledFilter, sharedFilter}
+use Rattle.filter_strength.specs.Strength.{zero32, sharedFilter}
 use Rattle.hf_metadata.specs.Columns.{lowBits, hfMulOf, positive}
 use Rattle.hf_metadata.specs.Scan.{Scan, Taking, Left, scan}
 
--- what is read: a grid of bw x bh blocks, columns, a sharpness number per block, the filter
+-- what is read: a grid of bw x bh blocks, columns, a sharpness number per block, the filter with its multiplier × 65536 / scale,
+-- and the look-up numbers
 pub record Job : Type 0 where
   pub bw : ℕ
   pub bh : ℕ
@@ -24,7 +25,6 @@ pub record Job : Type 0 where
   pub sharpness : List ℕ
   pub filter : Filter
   pub lookups : List Float
-  pub scale : ℕ
 
 -- columns used so far, and what they have placed: kinds, hf_mul, sigma
 pub record Placed : Type 0 where
@@ -41,33 +41,33 @@ pub data Reading : Type 0 where
 abbrev pub refuseIf : Bool → ℕ → ℕ → ℕ → Reading → Reading
 refuseIf test n x y next = cond test (Stopped (refusals.at n x y)) next
 
-module _ (J : Job) where
-  -- a varblock of type t and hf_mul h at the free block (x, y), after the scan of its rectangle: its corner is 2 + t
+module _ (bw bh : ℕ) (filter : Filter) (lookups : List Float) (sharpness : List ℕ) where
+  -- after the scan of the rectangle: the corner gets its kind and hf_mul
   abbrev pub placed : ℕ → ℕ → ℕ → ℕ → Placed → Scan → Reading
-  placed t h x y p (Left n cx cy) = Stopped (refusals.at n x y)
-  placed t h x y p (Taking kinds sigma) =
+  placed kind h x y p (Left n cx cy) = Stopped (refusals.at n x y)
+  placed kind h x y p (Taking kinds sigma) =
       Going (record {
         used = p .used + 1;
-        kinds = set kinds (y * J .bw + x) (2 + t);
-        muls = set (p .muls) (y * J .bw + x) h;
+        kinds = set kinds (y * bw + x) kind;
+        muls = set (p .muls) (y * bw + x) h;
         sigma = sigma;
       })
 
-  -- the filter with a varblock's share of its multiplier
-  abbrev pub shareOf : ℕ → Filter
-  shareOf h = sharedFilter (scaledFilter (J .filter) (J .scale)) h
+  -- a varblock of w x n blocks at the free block (x, y)
+  unfoldable pub place : ℕ → ℕ → ℕ → ℕ → ℕ → ℕ → Placed → Reading
+  place kind h w n x y p = placed kind h x y p (scan bw bh (sharedFilter filter h) lookups sharpness x y w n (Taking (p .kinds) (p .sigma)))
 
-  unfoldable pub place : ℕ → ℕ → ℕ → ℕ → Placed → Reading
-  place t h x y p =
-      placed t h x y p
-      (scan (J .bw) (J .bh) (shareOf h) (J .lookups) (J .sharpness) x y (wide t) (high t) (Taking (p .kinds) (p .sigma)))
+module _ (J : Job) where
+  abbrev pub placeIn : ℕ → ℕ → ℕ → ℕ → ℕ → ℕ → Placed → Reading
+  placeIn = place (J .bw) (J .bh) (J .filter) (J .lookups) (J .sharpness)
 
   -- a column of type t and hf_mul h at the free block (x, y), checks in turn
   unfoldable pub judge : ℕ → ℕ → ℕ → ℕ → Placed → Reading
   judge t h x y p =
       refuseIf (leb COUNT t) 5 x y
       (refuseIf (not (positive h)) 6 x y
-      (refuseIf (ltb 32 (x % 32 + wide t)) 7 x y (refuseIf (ltb 32 (y % 32 + high t)) 7 x y (place t h x y p))))
+      (refuseIf (ltb 32 (x % 32 + wide t)) 7 x y
+      (refuseIf (ltb 32 (y % 32 + high t)) 7 x y (placeIn (2 + t) h (wide t) (high t) x y p))))
 
   -- the free block (x, y) takes the next column
   unfoldable pub column : ℕ → ℕ → Placed → Reading

@@ -1,6 +1,7 @@
 // The layout of an LF group and its filter strengths (`hf_metadata.rs`).
 use refusal::Refusal;
 
+mod column;
 mod rectangle;
 
 // Accepted with the number of columns used, or refused.
