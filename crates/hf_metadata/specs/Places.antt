@@ -10,6 +10,7 @@ use lib.Ieee.{Float}
 use borrow.Author.Tests.{le-leb, lt-leb, eq-eqb, ne-eqb}
 use Rattle.refusal.specs.Said.{said}
 use Rattle.refusal.specs.Said as refusals
+use Rattle.refusal.specs.declared.Refusal.{Refusal}
 use Rattle.refusal.specs.declared.Refusal.the-variants.{UnknownTransform, HfMul, Border}
 use Rattle.dct_select.specs.Transforms.{COUNT, wide, high}
 use Rattle.layout.specs.Grid.{at}
@@ -83,3 +84,7 @@ module _ (J : Job) (x y : ℕ) (p : Placed) where
     visit-judged j l e =
         rw (eq-eqb (at (p .kinds) (J .bw) x y) 0 is-free, lt-leb (length (J .types)) (p .used) l)
         (ap byJudged e ∙ judge-by (lowBits (getD (J .types) (p .used) 0)) (hfMulOf (getD (J .muls) (p .used) 0)))
+
+-- a reading that was stopped stays so
+pub stop-stays : (J : Job) (s : Step) (r : Refusal) (k m : List ℕ) (g : List Float) → s ≡ Stops r → (a b : ℕ) → visit J a b (stepped s k m g) ≡ stepped s k m g
+stop-stays J s r k m g e a b = rw e

@@ -2,6 +2,7 @@
 use refusal::Refusal;
 
 mod column;
+mod reading;
 mod rectangle;
 
 // Accepted with the number of columns used, or refused.
