@@ -32,6 +32,10 @@ pub record Outcome : Type 0 where
   pub hfMul : List ℕ
   pub sigma : List Float
 
+-- what a call leaves
+abbrev pub leaves : LayoutAnswer → List ℕ → List ℕ → List Float → Outcome
+leaves r kinds hfMul sigma = record { answer = answered r; kinds = kinds; hfMul = hfMul; sigma = sigma }
+
 -- 4 to 10 leave layout and sigma all zero
 abbrev pub outcomeOf : (J : Job) → Reading → Outcome
 outcomeOf J (Going p) = record { answer = accepted (p .used); kinds = p .kinds; hfMul = p .muls; sigma = p .sigma }
@@ -49,6 +53,20 @@ pub record Inputs : Type 0 where
   pub lookups : List Float
   pub scale : ℕ
 
+abbrev pub inputs : ℕ → ℕ → List ℕ → List ℕ → List ℕ → List ℕ → Filter → List Float → ℕ → Inputs
+inputs width height modes types muls sharpness filter lookups scale =
+    record {
+      width = width;
+      height = height;
+      modes = modes;
+      types = types;
+      muls = muls;
+      sharpness = sharpness;
+      filter = filter;
+      lookups = lookups;
+      scale = scale;
+    }
+
 abbrev pub jobOf : Inputs → Job
 jobOf i =
     record {
@@ -65,20 +83,21 @@ jobOf i =
 abbrev pub parametersFit : Inputs → Bool
 parametersFit i = modesFit (i .modes) && paramsFit (i .filter) (i .lookups) (i .scale)
 
+-- 1: a mul for each type; a sharpness number, a kind, an hf_mul and a sigma for each of n blocks
+abbrev pub countsFit : ℕ → ℕ → ℕ → ℕ → ℕ → ℕ → ℕ → Bool
+countsFit types muls sharpness kinds hfMul sigma n = eqb muls types && eqb sharpness n && eqb kinds n && eqb hfMul n && eqb sigma n
+
 module _ (i : Inputs) (kinds hfMul : List ℕ) (sigma : List Float) where
-  -- 1: one mul for each type; sharpness, kinds, hf_mul and sigma one for each block
   abbrev pub lengthsFit : Bool
   lengthsFit =
-      eqb (length (i .muls)) (length (i .types))
-      && eqb (length (i .sharpness)) (jobOf i .bh * jobOf i .bw)
-      && eqb (length kinds) (jobOf i .bh * jobOf i .bw)
-      && eqb (length hfMul) (jobOf i .bh * jobOf i .bw)
-      && eqb (length sigma) (jobOf i .bh * jobOf i .bw)
+      countsFit (length (i .types)) (length (i .muls)) (length (i .sharpness)) (length kinds) (length hfMul) (length sigma)
+      (highIn (i .height) (i .modes) * wideIn (i .width) (i .modes))
 
   -- before work: nothing is written
   abbrev pub refuseWith : ℕ → Outcome
   refuseWith n = record { answer = refused (refusals.at n 0 0); kinds = kinds; hfMul = hfMul; sigma = sigma }
 
+  -- what the layout call answers and leaves in the three lent buffers
   unfoldable pub layoutOf : Outcome
   layoutOf =
       cond (not (sizeFits (i .width) (i .height))) (refuseWith 2)

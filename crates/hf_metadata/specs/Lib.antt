@@ -7,3 +7,4 @@ pub mod Loops
 pub mod Steps
 pub mod Judged
 pub mod Places
+pub mod CallSteps

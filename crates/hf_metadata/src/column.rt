@@ -1,10 +1,10 @@
 // The columns of a layout, placed one after the other.
-use dct_select::{Looked, TransformType};
+use crate::rectangle::Fault;
+use crate::rectangle::scan;
+use dct_select::Looked;
+use dct_select::TransformType;
 use filter_strength::Filter;
 use refusal::Refusal;
-
-use crate::rectangle::{Fault, scan};
-
 ghost use mathlib.Core.Path.{_≡_};
 ghost use Prim.Native.Nat.{_+_, _*_, _≤_, _<_};
 ghost use lib.ListN.{length};
@@ -69,12 +69,37 @@ fn judge(transform: u32, mul: u32, x: usize, y: usize) -> Judged
 }
 
 // A varblock at the free block (x, y). A refusal hands back the free block, not the cell.
-fn place(kinds: &mut [u8], hf_mul: &mut [u32], sigma: &mut [f32], sharpness: &[u32], lookups: &[f32; 8], filter: Filter, bw: usize, bh: usize, v: Varblock, used: usize, x: usize, y: usize) -> Step
+fn place(
+    kinds: &mut [u8],
+    hf_mul: &mut [u32],
+    sigma: &mut [f32],
+    sharpness: &[u32],
+    lookups: &[f32; 8],
+    filter: Filter,
+    bw: usize,
+    bh: usize,
+    v: Varblock,
+    used: usize,
+    x: usize,
+    y: usize,
+) -> Step
     requires { ⌜ (length (now kinds) ≡ bh * bw) × (length (now «hf_mul») ≡ bh * bw) × (length (now sigma) ≡ bh * bw) × (length (now sharpness) ≡ bh * bw) × (bw ≤ 256) × (bh ≤ 256) × (v .wide ≤ 32) × (v .high ≤ 32) × (x < bw) × (y < bh) × (used < 18446744073709551615) ⌝ }
     ensures { λ r. ⌜ stepped r (now (kinds .exit)) (now («hf_mul» .exit)) (now (sigma .exit)) ≡ placeOf bw bh filter (now (lookups .entry)) (now (sharpness .entry)) (v .kind) (v .«hf_mul») (v .wide) (v .high) x y (stateOf used (now (kinds .entry)) (now («hf_mul» .entry)) (now (sigma .entry))) ⌝ }
 {
     let share = filter.shared_by(v.hf_mul);
-    let fault = scan(kinds, sigma, sharpness, lookups, share, bw, bh, x, y, v.wide, v.high);
+    let fault = scan(
+        kinds,
+        sigma,
+        sharpness,
+        lookups,
+        share,
+        bw,
+        bh,
+        x,
+        y,
+        v.wide,
+        v.high,
+    );
     match fault {
         Fault::Outside(_, _) => Step::Stopped(Refusal::Outside(x, y)),
         Fault::Overlap(_, _) => Step::Stopped(Refusal::Overlap(x, y)),
@@ -89,7 +114,21 @@ fn place(kinds: &mut [u8], hf_mul: &mut [u32], sigma: &mut [f32], sharpness: &[u
 }
 
 // The block (x, y): passed over where it is taken, else it takes the next column.
-pub(crate) fn visit(kinds: &mut [u8], hf_mul: &mut [u32], sigma: &mut [f32], types: &[u32], muls: &[u32], sharpness: &[u32], lookups: &[f32; 8], filter: Filter, bw: usize, bh: usize, used: usize, x: usize, y: usize) -> Step
+pub(crate) fn visit(
+    kinds: &mut [u8],
+    hf_mul: &mut [u32],
+    sigma: &mut [f32],
+    types: &[u32],
+    muls: &[u32],
+    sharpness: &[u32],
+    lookups: &[f32; 8],
+    filter: Filter,
+    bw: usize,
+    bh: usize,
+    used: usize,
+    x: usize,
+    y: usize,
+) -> Step
     requires { ⌜ (length (now kinds) ≡ bh * bw) × (length (now «hf_mul») ≡ bh * bw) × (length (now sigma) ≡ bh * bw) × (length (now sharpness) ≡ bh * bw) × (length (now muls) ≡ length (now types)) × (bw ≤ 256) × (bh ≤ 256) × (x < bw) × (y < bh) ⌝ }
     ensures { λ r. ⌜ stepped r (now (kinds .exit)) (now («hf_mul» .exit)) (now (sigma .exit)) ≡ visitOf (jobWith bw bh (now (types .entry)) (now (muls .entry)) (now (sharpness .entry)) filter (now (lookups .entry))) x y (Going (stateOf used (now (kinds .entry)) (now («hf_mul» .entry)) (now (sigma .entry)))) ⌝ }
 {
@@ -103,6 +142,19 @@ pub(crate) fn visit(kinds: &mut [u8], hf_mul: &mut [u32], sigma: &mut [f32], typ
     let judged = judge(types[used], muls[used], x, y);
     match judged {
         Judged::Refused(why) => Step::Stopped(why),
-        Judged::Asks(v) => place(kinds, hf_mul, sigma, sharpness, lookups, filter, bw, bh, v, used, x, y),
+        Judged::Asks(v) => place(
+            kinds,
+            hf_mul,
+            sigma,
+            sharpness,
+            lookups,
+            filter,
+            bw,
+            bh,
+            v,
+            used,
+            x,
+            y,
+        ),
     }
 }

@@ -1,6 +1,5 @@
 // A varblock's rectangle, taken cell by cell.
 use filter_strength::Filter;
-
 ghost use mathlib.Core.Path.{_≡_};
 ghost use Prim.Native.Nat.{_+_, _*_, _≤_};
 ghost use lib.ListN.{length};
@@ -28,7 +27,17 @@ impl Fault {
     }
 }
 
-fn take_cell(kinds: &mut [u8], sigma: &mut [f32], sharpness: &[u32], lookups: &[f32; 8], share: Filter, bw: usize, bh: usize, cx: usize, cy: usize) -> Fault
+fn take_cell(
+    kinds: &mut [u8],
+    sigma: &mut [f32],
+    sharpness: &[u32],
+    lookups: &[f32; 8],
+    share: Filter,
+    bw: usize,
+    bh: usize,
+    cx: usize,
+    cy: usize,
+) -> Fault
     requires { ⌜ (length (now kinds) ≡ bh * bw) × (length (now sigma) ≡ bh * bw) × (length (now sharpness) ≡ bh * bw) × (bw ≤ 256) × (bh ≤ 256) ⌝ }
     ensures { λ r. ⌜ scanned r (now (kinds .exit)) (now (sigma .exit)) ≡ takeCell bw bh share (now (lookups .entry)) (now (sharpness .entry)) cx cy (Taking (now (kinds .entry)) (now (sigma .entry))) ⌝ }
 {
@@ -60,7 +69,19 @@ fn take_cell(kinds: &mut [u8], sigma: &mut [f32], sharpness: &[u32], lookups: &[
 }
 
 // Row by row, left at the first cell that refuses.
-pub(crate) fn scan(kinds: &mut [u8], sigma: &mut [f32], sharpness: &[u32], lookups: &[f32; 8], share: Filter, bw: usize, bh: usize, x: usize, y: usize, w: usize, h: usize) -> Fault
+pub(crate) fn scan(
+    kinds: &mut [u8],
+    sigma: &mut [f32],
+    sharpness: &[u32],
+    lookups: &[f32; 8],
+    share: Filter,
+    bw: usize,
+    bh: usize,
+    x: usize,
+    y: usize,
+    w: usize,
+    h: usize,
+) -> Fault
     requires { ⌜ (length (now kinds) ≡ bh * bw) × (length (now sigma) ≡ bh * bw) × (length (now sharpness) ≡ bh * bw) × (bw ≤ 256) × (bh ≤ 256) × (x ≤ 256) × (y ≤ 256) × (w ≤ 32) × (h ≤ 32) ⌝ }
     ensures { λ r. ⌜ scanned r (now (kinds .exit)) (now (sigma .exit)) ≡ scanOf bw bh share (now (lookups .entry)) (now (sharpness .entry)) x y w h (Taking (now (kinds .entry)) (now (sigma .entry))) ⌝ }
 {
@@ -69,7 +90,17 @@ pub(crate) fn scan(kinds: &mut [u8], sigma: &mut [f32], sharpness: &[u32], looku
     'rows: while dy < h {
         let mut dx = 0;
         while dx < w {
-            let f = take_cell(kinds, sigma, sharpness, lookups, share, bw, bh, x + dx, y + dy);
+            let f = take_cell(
+                kinds,
+                sigma,
+                sharpness,
+                lookups,
+                share,
+                bw,
+                bh,
+                x + dx,
+                y + dy,
+            );
             if f.refuses() {
                 fault = f;
                 break 'rows;

@@ -1,44 +1,29 @@
-use Rattle.hf_metadata.specs.Judged.{known-is, unknown-is, Sized, sized, judged-unknown, judged-zero, judged-negative, judged-wide, judged-high, judged-asks, varblockOf}
+use Rattle.hf_metadata.specs.Judged.{known-is, unknown-is, sized, judged-unknown, judged-zero, judged-negative, judged-wide, judged-high, judged-asks}
 use Rattle.hf_metadata.specs.Columns.{lowBits, hfMulOf}
-use Prim.Native.Nat.{_%_}
 use borrow.Author.Needs.{needs}
 use native.Mathlib.Omega.{arith}
-use mathlib.Core.Path.{_≡_, _∙_, ap, sym}
-use mathlib.Core.List.{_++_}
-use Prim.Native.Nat.{ℕ, _≤_, _<_, _-_, _+_, _*_}
-use lib.ListN.{length, getD, take, drop, set, length-set}
+use mathlib.Core.Path.{_∙_, sym}
 use Rattle.hf_metadata.proofs.column.judge.Statement.{statement}
 use Rattle.hf_metadata.proofs.column.judge.Tie as tie
-use Rattle.hf_metadata.proofs.column.judge.Reads as reads
-use Rattle.hf_metadata.proofs.column.judge.Lts as lts
-use Rattle.dct_select.proofs.TransformType.dct_select_size.Reads as dct-select-size-reads
-use Rattle.dct_select.proofs.TransformType.from_number.Reads as from-number-reads
-use Rattle.std.proofs.num.wrapping_add_u32.Reads as wrapping-add-u32-reads
 
--- src/column.rt:42:9
 from-number-requires : tie.Need-from-number-requires
 from-number-requires c κs = search needs
 
--- src/column.rt:43:23
 enum-known-looked : tie.Need-enum-known-looked
 enum-known-looked c = search needs
 
--- src/column.rt:44:32
 enum-told : tie.Need-enum-told
 enum-told c = search needs
 
--- src/column.rt:44:9
 returns : tie.Need-returns
 returns c =
     let a = c .before .before .before .args in
     let e = sym (c .before .before .from-number .ensures) ∙ c .enum-told .given .1 in
     judged-unknown (lowBits (a .transform)) (hfMulOf (a .mul)) (a .x) (a .y) (unknown-is (lowBits (a .transform)) _ e)
 
--- src/column.rt:46:9
 wrapping-add-u32-requires : tie.Need-wrapping-add-u32-requires
 wrapping-add-u32-requires c κs = search needs
 
--- src/column.rt:48:9
 returns-2 : tie.Need-returns-2
 returns-2 c =
     let a = c .before .before .before .before .before .before .args in
@@ -46,7 +31,6 @@ returns-2 c =
     let w = c .before .wrapping-add-u32 .ensures in
     judged-zero (lowBits (a .transform)) (hfMulOf (a .mul)) (a .x) (a .y) (known-is (lowBits (a .transform)) _ e .0) (omega arith)
 
--- src/column.rt:51:9
 returns-3 : tie.Need-returns-3
 returns-3 c =
     let a = c .before .before .before .before .before .before .before .args in
@@ -54,11 +38,9 @@ returns-3 c =
     let w = c .before .before .wrapping-add-u32 .ensures in
     judged-negative (lowBits (a .transform)) (hfMulOf (a .mul)) (a .x) (a .y) (known-is (lowBits (a .transform)) _ e .0) (omega arith) (omega arith)
 
--- src/column.rt:53:9
 dct-select-size-requires : tie.Need-dct-select-size-requires
 dct-select-size-requires c κs = search needs
 
--- src/column.rt:56:13
 add-if3 : tie.Need-add-if3
 add-if3 c =
     let a = c .before .before .before .before .before .before .before .before .args in
@@ -66,7 +48,6 @@ add-if3 c =
     let s = sized (lowBits (a .transform)) _ (c .dct-select-size .result) e (c .dct-select-size .ensures) in
     omega arith
 
--- src/column.rt:57:9
 returns-4 : tie.Need-returns-4
 returns-4 c =
     let a = c .before .before .before .before .before .before .before .before .before .args in
@@ -75,7 +56,6 @@ returns-4 c =
     let w = c .before .before .before .before .wrapping-add-u32 .ensures in
     judged-wide (lowBits (a .transform)) (hfMulOf (a .mul)) (a .x) (a .y) (s .below) (omega arith) (omega arith) (omega arith)
 
--- src/column.rt:59:13
 add-if4 : tie.Need-add-if4
 add-if4 c =
     let a = c .before .before .before .before .before .before .before .before .before .args in
@@ -83,7 +63,6 @@ add-if4 c =
     let s = sized (lowBits (a .transform)) _ (c .before .dct-select-size .result) e (c .before .dct-select-size .ensures) in
     omega arith
 
--- src/column.rt:60:9
 returns-5 : tie.Need-returns-5
 returns-5 c =
     let a = c .before .before .before .before .before .before .before .before .before .before .args in
@@ -92,11 +71,9 @@ returns-5 c =
     let w = c .before .before .before .before .before .wrapping-add-u32 .ensures in
     judged-high (lowBits (a .transform)) (hfMulOf (a .mul)) (a .x) (a .y) (s .below) (omega arith) (omega arith) (omega arith) (omega arith)
 
--- src/column.rt:62:17
 add-kind : tie.Need-add-kind
 add-kind c = search needs
 
--- src/column.rt:62:16
 cast-kind : tie.Need-cast-kind
 cast-kind c =
     let a = c .before .before .before .before .before .before .before .before .before .before .args in
@@ -104,7 +81,6 @@ cast-kind c =
     let s = sized (lowBits (a .transform)) _ (c .before .before .dct-select-size .result) e (c .before .before .dct-select-size .ensures) in
     omega arith
 
--- src/column.rt:37:1
 returns-6 : tie.Need-returns-6
 returns-6 c =
     let a = c .before .before .before .before .before .before .before .before .before .before .args in

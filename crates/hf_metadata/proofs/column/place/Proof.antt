@@ -1,85 +1,62 @@
-use Rattle.hf_metadata.specs.Places.{stateOf, stepped, place-by}
+use Rattle.hf_metadata.specs.Places.{stateOf, place-by}
 use lib.Arith.{digits-lt}
 use borrow.Author.Needs.{needs}
 use native.Mathlib.Omega.{arith}
-use mathlib.Core.Path.{_≡_, _∙_, ap, sym}
-use mathlib.Core.List.{_++_}
-use Prim.Native.Nat.{ℕ, _≤_, _<_, _-_, _+_, _*_}
-use lib.ListN.{length, getD, take, drop, set, length-set}
 use Rattle.hf_metadata.proofs.column.place.Statement.{statement}
 use Rattle.hf_metadata.proofs.column.place.Tie as tie
-use Rattle.hf_metadata.proofs.column.place.Reads as reads
-use Rattle.hf_metadata.proofs.column.place.Lts as lts
-use Rattle.filter_strength.proofs.Filter.shared_by.Reads as shared-by-reads
-use Rattle.hf_metadata.proofs.rectangle.scan.Reads as scan-reads
 
--- src/column.rt:76:9
 shared-by-requires : tie.Need-shared-by-requires
 shared-by-requires c κs = search needs
 
--- src/column.rt:77:9
 scan-requires : tie.Need-scan-requires
 scan-requires c κs = search needs
 
--- src/column.rt:79:47
 enum-told : tie.Need-enum-told
 enum-told c = search needs
 
--- src/column.rt:80:47
 enum-told-2 : tie.Need-enum-told-2
 enum-told-2 c = search needs
 
--- src/column.rt:81:49
 enum-told-3 : tie.Need-enum-told-3
 enum-told-3 c = search needs
 
--- src/column.rt:83:21
 enum-told-4 : tie.Need-enum-told-4
 enum-told-4 c = search needs
 
--- src/column.rt:83:21
 mul-i : tie.Need-mul-i
 mul-i c =
     let a = c .before .before .before .before .before .before .before .before .before .before .before .before .before .before .args in
     omega (arith, digits-lt {q = a .y} {m = a .bh} {r = a .x} {c = a .bw} (omega arith) (omega arith))
 
--- src/column.rt:83:21
 add-i : tie.Need-add-i
 add-i c =
     let a = c .before .before .before .before .before .before .before .before .before .before .before .before .before .before .args in
     omega (arith, digits-lt {q = a .y} {m = a .bh} {r = a .x} {c = a .bw} (omega arith) (omega arith))
 
--- src/column.rt:84:13
 slice-write-kinds : tie.Need-slice-write-kinds
 slice-write-kinds c =
     let a = c .before .before .before .before .before .before .before .before .before .before .before .before .before .before .args in
     omega (arith, digits-lt {q = a .y} {m = a .bh} {r = a .x} {c = a .bw} (omega arith) (omega arith))
 
--- src/column.rt:85:13
 mul-hf-mul : tie.Need-mul-hf-mul
 mul-hf-mul c =
     let a = c .before .before .before .before .before .before .before .before .before .before .before .before .before .before .args in
     omega (arith, digits-lt {q = a .y} {m = a .bh} {r = a .x} {c = a .bw} (omega arith) (omega arith))
 
--- src/column.rt:85:13
 slice-write-hf-mul : tie.Need-slice-write-hf-mul
 slice-write-hf-mul c =
     let a = c .before .before .before .before .before .before .before .before .before .before .before .before .before .before .args in
     omega (arith, digits-lt {q = a .y} {m = a .bh} {r = a .x} {c = a .bw} (omega arith) (omega arith))
 
--- src/column.rt:86:25
 add-t24 : tie.Need-add-t24
 add-t24 c = search needs
 
--- src/column.rt:72:1
 same-length : tie.Need-same-length
 same-length c = search needs
 
--- src/column.rt:72:1
 same-length-2 : tie.Need-same-length-2
 same-length-2 c = search needs
 
--- src/column.rt:72:1
 returns : tie.Need-returns
 returns c =
     let a = c .before .before .before .before .before .before .before .before .before .before .before .before .before .before .args in
@@ -88,15 +65,12 @@ returns c =
     place-by (a .bw) (a .bh) (a .filter) (a .lookups .now) (a .sharpness .now) (a .v .kind) (a .v .«hf_mul») (a .v .wide) (a .v .high) (a .x) (a .y) (stateOf (a .used) (a .kinds .now) (a .hf-mul .now) (a .sigma .now))
     (v .result) _ (q .result) (v .last .0) (v .last .1 .0) (q .ensures) (v .ensures) (c .enum-told .given .1)
 
--- src/column.rt:72:1
 same-length-3 : tie.Need-same-length-3
 same-length-3 c = search needs
 
--- src/column.rt:72:1
 same-length-4 : tie.Need-same-length-4
 same-length-4 c = search needs
 
--- src/column.rt:72:1
 returns-2 : tie.Need-returns-2
 returns-2 c =
     let a = c .before .before .before .before .before .before .before .before .before .before .before .before .before .before .args in
@@ -105,15 +79,12 @@ returns-2 c =
     place-by (a .bw) (a .bh) (a .filter) (a .lookups .now) (a .sharpness .now) (a .v .kind) (a .v .«hf_mul») (a .v .wide) (a .v .high) (a .x) (a .y) (stateOf (a .used) (a .kinds .now) (a .hf-mul .now) (a .sigma .now))
     (v .result) _ (q .result) (v .last .0) (v .last .1 .0) (q .ensures) (v .ensures) (c .enum-told2 .given .1)
 
--- src/column.rt:72:1
 same-length-5 : tie.Need-same-length-5
 same-length-5 c = search needs
 
--- src/column.rt:72:1
 same-length-6 : tie.Need-same-length-6
 same-length-6 c = search needs
 
--- src/column.rt:72:1
 returns-3 : tie.Need-returns-3
 returns-3 c =
     let a = c .before .before .before .before .before .before .before .before .before .before .before .before .before .before .args in
@@ -122,19 +93,15 @@ returns-3 c =
     place-by (a .bw) (a .bh) (a .filter) (a .lookups .now) (a .sharpness .now) (a .v .kind) (a .v .«hf_mul») (a .v .wide) (a .v .high) (a .x) (a .y) (stateOf (a .used) (a .kinds .now) (a .hf-mul .now) (a .sigma .now))
     (v .result) _ (q .result) (v .last .0) (v .last .1 .0) (q .ensures) (v .ensures) (c .enum-told3 .given .1)
 
--- src/column.rt:72:1
 same-length-7 : tie.Need-same-length-7
 same-length-7 c = search needs
 
--- src/column.rt:72:1
 same-length-8 : tie.Need-same-length-8
 same-length-8 c = search needs
 
--- src/column.rt:72:1
 same-length-9 : tie.Need-same-length-9
 same-length-9 c = search needs
 
--- src/column.rt:72:1
 returns-4 : tie.Need-returns-4
 returns-4 c =
     let a = c .before .before .before .before .before .before .before .before .before .before .before .before .before .before .args in

@@ -1,105 +1,81 @@
-use Rattle.hf_metadata.specs.Places.{stateOf, jobWith, stepped, byJudged, visit-taken, visit-ends, visit-judged}
-use Rattle.hf_metadata.specs.Judged.{judgedOf, asks-most}
+use Rattle.hf_metadata.specs.Places.{stateOf, jobWith, byJudged, visit-taken, visit-ends, visit-judged}
+use Rattle.hf_metadata.specs.Judged.{asks-most}
 use Rattle.hf_metadata.specs.Columns.{lowBits, hfMulOf}
 use lib.ListN.{getD}
 use lib.Arith.{digits-lt}
 use borrow.Author.Needs.{needs}
 use native.Mathlib.Omega.{arith}
-use mathlib.Core.Path.{_≡_, _∙_, ap, sym}
-use mathlib.Core.List.{_++_}
-use Prim.Native.Nat.{ℕ, _≤_, _<_, _-_, _+_, _*_}
-use lib.ListN.{length, getD, take, drop, set, length-set}
+use mathlib.Core.Path.{_∙_, ap, sym}
+use lib.ListN.{getD}
 use Rattle.hf_metadata.proofs.column.visit.Statement.{statement}
 use Rattle.hf_metadata.proofs.column.visit.Tie as tie
-use Rattle.hf_metadata.proofs.column.visit.Reads as reads
-use Rattle.hf_metadata.proofs.column.visit.Lts as lts
-use Rattle.hf_metadata.proofs.column.judge.Reads as judge-reads
-use Rattle.hf_metadata.proofs.column.place.Reads as place-reads
 
--- src/column.rt:96:13
 mul-i : tie.Need-mul-i
 mul-i c =
     let a = c .before .before .before .before .before .before .args in
     omega (arith, digits-lt {q = a .y} {m = a .bh} {r = a .x} {c = a .bw} (omega arith) (omega arith))
 
--- src/column.rt:96:13
 add-i : tie.Need-add-i
 add-i c =
     let a = c .before .before .before .before .before .before .args in
     omega (arith, digits-lt {q = a .y} {m = a .bh} {r = a .x} {c = a .bw} (omega arith) (omega arith))
 
--- src/column.rt:97:12
 slice-read-if1 : tie.Need-slice-read-if1
 slice-read-if1 c =
     let a = c .before .before .before .before .before .before .before .args in
     omega (arith, digits-lt {q = a .y} {m = a .bh} {r = a .x} {c = a .bw} (omega arith) (omega arith))
 
--- src/column.rt:98:9
 returns : tie.Need-returns
 returns c =
     let a = c .before .before .before .before .before .before .before .before .args in
     visit-taken (jobWith (a .bw) (a .bh) (a .types .now) (a .muls .now) (a .sharpness .now) (a .filter) (a .lookups .now)) (a .x) (a .y) (stateOf (a .used) (a .kinds .now) (a .hf-mul .now) (a .sigma .now)) (omega arith)
 
--- src/column.rt:101:9
 returns-2 : tie.Need-returns-2
 returns-2 c =
     let a = c .before .before .before .before .before .before .before .before .before .args in
     visit-ends (jobWith (a .bw) (a .bh) (a .types .now) (a .muls .now) (a .sharpness .now) (a .filter) (a .lookups .now)) (a .x) (a .y) (stateOf (a .used) (a .kinds .now) (a .hf-mul .now) (a .sigma .now)) (omega arith) (omega arith)
 
--- src/column.rt:103:24
 mul-judge : tie.Need-mul-judge
 mul-judge c = search needs
 
--- src/column.rt:103:24
 shared-slice-read-judge : tie.Need-shared-slice-read-judge
 shared-slice-read-judge c = search needs
 
--- src/column.rt:103:37
 mul-judge-2 : tie.Need-mul-judge-2
 mul-judge-2 c = search needs
 
--- src/column.rt:103:37
 shared-slice-read-judge-2 : tie.Need-shared-slice-read-judge-2
 shared-slice-read-judge-2 c = search needs
 
--- src/column.rt:103:9
 judge-requires : tie.Need-judge-requires
 judge-requires c κs = search needs
 
--- src/column.rt:105:25
 enum-known-judged : tie.Need-enum-known-judged
 enum-known-judged c = search needs
 
--- src/column.rt:106:22
 enum-known-judged-2 : tie.Need-enum-known-judged-2
 enum-known-judged-2 c = search needs
 
--- src/column.rt:106:28
 place-requires : tie.Need-place-requires
 place-requires c κs =
     let a = c .before .before .before .before .before .before .before .before .before .before .before .before .before .before .before .before .before .before .args in
     let m = asks-most (lowBits (getD (a .types .now) (a .used) 0)) (hfMulOf (getD (a .muls .now) (a .used) 0)) (a .x) (a .y) _ (sym (c .before .before .before .before .before .before .judge .ensures) ∙ c .before .before .before .before .judged2 .given .1) in
     search needs
 
--- src/column.rt:92:1
 returns-3 : tie.Need-returns-3
 returns-3 c =
     let a = c .before .before .before .before .before .before .before .before .before .before .before .before .before .before .before .args in
     sym (ap (byJudged (jobWith (a .bw) (a .bh) (a .types .now) (a .muls .now) (a .sharpness .now) (a .filter) (a .lookups .now)) (a .x) (a .y) (stateOf (a .used) (a .kinds .now) (a .hf-mul .now) (a .sigma .now))) (c .before .judged .given .1)) ∙ visit-judged (jobWith (a .bw) (a .bh) (a .types .now) (a .muls .now) (a .sharpness .now) (a .filter) (a .lookups .now)) (a .x) (a .y) (stateOf (a .used) (a .kinds .now) (a .hf-mul .now) (a .sigma .now)) (omega arith) (c .before .before .before .judge .result) (omega arith) (c .before .before .before .judge .ensures)
 
--- src/column.rt:92:1
 same-length : tie.Need-same-length
 same-length c = search needs
 
--- src/column.rt:92:1
 same-length-2 : tie.Need-same-length-2
 same-length-2 c = search needs
 
--- src/column.rt:92:1
 same-length-3 : tie.Need-same-length-3
 same-length-3 c = search needs
 
--- src/column.rt:92:1
 returns-4 : tie.Need-returns-4
 returns-4 c =
     let a = c .before .before .before .before .before .before .before .before .before .before .before .before .before .before .before .before .before .before .before .before .before .before .before .before .before .args in

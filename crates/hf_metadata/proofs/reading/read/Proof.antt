@@ -6,14 +6,10 @@ use mathlib.Core.Path.{refl}
 use borrow.Author.Needs.{needs}
 use native.Mathlib.Omega.{arith}
 use mathlib.Core.Path.{_≡_, _∙_, ap, sym}
-use mathlib.Core.List.{_++_}
-use Prim.Native.Nat.{ℕ, _≤_, _<_, _-_, _+_, _*_}
-use lib.ListN.{length, getD, take, drop, set, length-set}
+use Prim.Native.Nat.{_≤_, _-_, _*_}
+use lib.ListN.{length}
 use Rattle.hf_metadata.proofs.reading.read.Statement.{statement}
 use Rattle.hf_metadata.proofs.reading.read.Tie as tie
-use Rattle.hf_metadata.proofs.reading.read.Reads as reads
-use Rattle.hf_metadata.proofs.reading.read.Lts as lts
-use Rattle.hf_metadata.proofs.column.visit.Reads as visit-reads
 
 abbrev Inv-loop2 : tie.InvT-loop2
 Inv-loop2 kinds₀ hf-mul₀ sigma₀ types muls sharpness lookups filter bw bh used₀ y x₀ kinds hf-mul sigma used x = (x ≤ bw) × (length kinds ≡ bh * bw) × (length hf-mul ≡ bh * bw) × (length sigma ≡ bh * bw) × (cellsLeft (visit (jobWith bw bh types muls sharpness filter lookups)) bw bh y 0 (Going (stateOf used₀ kinds₀ hf-mul₀ sigma₀)) ≡ cellsLeft (visit (jobWith bw bh types muls sharpness filter lookups)) bw bh y x (Going (stateOf used kinds hf-mul sigma)))
@@ -27,41 +23,32 @@ Inv-loop kinds₀ hf-mul₀ sigma₀ types muls sharpness lookups filter bw bh u
 abbrev μ-loop : tie.MeasureT-loop
 μ-loop kinds₀ hf-mul₀ sigma₀ types muls sharpness lookups filter bw bh used₀ y₀ kinds hf-mul sigma used y = bh - y
 
--- src/reading.rt:19:5
 loop-holds : tie.Need-loop-holds Inv-loop2 μ-loop2 Inv-loop μ-loop
 loop-holds c = (omega arith, omega arith, omega arith, omega arith, refl)
 
--- src/reading.rt:21:9
 loop2-holds : tie.Need-loop2-holds Inv-loop2 μ-loop2 Inv-loop μ-loop
 loop2-holds c =
     let o = c .before .loop in
     (omega arith, o .inv .1, o .inv .2, o .inv .3, refl)
 
--- src/reading.rt:22:17
 visit-requires : tie.Need-visit-requires Inv-loop2 μ-loop2 Inv-loop μ-loop
 visit-requires c κs = search needs
 
--- src/reading.rt:23:29
 enum-known-step : tie.Need-enum-known-step Inv-loop2 μ-loop2 Inv-loop μ-loop
 enum-known-step c = search needs
 
--- src/reading.rt:24:17
 enum-told : tie.Need-enum-told Inv-loop2 μ-loop2 Inv-loop μ-loop
 enum-told c = search needs
 
--- src/reading.rt:24:17
 same-length : tie.Need-same-length Inv-loop2 μ-loop2 Inv-loop μ-loop
 same-length c = search needs
 
--- src/reading.rt:24:17
 same-length-2 : tie.Need-same-length-2 Inv-loop2 μ-loop2 Inv-loop μ-loop
 same-length-2 c = search needs
 
--- src/reading.rt:24:17
 same-length-3 : tie.Need-same-length-3 Inv-loop2 μ-loop2 Inv-loop μ-loop
 same-length-3 c = search needs
 
--- src/reading.rt:24:17
 returns : tie.Need-returns Inv-loop2 μ-loop2 Inv-loop μ-loop
 returns c =
     let a = c .before .before .before .before .before .before .before .before .before .before .before .before .before .before .before .before .before .before .before .before .before .before .args in
@@ -70,15 +57,12 @@ returns c =
     let v = c .before .before .before .before .before .before .before .before .visit in
     sym (loop-start (visit (jobWith (a .bw) (a .bh) (a .types .now) (a .muls .now) (a .sharpness .now) (a .filter) (a .lookups .now))) (a .bw) (a .bh) (Going (stateOf 0 (a .kinds .now) (a .hf-mul .now) (a .sigma .now))) ∙ o .inv .4 ∙ loop-enter (visit (jobWith (a .bw) (a .bh) (a .types .now) (a .muls .now) (a .sharpness .now) (a .filter) (a .lookups .now))) (a .bw) (a .bh) (o .y) (Going (stateOf (o .used) (o .kinds) (o .hf-mul) (o .sigma))) (omega arith) ∙ l .inv .4 ∙ loop-stop (visit (jobWith (a .bw) (a .bh) (a .types .now) (a .muls .now) (a .sharpness .now) (a .filter) (a .lookups .now))) (a .bw) (a .bh) (o .y) (l .x) (Going (stateOf (l .used) (l .kinds) (l .hf-mul) (l .sigma))) (stepped (v .result) (v .last .0) (v .last .1 .0) (v .last .1 .1 .0)) (stop-stays (jobWith (a .bw) (a .bh) (a .types .now) (a .muls .now) (a .sharpness .now) (a .filter) (a .lookups .now)) (v .result) _ (v .last .0) (v .last .1 .0) (v .last .1 .1 .0) (c .enum-told .given .1)) (omega arith) (v .ensures))
 
--- src/reading.rt:27:13
 add-x : tie.Need-add-x Inv-loop2 μ-loop2 Inv-loop μ-loop
 add-x c = search needs
 
--- src/reading.rt:21:9
 loop2-less : tie.Need-loop2-less Inv-loop2 μ-loop2 Inv-loop μ-loop
 loop2-less c = search needs
 
--- src/reading.rt:21:9
 loop2-again : tie.Need-loop2-again Inv-loop2 μ-loop2 Inv-loop μ-loop
 loop2-again c =
     let a = c .before .before .before .before .before .before .before .before .before .before .before .before .before .before .before .before .before .before .before .before .before .before .before .args in
@@ -88,15 +72,12 @@ loop2-again c =
     let e = sym (ap (λ (z : Step). stepped z (v .last .0) (v .last .1 .0) (v .last .1 .1 .0)) (c .before .step .given .1)) ∙ v .ensures in
     (omega arith, omega arith, omega arith, omega arith, l .inv .4 ∙ loop-next (visit (jobWith (a .bw) (a .bh) (a .types .now) (a .muls .now) (a .sharpness .now) (a .filter) (a .lookups .now))) (a .bw) (a .bh) (o .y) (l .x) (Going (stateOf (l .used) (l .kinds) (l .hf-mul) (l .sigma))) _ (omega arith) e)
 
--- src/reading.rt:29:9
 add-y : tie.Need-add-y Inv-loop2 μ-loop2 Inv-loop μ-loop
 add-y c = search needs
 
--- src/reading.rt:19:5
 loop-less : tie.Need-loop-less Inv-loop2 μ-loop2 Inv-loop μ-loop
 loop-less c = search needs
 
--- src/reading.rt:19:5
 loop-again : tie.Need-loop-again Inv-loop2 μ-loop2 Inv-loop μ-loop
 loop-again c =
     let a = c .before .before .before .before .before .before .before .before .before .before .args in
@@ -104,19 +85,15 @@ loop-again c =
     let l = c .before .loop2 in
     (omega arith, l .inv .1, l .inv .2, l .inv .3, o .inv .4 ∙ loop-enter (visit (jobWith (a .bw) (a .bh) (a .types .now) (a .muls .now) (a .sharpness .now) (a .filter) (a .lookups .now))) (a .bw) (a .bh) (o .y) (Going (stateOf (o .used) (o .kinds) (o .hf-mul) (o .sigma))) (omega arith) ∙ l .inv .4 ∙ loop-leave (visit (jobWith (a .bw) (a .bh) (a .types .now) (a .muls .now) (a .sharpness .now) (a .filter) (a .lookups .now))) (a .bw) (a .bh) (o .y) (l .x) (Going (stateOf (l .used) (l .kinds) (l .hf-mul) (l .sigma))) (omega arith))
 
--- src/reading.rt:13:1
 same-length-4 : tie.Need-same-length-4 Inv-loop2 μ-loop2 Inv-loop μ-loop
 same-length-4 c = search needs
 
--- src/reading.rt:13:1
 same-length-5 : tie.Need-same-length-5 Inv-loop2 μ-loop2 Inv-loop μ-loop
 same-length-5 c = search needs
 
--- src/reading.rt:13:1
 same-length-6 : tie.Need-same-length-6 Inv-loop2 μ-loop2 Inv-loop μ-loop
 same-length-6 c = search needs
 
--- src/reading.rt:13:1
 returns-2 : tie.Need-returns-2 Inv-loop2 μ-loop2 Inv-loop μ-loop
 returns-2 c =
     let a = c .before .before .before .before .before .before .before .before .args in

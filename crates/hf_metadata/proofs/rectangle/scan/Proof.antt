@@ -1,21 +1,16 @@
 use Rattle.hf_metadata.specs.declared.rectangle.Fault.{Fault}
-use Rattle.hf_metadata.specs.Steps.{scanned, refuses, cellAt, scan-start, refused-stays, refused-same, clear-is}
-use Rattle.hf_metadata.specs.Loops.{rowsLeft, cellsLeft, loop-start, loop-enter, loop-next, loop-stop, loop-leave, loop-finish}
-use Rattle.hf_metadata.specs.Scan.{Scan, Taking}
+use Rattle.hf_metadata.specs.Steps.{scanned, refuses, cellAt, scan-start, refused-stays, clear-is}
+use Rattle.hf_metadata.specs.Loops.{rowsLeft, cellsLeft, loop-enter, loop-next, loop-stop, loop-leave, loop-finish}
+use Rattle.hf_metadata.specs.Scan.{Taking}
 use Rattle.hf_metadata.specs.declared.rectangle.Fault.the-variants.{Clear}
 use mathlib.Core.Path.{refl}
 use borrow.Author.Needs.{needs}
 use native.Mathlib.Omega.{arith}
 use mathlib.Core.Path.{_≡_, _∙_, ap, sym}
-use mathlib.Core.List.{_++_}
-use Prim.Native.Nat.{ℕ, _≤_, _<_, _-_, _+_, _*_}
-use lib.ListN.{length, getD, take, drop, set, length-set}
+use Prim.Native.Nat.{_≤_, _-_, _*_}
+use lib.ListN.{length}
 use Rattle.hf_metadata.proofs.rectangle.scan.Statement.{statement}
 use Rattle.hf_metadata.proofs.rectangle.scan.Tie as tie
-use Rattle.hf_metadata.proofs.rectangle.scan.Reads as reads
-use Rattle.hf_metadata.proofs.rectangle.scan.Lts as lts
-use Rattle.hf_metadata.proofs.rectangle.Fault.refuses.Reads as refuses-reads
-use Rattle.hf_metadata.proofs.rectangle.take_cell.Reads as take-cell-reads
 
 abbrev Inv-loop : tie.InvT-loop
 Inv-loop kinds₀ sigma₀ sharpness lookups share bw bh x y w h fault₀ dy dx₀ kinds sigma fault dx = (dx ≤ w) × (fault ≡ Clear) × (length kinds ≡ bh * bw) × (length sigma ≡ bh * bw) × (cellsLeft (cellAt bw bh share lookups sharpness x y) w h dy 0 (Taking kinds₀ sigma₀) ≡ cellsLeft (cellAt bw bh share lookups sharpness x y) w h dy dx (Taking kinds sigma))
@@ -29,41 +24,32 @@ Inv-rows kinds₀ sigma₀ sharpness lookups share bw bh x y w h fault₀ dy₀ 
 abbrev μ-rows : tie.MeasureT-rows
 μ-rows kinds₀ sigma₀ sharpness lookups share bw bh x y w h fault₀ dy₀ kinds sigma fault dy = h - dy
 
--- src/rectangle.rt:69:5
 rows-holds : tie.Need-rows-holds Inv-loop μ-loop Inv-rows μ-rows
 rows-holds c = (omega arith, refl, omega arith, omega arith, refl)
 
--- src/rectangle.rt:71:9
 loop-holds : tie.Need-loop-holds Inv-loop μ-loop Inv-rows μ-rows
 loop-holds c =
     let o = c .before .rows in
     (omega arith, o .inv .1, o .inv .2, o .inv .3, refl)
 
--- src/rectangle.rt:72:80
 add-take-cell : tie.Need-add-take-cell Inv-loop μ-loop Inv-rows μ-rows
 add-take-cell c = search needs
 
--- src/rectangle.rt:72:88
 add-take-cell-2 : tie.Need-add-take-cell-2 Inv-loop μ-loop Inv-rows μ-rows
 add-take-cell-2 c = search needs
 
--- src/rectangle.rt:72:17
 take-cell-requires : tie.Need-take-cell-requires Inv-loop μ-loop Inv-rows μ-rows
 take-cell-requires c κs = search needs
 
--- src/rectangle.rt:73:16
 refuses-requires : tie.Need-refuses-requires Inv-loop μ-loop Inv-rows μ-rows
 refuses-requires c κs = search needs
 
--- src/rectangle.rt:77:13
 add-dx : tie.Need-add-dx Inv-loop μ-loop Inv-rows μ-rows
 add-dx c = search needs
 
--- src/rectangle.rt:71:9
 loop-less : tie.Need-loop-less Inv-loop μ-loop Inv-rows μ-rows
 loop-less c = search needs
 
--- src/rectangle.rt:71:9
 loop-again : tie.Need-loop-again Inv-loop μ-loop Inv-rows μ-rows
 loop-again c =
     let a = c .before .before .before .before .before .before .before .before .before .before .before .before .before .before .before .before .args in
@@ -74,15 +60,12 @@ loop-again c =
     let t = sym (ap (λ (z : Fault). scanned z (v .last .0) (v .last .1 .0)) e) ∙ v .ensures in
     (omega arith, l .inv .1, omega arith, omega arith, l .inv .4 ∙ loop-next (cellAt (a .bw) (a .bh) (a .share) (a .lookups .now) (a .sharpness .now) (a .x) (a .y)) (a .w) (a .h) (o .dy) (l .dx) (Taking (l .kinds) (l .sigma)) (Taking (v .last .0) (v .last .1 .0)) (omega arith) t)
 
--- src/rectangle.rt:79:9
 add-dy : tie.Need-add-dy Inv-loop μ-loop Inv-rows μ-rows
 add-dy c = search needs
 
--- src/rectangle.rt:69:5
 rows-less : tie.Need-rows-less Inv-loop μ-loop Inv-rows μ-rows
 rows-less c = search needs
 
--- src/rectangle.rt:69:5
 rows-again : tie.Need-rows-again Inv-loop μ-loop Inv-rows μ-rows
 rows-again c =
     let a = c .before .before .before .before .before .before .before .args in
@@ -90,30 +73,24 @@ rows-again c =
     let l = c .before .loop in
     (omega arith, l .inv .1, l .inv .2, l .inv .3, o .inv .4 ∙ loop-enter (cellAt (a .bw) (a .bh) (a .share) (a .lookups .now) (a .sharpness .now) (a .x) (a .y)) (a .w) (a .h) (o .dy) (Taking (o .kinds) (o .sigma)) (omega arith) ∙ l .inv .4 ∙ loop-leave (cellAt (a .bw) (a .bh) (a .share) (a .lookups .now) (a .sharpness .now) (a .x) (a .y)) (a .w) (a .h) (o .dy) (l .dx) (Taking (l .kinds) (l .sigma)) (omega arith))
 
--- src/rectangle.rt:63:1
 same-length : tie.Need-same-length Inv-loop μ-loop Inv-rows μ-rows
 same-length c = search needs
 
--- src/rectangle.rt:63:1
 same-length-2 : tie.Need-same-length-2 Inv-loop μ-loop Inv-rows μ-rows
 same-length-2 c = search needs
 
--- src/rectangle.rt:63:1
 returns : tie.Need-returns Inv-loop μ-loop Inv-rows μ-rows
 returns c =
     let a = c .before .before .before .before .before .args in
     let o = c .before .rows in
     ap (λ (z : Fault). scanned z (o .kinds) (o .sigma)) (o .inv .1) ∙ sym (scan-start (a .bw) (a .bh) (a .share) (a .lookups .now) (a .sharpness .now) (a .x) (a .y) (a .w) (a .h) (Taking (a .kinds .now) (a .sigma .now)) ∙ o .inv .4 ∙ loop-finish (cellAt (a .bw) (a .bh) (a .share) (a .lookups .now) (a .sharpness .now) (a .x) (a .y)) (a .w) (a .h) (o .dy) (Taking (o .kinds) (o .sigma)) (omega arith))
 
--- src/rectangle.rt:63:1
 same-length-3 : tie.Need-same-length-3 Inv-loop μ-loop Inv-rows μ-rows
 same-length-3 c = search needs
 
--- src/rectangle.rt:63:1
 same-length-4 : tie.Need-same-length-4 Inv-loop μ-loop Inv-rows μ-rows
 same-length-4 c = search needs
 
--- src/rectangle.rt:63:1
 returns-2 : tie.Need-returns-2 Inv-loop μ-loop Inv-rows μ-rows
 returns-2 c =
     let a = c .before .before .before .before .before .before .before .before .before .before .before .before .before .before .before .before .args in

@@ -1,133 +1,104 @@
-use Rattle.hf_metadata.specs.Steps.{scanned, cell-wide, cell-high, cell-overlap, cell-off, cell-blunt, cell-on}
+use Rattle.hf_metadata.specs.Steps.{cell-wide, cell-high, cell-overlap, cell-off, cell-blunt, cell-on}
 use lib.Arith.{digits-lt}
 use borrow.Author.Needs.{needs}
 use native.Mathlib.Omega.{arith}
-use mathlib.Core.Path.{_≡_, _∙_, ap, sym}
-use mathlib.Core.List.{_++_}
-use Prim.Native.Nat.{ℕ, _≤_, _<_, _-_, _+_, _*_}
-use lib.ListN.{length, getD, take, drop, set, length-set}
 use Rattle.hf_metadata.proofs.rectangle.take_cell.Statement.{statement}
 use Rattle.hf_metadata.proofs.rectangle.take_cell.Tie as tie
-use Rattle.hf_metadata.proofs.rectangle.take_cell.Reads as reads
-use Rattle.hf_metadata.proofs.rectangle.take_cell.Lts as lts
 
--- src/rectangle.rt:23:9
 returns : tie.Need-returns
 returns c =
     let a = c .before .args in
     cell-wide (a .bw) (a .bh) (a .share) (a .lookups .now) (a .sharpness .now) (a .cx) (a .cy) (a .kinds .now) (a .sigma .now) (omega arith)
 
--- src/rectangle.rt:26:9
 returns-2 : tie.Need-returns-2
 returns-2 c =
     let a = c .before .before .args in
     cell-high (a .bw) (a .bh) (a .share) (a .lookups .now) (a .sharpness .now) (a .cx) (a .cy) (a .kinds .now) (a .sigma .now) (omega arith) (omega arith)
 
--- src/rectangle.rt:28:13
 mul-i : tie.Need-mul-i
 mul-i c =
     let a = c .before .before .args in
     omega (arith, digits-lt {q = a .cy} {m = a .bh} {r = a .cx} {c = a .bw} (omega arith) (omega arith))
 
--- src/rectangle.rt:28:13
 add-i : tie.Need-add-i
 add-i c =
     let a = c .before .before .args in
     omega (arith, digits-lt {q = a .cy} {m = a .bh} {r = a .cx} {c = a .bw} (omega arith) (omega arith))
 
--- src/rectangle.rt:29:12
 slice-read-if3 : tie.Need-slice-read-if3
 slice-read-if3 c =
     let a = c .before .before .before .args in
     omega (arith, digits-lt {q = a .cy} {m = a .bh} {r = a .cx} {c = a .bw} (omega arith) (omega arith))
 
--- src/rectangle.rt:30:9
 returns-3 : tie.Need-returns-3
 returns-3 c =
     let a = c .before .before .before .before .args in
     cell-overlap (a .bw) (a .bh) (a .share) (a .lookups .now) (a .sharpness .now) (a .cx) (a .cy) (a .kinds .now) (a .sigma .now) (omega arith) (omega arith) (omega arith)
 
--- src/rectangle.rt:34:13
 enum-told : tie.Need-enum-told
 enum-told c = search needs
 
--- src/rectangle.rt:34:13
 slice-write-kinds : tie.Need-slice-write-kinds
 slice-write-kinds c =
     let a = c .before .before .before .before .before .before .args in
     omega (arith, digits-lt {q = a .cy} {m = a .bh} {r = a .cx} {c = a .bw} (omega arith) (omega arith))
 
--- src/rectangle.rt:37:20
 enum-known-share : tie.Need-enum-known-share
 enum-known-share c = search needs
 
--- src/rectangle.rt:38:21
 mul-s : tie.Need-mul-s
 mul-s c =
     let a = c .before .before .before .before .before .before .before .args in
     omega (arith, digits-lt {q = a .cy} {m = a .bh} {r = a .cx} {c = a .bw} (omega arith) (omega arith))
 
--- src/rectangle.rt:38:21
 shared-slice-read-s : tie.Need-shared-slice-read-s
 shared-slice-read-s c =
     let a = c .before .before .before .before .before .before .before .before .args in
     omega (arith, digits-lt {q = a .cy} {m = a .bh} {r = a .cx} {c = a .bw} (omega arith) (omega arith))
 
--- src/rectangle.rt:40:17
 returns-4 : tie.Need-returns-4
 returns-4 c =
     let a = c .before .before .before .before .before .before .before .before .before .args in
     cell-blunt (a .bw) (a .bh) (a .share) (a .lookups .now) (a .sharpness .now) (a .cx) (a .cy) (a .kinds .now) (a .sigma .now) (omega arith) (omega arith) _ (omega arith) (c .before .before .before .share .given .1) (omega arith)
 
--- src/rectangle.rt:42:13
 slice-write-kinds-2 : tie.Need-slice-write-kinds-2
 slice-write-kinds-2 c =
     let a = c .before .before .before .before .before .before .before .before .before .args in
     omega (arith, digits-lt {q = a .cy} {m = a .bh} {r = a .cx} {c = a .bw} (omega arith) (omega arith))
 
--- src/rectangle.rt:43:36
 cast-sigma : tie.Need-cast-sigma
 cast-sigma c = omega arith
 
--- src/rectangle.rt:43:28
 mul-sigma : tie.Need-mul-sigma
 mul-sigma c = omega arith
 
--- src/rectangle.rt:43:28
 element-copy-out-sigma : tie.Need-element-copy-out-sigma
 element-copy-out-sigma c = omega arith
 
--- src/rectangle.rt:43:13
 mul-sigma-2 : tie.Need-mul-sigma-2
 mul-sigma-2 c =
     let a = c .before .before .before .before .before .before .before .before .before .before .args in
     omega (arith, digits-lt {q = a .cy} {m = a .bh} {r = a .cx} {c = a .bw} (omega arith) (omega arith))
 
--- src/rectangle.rt:43:13
 slice-write-sigma : tie.Need-slice-write-sigma
 slice-write-sigma c =
     let a = c .before .before .before .before .before .before .before .before .before .before .args in
     omega (arith, digits-lt {q = a .cy} {m = a .bh} {r = a .cx} {c = a .bw} (omega arith) (omega arith))
 
--- src/rectangle.rt:18:1
 same-length : tie.Need-same-length
 same-length c = search needs
 
--- src/rectangle.rt:18:1
 returns-5 : tie.Need-returns-5
 returns-5 c =
     let a = c .before .before .before .before .before .before .args in
     cell-off (a .bw) (a .bh) (a .share) (a .lookups .now) (a .sharpness .now) (a .cx) (a .cy) (a .kinds .now) (a .sigma .now) (omega arith) (omega arith) (omega arith) (c .enum-told .given .1)
 
--- src/rectangle.rt:18:1
 same-length-2 : tie.Need-same-length-2
 same-length-2 c = search needs
 
--- src/rectangle.rt:18:1
 same-length-3 : tie.Need-same-length-3
 same-length-3 c = search needs
 
--- src/rectangle.rt:18:1
 returns-6 : tie.Need-returns-6
 returns-6 c =
     let a = c .before .before .before .before .before .before .before .before .before .before .args in
