@@ -1,0 +1,51 @@
+/// BLOCK_SIZES: width and height of the 13 orders, in cells.
+pub const ORDER_SIZES: [(usize, usize); ORDER_COUNT] = [
+    (8, 8),
+    (8, 8),
+    (16, 16),
+    (32, 32),
+    (16, 8),
+    (32, 8),
+    (32, 16),
+    (64, 64),
+    (64, 32),
+    (128, 128),
+    (128, 64),
+    (256, 256),
+    (256, 128),
+];
+pub const ORDER_COUNT: usize = 13;
+pub const LIST_COUNT: usize = 3 * ORDER_COUNT;
+pub const STORE_PLACES: usize = list_start(ORDER_COUNT, 0);
+
+/// A place of an order: x, y.
+pub type Place = [u16; 2];
+
+/// The 39 lists, one behind the other, by order and channel.
+pub type Store = Vec<Place>;
+
+/// Where the list of an order and channel begins in the store.
+pub const fn list_start(order: usize, channel: usize) -> usize {
+    let mut start = 0;
+    let mut before = 0;
+    while before < order {
+        start += 3 * cells(before);
+        before += 1;
+    }
+    if order < ORDER_COUNT {
+        start += channel * cells(order);
+    }
+    start
+}
+
+const fn cells(order: usize) -> usize {
+    ORDER_SIZES[order].0 * ORDER_SIZES[order].1
+}
+
+/// The order call (document 01, Orders).
+#[derive(Debug, Clone)]
+pub struct OrdersCall {
+    pub bytes: Vec<u8>,
+    pub symbols: Vec<u32>,
+    pub store: Store,
+}
