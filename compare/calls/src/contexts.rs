@@ -14,9 +14,10 @@ pub struct ContextsCall {
 #[derive(Debug, Clone, PartialEq, Eq)]
 pub struct Contexts {
     pub count: u32,
-    pub lf_lengths: [usize; 3],
-    pub lf: [[i32; LIST_MOST]; 3],
-    pub qf_length: usize,
+    /// Of the LF lists of channels 0, 1, 2, then of the qf list.
+    pub lengths: [u32; 4],
+    /// The list of channel c from 15 c on.
+    pub lf: [i32; 3 * LIST_MOST],
     pub qf: [u32; LIST_MOST],
     pub map: [u8; MAP_MOST],
 }
@@ -24,16 +25,32 @@ pub struct Contexts {
 impl Contexts {
     pub const ZERO: Self = Self {
         count: 0,
-        lf_lengths: [0; 3],
-        lf: [[0; LIST_MOST]; 3],
-        qf_length: 0,
+        lengths: [0; 4],
+        lf: [0; 3 * LIST_MOST],
         qf: [0; LIST_MOST],
         map: [0; MAP_MOST],
     };
 
-    /// The product of the four (length + 1).
+    /// The product of the four (length + 1), where no list is longer than 15.
     pub fn bsize(&self) -> usize {
-        let lengths = self.lf_lengths.into_iter().chain([self.qf_length]);
-        lengths.map(|length| length + 1).product()
+        self.lengths
+            .map(|length| length as usize + 1)
+            .iter()
+            .product()
+    }
+
+    /// The used places of the LF list of a channel.
+    pub fn lf_list(&self, channel: usize) -> &[i32] {
+        &self.lf[LIST_MOST * channel..][..self.lengths[channel] as usize]
+    }
+
+    /// The used places of the qf list.
+    pub fn qf_list(&self) -> &[u32] {
+        &self.qf[..self.lengths[3] as usize]
+    }
+
+    /// The used places of the map.
+    pub fn used_map(&self) -> &[u8] {
+        &self.map[..39 * self.bsize()]
     }
 }

@@ -14,7 +14,7 @@ pub use contexts::{Contexts, ContextsCall, LIST_MOST, MAP_MOST};
 pub use groups::{AlikeCall, CutCall, Layout};
 pub use layout::{LayoutBuffers, LayoutCall};
 pub use orders::{
-    list_start, OrdersCall, Place, Store, LIST_COUNT, ORDER_COUNT, ORDER_SIZES, STORE_PLACES,
+    list_length, list_start, OrdersCall, Store, LIST_COUNT, ORDER_COUNT, ORDER_SIZES, STORE_LENGTH,
 };
 
 /// A refusal's number and position.

@@ -16,30 +16,29 @@ pub const ORDER_SIZES: [(usize, usize); ORDER_COUNT] = [
 ];
 pub const ORDER_COUNT: usize = 13;
 pub const LIST_COUNT: usize = 3 * ORDER_COUNT;
-pub const STORE_PLACES: usize = list_start(ORDER_COUNT, 0);
+/// 393,984 places, two numbers each.
+pub const STORE_LENGTH: usize = list_start(ORDER_COUNT, 0);
 
-/// A place of an order: x, y.
-pub type Place = [u16; 2];
-
-/// The 39 lists, one behind the other, by order and channel.
-pub type Store = Vec<Place>;
+/// The 39 lists, one behind the other, by order and channel: x, y of each place.
+pub type Store = Vec<u16>;
 
 /// Where the list of an order and channel begins in the store.
 pub const fn list_start(order: usize, channel: usize) -> usize {
     let mut start = 0;
     let mut before = 0;
     while before < order {
-        start += 3 * cells(before);
+        start += 3 * list_length(before);
         before += 1;
     }
     if order < ORDER_COUNT {
-        start += channel * cells(order);
+        start += channel * list_length(order);
     }
     start
 }
 
-const fn cells(order: usize) -> usize {
-    ORDER_SIZES[order].0 * ORDER_SIZES[order].1
+/// How many numbers a list of an order has in the store.
+pub const fn list_length(order: usize) -> usize {
+    2 * ORDER_SIZES[order].0 * ORDER_SIZES[order].1
 }
 
 /// The order call (document 01, Orders).

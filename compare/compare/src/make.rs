@@ -5,7 +5,7 @@ use std::sync::Arc;
 
 use calls::{
     CoefficientBuffers, CoefficientsCall, Contexts, ContextsCall, Layout, LayoutBuffers,
-    LayoutCall, OrdersCall, Store, STORE_PLACES,
+    LayoutCall, OrdersCall, Store, STORE_LENGTH,
 };
 use jxl_vardct::oracle::{self, Orders};
 
@@ -65,7 +65,7 @@ pub fn default_contexts() -> Contexts {
 }
 
 pub fn used_store() -> Store {
-    vec![[0xA5A5, 0x5A5A]; STORE_PLACES]
+    vec![0xA5A5; STORE_LENGTH]
 }
 
 /// An order call whose used orders are given by 13 bits.

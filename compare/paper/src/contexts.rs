@@ -20,17 +20,11 @@ pub fn clusters_refused(asked: u32, count: u32, map: &[u8]) -> Option<Refusal> {
 
 /// Whether a lent record is fit; only the used places are looked at.
 pub fn is_fit(record: &Contexts) -> bool {
-    let lengths = [
-        record.lf_lengths[0],
-        record.lf_lengths[1],
-        record.lf_lengths[2],
-        record.qf_length,
-    ];
-    if lengths.iter().any(|&length| length > LIST_MOST) || record.bsize() > BSIZE_MOST {
+    let long = |length: u32| length as usize > LIST_MOST;
+    if record.lengths.into_iter().any(long) || record.bsize() > BSIZE_MOST {
         return false;
     }
-    let qf = &record.qf[..record.qf_length];
-    let map = &record.map[..SETS * record.bsize()];
+    let (qf, map) = (record.qf_list(), record.used_map());
     (1..=COUNT_MOST).contains(&record.count)
         && qf.iter().all(|value| (1..=QF_MOST).contains(value))
         && map.iter().all(|&cluster| u32::from(cluster) < record.count)

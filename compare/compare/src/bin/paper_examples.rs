@@ -235,7 +235,8 @@ mod live {
         let first = |used, symbols: &[u32], order, places: usize| {
             let outcome = expected::orders(&make::orders(used, symbols));
             let start = list_start(order, 0);
-            let shown = format!("{:?}", &outcome.buffers[start..start + places]);
+            let list = &outcome.buffers[start..start + 2 * places];
+            let shown = format!("{:?}", list.chunks(2).collect::<Vec<_>>());
             say(outcome.answer, |_| shown)
         };
         row(

@@ -1,4 +1,4 @@
-use calls::{Answer, Contexts, ContextsCall};
+use calls::{Answer, Contexts, ContextsCall, LIST_MOST};
 use jxl_bitstream::{Bitstream, Coded};
 use jxl_oxide_common::Bundle;
 
@@ -34,9 +34,9 @@ pub fn contexts(call: &ContextsCall) -> Answer<ContextsRead> {
 /// The Rust's own form of a record that the paper lets pass.
 pub fn own_form(record: &Contexts) -> HfBlockContext {
     HfBlockContext {
-        qf_thresholds: record.qf[..record.qf_length].to_vec(),
-        lf_thresholds: std::array::from_fn(|c| record.lf[c][..record.lf_lengths[c]].to_vec()),
-        block_ctx_map: record.map[..39 * record.bsize()].to_vec(),
+        qf_thresholds: record.qf_list().to_vec(),
+        lf_thresholds: std::array::from_fn(|c| record.lf_list(c).to_vec()),
+        block_ctx_map: record.used_map().to_vec(),
         num_block_clusters: record.count,
     }
 }
@@ -45,13 +45,14 @@ pub fn own_form(record: &Contexts) -> HfBlockContext {
 pub fn paper_form(read: &HfBlockContext) -> Contexts {
     let mut record = Contexts {
         count: read.num_block_clusters,
-        lf_lengths: std::array::from_fn(|c| read.lf_thresholds[c].len()),
-        qf_length: read.qf_thresholds.len(),
         ..Contexts::ZERO
     };
-    for (list, thresholds) in record.lf.iter_mut().zip(&read.lf_thresholds) {
+    let lists = record.lf.chunks_mut(LIST_MOST).zip(&read.lf_thresholds);
+    for (channel, (list, thresholds)) in lists.enumerate() {
         list[..thresholds.len()].copy_from_slice(thresholds);
+        record.lengths[channel] = thresholds.len() as u32;
     }
+    record.lengths[3] = read.qf_thresholds.len() as u32;
     record.qf[..read.qf_thresholds.len()].copy_from_slice(&read.qf_thresholds);
     record.map[..read.block_ctx_map.len()].copy_from_slice(&read.block_ctx_map);
     record

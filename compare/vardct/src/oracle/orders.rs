@@ -1,4 +1,4 @@
-use calls::{Answer, Place, Refusal, Store, ORDER_COUNT};
+use calls::{Answer, Refusal, Store, ORDER_COUNT};
 use jxl_bitstream::{Bitstream, Coded};
 use jxl_oxide_common::Bundle;
 
@@ -33,10 +33,10 @@ pub fn orders(bytes: &[u8], symbols: &[u32], cluster_map: &[u8]) -> Answer<Order
 }
 
 impl Orders {
-    /// The list of an order and channel.
-    pub fn list(&self, order: usize, channel: usize) -> impl Iterator<Item = Place> + '_ {
+    /// The list of an order and channel: x, y of each place.
+    pub fn list(&self, order: usize, channel: usize) -> impl Iterator<Item = u16> + '_ {
         let places = self.pass.order(order, channel).iter();
-        places.map(|&(x, y)| [x, y])
+        places.flat_map(|&(x, y)| [x, y])
     }
 
     /// Writes all 39 lists, one behind the other.
@@ -50,7 +50,7 @@ impl Orders {
     }
 
     pub fn store(&self) -> Store {
-        let mut store = Store::with_capacity(calls::STORE_PLACES);
+        let mut store = Store::with_capacity(calls::STORE_LENGTH);
         self.write(&mut store);
         store
     }
@@ -59,7 +59,7 @@ impl Orders {
 /// What a store holds after the order call was refused.
 pub fn store_after(refusal: Refusal, start: &Store) -> Store {
     match refusal.number {
-        13 | 15 => vec![[0, 0]; start.len()],
+        13 | 15 => vec![0; start.len()],
         _ => start.clone(),
     }
 }
