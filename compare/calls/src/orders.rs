@@ -1,3 +1,5 @@
+use std::fmt;
+
 /// BLOCK_SIZES: width and height of the 13 orders, in cells.
 pub const ORDER_SIZES: [(usize, usize); ORDER_COUNT] = [
     (8, 8),
@@ -42,9 +44,20 @@ pub const fn list_length(order: usize) -> usize {
 }
 
 /// The order call (document 01, Orders).
-#[derive(Debug, Clone)]
+#[derive(Clone)]
 pub struct OrdersCall {
     pub bytes: Vec<u8>,
     pub symbols: Vec<u32>,
     pub store: Store,
+}
+
+/// All but the store, of which the length is shown.
+impl fmt::Debug for OrdersCall {
+    fn fmt(&self, f: &mut fmt::Formatter<'_>) -> fmt::Result {
+        f.debug_struct("OrdersCall")
+            .field("bytes", &self.bytes)
+            .field("symbols", &self.symbols)
+            .field("store length", &self.store.len())
+            .finish()
+    }
 }

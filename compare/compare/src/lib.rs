@@ -7,6 +7,12 @@ pub const LEFT_OUT: &str = "live comparison left out: jxl-vardct's Rust is not a
 #[cfg(live)]
 pub mod bits;
 #[cfg(live)]
+pub mod cases;
+#[cfg(live)]
+pub mod driver;
+#[cfg(live)]
 pub mod expected;
 #[cfg(live)]
 pub mod make;
+#[cfg(live)]
+pub mod rng;

@@ -79,6 +79,8 @@ pub fn orders(used: u32, symbols: &[u32]) -> OrdersCall {
 
 /// Orders and the store that they fill.
 pub struct OrdersAndStore {
+    /// Bit k for order k.
+    pub used: u32,
     pub orders: Orders,
     pub store: Arc<Store>,
     pub cluster_map: Vec<u8>,
@@ -91,6 +93,7 @@ impl OrdersAndStore {
         let orders = orders.unwrap_or_else(|refusal| panic!("orders refused: {refusal:?}"));
         let store = Arc::new(orders.store());
         Self {
+            used,
             orders,
             store,
             cluster_map,
