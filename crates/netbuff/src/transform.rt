@@ -1,7 +1,6 @@
 // The transform look-up.
 use dct_select::Looked;
 use dct_select::TransformType;
-
 ghost use mathlib.Core.Path.{_≡_};
 ghost use Rattle.dct_select.specs.LookUp.{lookUp};
 ghost use Rattle.netbuff.specs.Transform.{handed, facts};
@@ -58,9 +57,7 @@ pub extern "C" fn netbuff_transform(
     x: &mut usize,
     y: &mut usize,
 ) -> u32
-    ensures {
-        λ r. ⌜ facts r (now (wide .exit)) (now (high .exit)) (now (order .exit)) (now (turn .exit)) (now (x .exit)) (now (y .exit)) ≡ handed (lookUp number) ⌝
-    }
+    ensures { λ r. ⌜ facts r (now (wide .exit)) (now (high .exit)) (now (order .exit)) (now (turn .exit)) (now (x .exit)) (now (y .exit)) ≡ handed (lookUp number) ⌝ }
 {
     let found = transform_facts(number);
     *wide = found.wide;

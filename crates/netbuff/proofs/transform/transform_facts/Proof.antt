@@ -30,14 +30,14 @@ returns : tie.Need-returns
 returns c =
     let t = c .before .before .before .before .t .given in
     let e : lookUp (c .before .before .before .before .before .before .before .args .number) ≡ Known (t .0 .0) =
-        sym (c .before .before .before .before .before .before .from-number .ensures) ∙ t .1 in
+    sym (c .before .before .before .before .before .before .from-number .ensures) ∙ t .1 in
     rw (e, c .before .before .dct-select-size .ensures, c .before .order-id .ensures, c .need-transpose .ensures)
 
 returns-2 : tie.Need-returns-2
 returns-2 c =
     let r = c .before .before .refusal .given in
     let e : lookUp (c .before .before .before .before .before .args .number) ≡ Refused (r .0 .0) =
-        sym (c .before .before .before .before .from-number .ensures) ∙ r .1 in
+    sym (c .before .before .before .before .from-number .ensures) ∙ r .1 in
     rw (e, c .numbers .ensures)
 
 pub transform-facts-spec : {M : Type 1} → statement M
