@@ -45,6 +45,27 @@ extern "C" {
 uint32_t netbuff_transform(uint32_t number, size_t *wide, size_t *high, size_t *order, bool *turn,
                            size_t *x, size_t *y);
 
+/*
+ * One read of n bits, 0 to 32 (a larger n reads 32), lowest first within each byte, from the bit
+ * with number 8 * byte + bit on: the value, and the place behind it. Refused: 3 when the bits end,
+ * with nothing read; value and place are then 0. *taken receives 0 here.
+ */
+uint32_t netbuff_read_bits(const uint8_t *bytes, size_t bytes_length, size_t byte, uint32_t bit,
+                           uint32_t n, uint32_t *value, size_t *next_byte, uint32_t *next_bit,
+                           uint32_t *taken);
+
+/*
+ * A U32: a two-bit selector, then that one of the four choices. A choice is an offset and a number
+ * of bits; the value is the offset plus the bits read, modulo 2^32. Refused: 3 when the bits end;
+ * *taken receives the bits that were read of it: 2 when only the field is missing, else 0.
+ */
+uint32_t netbuff_read_u32(const uint8_t *bytes, size_t bytes_length, size_t byte, uint32_t bit,
+                          const uint32_t choices[8], uint32_t *value, size_t *next_byte,
+                          uint32_t *next_bit, uint32_t *taken);
+
+/* The signed number of u: u / 2 where u is even, -(u + 1) / 2 where it is odd. Never refused. */
+int32_t netbuff_unpack_signed(uint32_t u);
+
 #ifdef __cplusplus
 }
 #endif

@@ -2,9 +2,11 @@
 //! JPEG XL scan. What each call means, the lengths that fit and the refusals stand in
 //! `include/netbuff.h` and in document 01.
 
+mod reader;
 mod sys;
 mod transform;
 
+pub use reader::{read_bits, read_u32, unpack_signed, Choice, Place, Read};
 pub use transform::{transform, Transform};
 
 /// A refusal's number, 1 to 18, and its position.

@@ -11,6 +11,8 @@ pub mod cases;
 #[cfg(live)]
 pub mod driver;
 #[cfg(live)]
+pub mod examples;
+#[cfg(live)]
 pub mod expected;
 #[cfg(live)]
 pub mod make;

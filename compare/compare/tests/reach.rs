@@ -9,11 +9,20 @@ use compare::driver::{run, Effort};
 
 /// Runs a call against itself, and tells which refusals it did not meet.
 fn not_met<C: Case>(case: &C, inputs: usize, numbers: &[u32]) -> Vec<u32> {
-    let report = run(case, |input| case.expected(input), Effort::Inputs(inputs), 1);
+    let report = run(
+        case,
+        |input| case.expected(input),
+        Effort::Inputs(inputs),
+        1,
+    );
     println!("{report}");
     assert!(report.difference.is_none(), "the Rust panics");
     let met = |number: &u32| report.by_number.contains_key(number);
-    numbers.iter().copied().filter(|number| !met(number)).collect()
+    numbers
+        .iter()
+        .copied()
+        .filter(|number| !met(number))
+        .collect()
 }
 
 #[test]

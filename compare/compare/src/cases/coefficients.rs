@@ -7,9 +7,9 @@ use super::digits::{lists_count, Digits};
 use super::orders::symbols;
 use super::placing::{damage, fill};
 use super::{plainer, shorter, simpler, variants, Case};
+use crate::expected;
 use crate::make::{self, OrdersAndStore};
 use crate::rng::Rng;
-use crate::expected;
 
 /// Coefficient calls over a few orders that accepted order calls wrote.
 pub struct CoefficientsCase {

@@ -9,6 +9,8 @@ mod digits;
 mod layout;
 mod orders;
 mod placing;
+mod reader;
+mod signed;
 mod transform;
 
 use std::fmt::Debug;
@@ -24,6 +26,8 @@ pub use contexts::ContextsCase;
 pub use cut::CutCase;
 pub use layout::LayoutCase;
 pub use orders::OrdersCase;
+pub use reader::{ReadKind, ReaderCase, ReaderInput};
+pub use signed::SignedCase;
 pub use transform::TransformCase;
 
 pub trait Case {
