@@ -22,6 +22,9 @@ pub struct CutCall {
     pub hf_mul: Vec<i32>,
 }
 
+/// The buffers that the cut fills: kinds and hf_mul.
+pub type GroupBuffers = (Vec<u8>, Vec<i32>);
+
 /// The likeness test (document 01, Layout, "Added by us").
 #[derive(Debug, Clone)]
 pub struct AlikeCall {

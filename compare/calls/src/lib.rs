@@ -11,7 +11,7 @@ mod orders;
 pub use coefficients::{CoefficientBuffers, CoefficientsCall};
 pub use columns::{ColumnCount, ColumnCountCall};
 pub use contexts::{Contexts, ContextsCall, LIST_MOST, MAP_MOST};
-pub use groups::{AlikeCall, CutCall, Layout};
+pub use groups::{AlikeCall, CutCall, GroupBuffers, Layout};
 pub use layout::{LayoutBuffers, LayoutCall};
 pub use orders::{
     list_length, list_start, OrdersCall, Store, LIST_COUNT, ORDER_COUNT, ORDER_SIZES, STORE_LENGTH,

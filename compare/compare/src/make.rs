@@ -81,6 +81,8 @@ pub fn orders(used: u32, symbols: &[u32]) -> OrdersCall {
 pub struct OrdersAndStore {
     /// Bit k for order k.
     pub used: u32,
+    pub bytes: Vec<u8>,
+    pub symbols: Vec<u32>,
     pub orders: Orders,
     pub store: Arc<Store>,
     pub cluster_map: Vec<u8>,
@@ -94,6 +96,8 @@ impl OrdersAndStore {
         let store = Arc::new(orders.store());
         Self {
             used,
+            bytes,
+            symbols: symbols.to_vec(),
             orders,
             store,
             cluster_map,

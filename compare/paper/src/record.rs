@@ -1,6 +1,6 @@
 //! Lent layouts and groups: the check of refusal 18, the cut, the likeness test.
 
-use calls::{AlikeCall, Answer, CutCall, Layout, Outcome};
+use calls::{AlikeCall, Answer, CutCall, GroupBuffers, Layout, Outcome};
 
 use crate::first_refusal;
 
@@ -93,7 +93,7 @@ fn covered_once(rectangles: &Rectangles, wide: usize, high: usize) -> bool {
 }
 
 /// The cut; the answer is the group's sides.
-pub fn cut(call: &CutCall) -> Outcome<(u32, u32), (Vec<u8>, Vec<i32>)> {
+pub fn cut(call: &CutCall) -> Outcome<(u32, u32), GroupBuffers> {
     let buffers = (call.kinds.clone(), call.hf_mul.clone());
     match group_of(call) {
         Err(refusal) => Outcome::untouched(refusal, buffers),

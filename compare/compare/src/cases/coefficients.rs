@@ -19,7 +19,7 @@ pub struct CoefficientsCase {
 #[derive(Clone)]
 pub struct CoefficientsInput {
     pub call: CoefficientsCall,
-    orders: Arc<OrdersAndStore>,
+    pub orders: Arc<OrdersAndStore>,
 }
 
 impl fmt::Debug for CoefficientsInput {
@@ -32,7 +32,8 @@ impl fmt::Debug for CoefficientsInput {
     }
 }
 
-const MAP_MOST: usize = 256 * 16 * paper::ENTRIES_PER_CLUSTER;
+/// Entries of the cluster map of 256 presets and 16 clusters.
+pub const MAP_MOST: usize = 256 * 16 * paper::ENTRIES_PER_CLUSTER;
 /// Short inputs: one Dct8 with default contexts, over lists of these symbols.
 const SHORT_SYMBOLS: [u32; 6] = [0, 1, 2, 3, 63, 64];
 const SHORT_MOST: usize = 6;
@@ -44,10 +45,15 @@ impl CoefficientsCase {
         let used = [0, 0x1fff, 0x7f, 0x5f, 0x13, 0x380, 0x1c00, 0x1, 0x1e];
         let orders = used.map(|used| {
             let symbols = symbols(&mut rng, used);
-            Arc::new(OrdersAndStore::new(used, &symbols, cluster_map.clone()))
+            OrdersAndStore::new(used, &symbols, cluster_map.clone())
         });
+        Self::over(orders)
+    }
+
+    /// Calls over the given orders, whose cluster maps serve 256 presets of 16 clusters.
+    pub fn over(orders: impl IntoIterator<Item = OrdersAndStore>) -> Self {
         Self {
-            orders: orders.to_vec(),
+            orders: orders.into_iter().map(Arc::new).collect(),
         }
     }
 

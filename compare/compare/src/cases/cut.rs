@@ -1,4 +1,4 @@
-use calls::{CutCall, Layout, Outcome};
+use calls::{CutCall, GroupBuffers, Layout, Outcome};
 
 use super::digits::Digits;
 use super::placing::{damage, fill};
@@ -17,9 +17,9 @@ impl Case for CutCase {
     const NAME: &'static str = "cut";
     type Input = CutCall;
     type Value = (u32, u32);
-    type Buffers = (Vec<u8>, Vec<i32>);
+    type Buffers = GroupBuffers;
 
-    fn expected(&self, input: &CutCall) -> Outcome<(u32, u32), (Vec<u8>, Vec<i32>)> {
+    fn expected(&self, input: &CutCall) -> Outcome<(u32, u32), GroupBuffers> {
         paper::cut(input)
     }
 
