@@ -1,3 +1,4 @@
+use Rattle.column_count.specs.CountSteps.{count-small}
 use Rattle.column_count.specs.CountSteps.{count-size, count-modes, most-blocks, count-value, count-end}
 use Rattle.lf_group.specs.declared.Blocks.{Blocks}
 use Rattle.bits.specs.Exponent.{exponent}
@@ -73,17 +74,16 @@ read-bits-requires c κs = search needs
 enum-known-got : tie.Need-enum-known-got
 enum-known-got c = search needs
 
--- src/lib.rt:29:52
-cast-t17 : tie.Need-cast-t17
-cast-t17 c = search needs
-
 -- src/lib.rt:29:48
-add-t18 : tie.Need-add-t18
-add-t18 c = search needs
+add-t17 : tie.Need-add-t17
+add-t17 c =
+    let a = c .before .before .before .before .before .before .before .before .before .before .before .before .before .args in
+    let e = ap (λ (s : Blocks). s .bh * s .bw) (c .before .before .before .before .before .before .before .blocks-of .ensures) in
+    omega (arith, count-small (a .width) (a .height) (a .modes) (a .bytes .now) (sym (c .before .before .before .before .before .before .before .before .before .before .before .size-fits .ensures) ∙ not-false (c .before .before .before .before .before .before .before .before .before .before .before .size-fits .result) (c .before .before .before .before .before .before .before .before .before .before .if1 .left)) (sym (c .before .before .before .before .before .before .before .before .before .modes-fit .ensures) ∙ not-false (c .before .before .before .before .before .before .before .before .before .modes-fit .result) (c .before .before .before .before .before .before .before .before .if2 .left)) (c .before .before .before .before .before .exponent .result) (c .before .before .before .before .start .result) (c .before .before .before .read-bits .result) (c .before .before .before .before .before .exponent .ensures ∙ ap exponent e) (c .before .before .before .before .start .ensures) (c .before .before .before .read-bits .ensures) _ _ (λ i. c .before .before .before .before .before .before .before .before .before .before .before .before .shared-slice-known .given i .fits) (c .before .got .given .1))
 
 -- src/lib.rt:29:64
-cast-t19 : tie.Need-cast-t19
-cast-t19 c = search needs
+cast-t18 : tie.Need-cast-t18
+cast-t18 c = search needs
 
 -- src/lib.rt:30:45
 enum-told : tie.Need-enum-told
@@ -118,9 +118,8 @@ column-count-spec =
     start-requires
     read-bits-requires
     enum-known-got
-    cast-t17
-    add-t18
-    cast-t19
+    add-t17
+    cast-t18
     enum-told
     returns-3
     returns-4)
