@@ -1,7 +1,7 @@
 // How many columns an LF group's layout has (`HfMetadata::parse`, `nb_blocks`).
-use bits::{Got, Place};
+use bits::Got;
+use bits::Place;
 use refusal::Refusal;
-
 ghost use mathlib.Core.Path.{_≡_};
 ghost use Rattle.column_count.specs.Count.{counted, countOf};
 

@@ -12,7 +12,7 @@ use mathlib.Core.Logic.{_⊎_, inl, inr}
 use Rattle.layout.specs.Grid.{at}
 use Rattle.layout.specs.Varblocks.{Varblock, varblocksOf, cornersFrom}
 use Rattle.layout.specs.Rest.{rest, rest-corner, rest-plain, rest-rows, rest-turn, rest-end}
-use Rattle.text.specs.Text.{Puts, puts-then}
+use Rattle.text.specs.Text.{Puts, puts-then, puts-none}
 use Rattle.lister.specs.Listing.{lineOf, linesOf}
 
 abbrev pub varblockOf : ℕ → ℕ → ℕ → ℕ → Varblock
@@ -57,3 +57,9 @@ goes-same d s d₁ t u i i₁ e c = record { whole = λ d₂ i₂ p. c .whole d�
 
 pub goes-on : (d s d₁ d₂ t u : List ℕ) (i i₁ i₂ : ℕ) → Continues d i s d₁ i₁ (t ++ u) → Puts d₁ i₁ t d₂ i₂ → Continues d i s d₂ i₂ u
 goes-on d s d₁ d₂ t u i i₁ i₂ c p = record { whole = λ d₃ i₃ q. c .whole d₃ i₃ (puts-then d₁ d₂ d₃ t u i₁ i₂ i₃ p q) }
+
+pub goes-far : (d s d₁ t d₂ u : List ℕ) (i i₁ i₂ : ℕ) → Continues d i s d₁ i₁ t → Continues d₁ i₁ t d₂ i₂ u → Continues d i s d₂ i₂ u
+goes-far d s d₁ t d₂ u i i₁ i₂ c e = record { whole = λ d₃ i₃ p. c .whole d₃ i₃ (e .whole d₃ i₃ p) }
+
+pub goes-end : (d s d₁ : List ℕ) (i i₁ : ℕ) → i₁ ≤ length d₁ → Continues d i s d₁ i₁ [] → Puts d i s d₁ i₁
+goes-end d s d₁ i i₁ h c = c .whole d₁ i₁ (puts-none d₁ i₁ h)

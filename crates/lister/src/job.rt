@@ -26,7 +26,8 @@ fn number32(s: &[u8], i: usize) -> u32
 }
 
 // The columns of a job, at most 4,096, and how many there are.
-pub(crate) fn read_columns(job: &[u8], types: &mut [u32; 4096], muls: &mut [u32; 4096]) -> usize
+pub(crate) fn read_columns(job: &[u8], types: &mut [u32], muls: &mut [u32]) -> usize
+    requires { ⌜ (length (now types) ≡ 4096) × (length (now muls) ≡ 4096) ⌝ }
     ensures { λ r. ⌜ ReadColumns (now (job .entry)) r (now (types .entry)) (now (muls .entry)) (now (types .exit)) (now (muls .exit)) ⌝ }
 {
     let mut n = 0;

@@ -1,8 +1,7 @@
 // Lines of the listing.
 use refusal::Said;
-
 ghost use mathlib.Core.Path.{_≡_};
-ghost use Prim.Native.Nat.{_*_, _≤_, _<_};
+ghost use Prim.Native.Nat.{_*_, _-_, _≤_, _<_};
 ghost use lib.ListN.{length};
 ghost use Rattle.layout.specs.Varblocks.{varblocksOf, area};
 ghost use Rattle.text.specs.Text.{Puts};
@@ -26,7 +25,16 @@ fn number_of(kind: u8) -> usize
 }
 
 // The line of the block (x, y), if it is a corner.
-fn put_block(out: &mut [u8], at: usize, kinds: &[u8], hf_mul: &[u32], bw: usize, bh: usize, x: usize, y: usize) -> usize
+fn put_block(
+    out: &mut [u8],
+    at: usize,
+    kinds: &[u8],
+    hf_mul: &[u32],
+    bw: usize,
+    bh: usize,
+    x: usize,
+    y: usize,
+) -> usize
     requires { ⌜ (length (now kinds) ≡ bh * bw) × (length (now «hf_mul») ≡ bh * bw) × (bw ≤ 256) × (bh ≤ 256) × (x < bw) × (y < bh) × (at ≤ length (now out)) ⌝ }
     ensures { λ r. ⌜ Puts (now (out .entry)) at (lineAt bw (now (kinds .entry)) (now («hf_mul» .entry)) x y) (now (out .exit)) r ⌝ }
 {
@@ -39,7 +47,14 @@ fn put_block(out: &mut [u8], at: usize, kinds: &[u8], hf_mul: &[u32], bw: usize,
 }
 
 // The varblocks, corners row by row.
-fn put_varblocks(out: &mut [u8], at: usize, kinds: &[u8], hf_mul: &[u32], bw: usize, bh: usize) -> usize
+fn put_varblocks(
+    out: &mut [u8],
+    at: usize,
+    kinds: &[u8],
+    hf_mul: &[u32],
+    bw: usize,
+    bh: usize,
+) -> usize
     requires { ⌜ (length (now kinds) ≡ bh * bw) × (length (now «hf_mul») ≡ bh * bw) × (bw ≤ 256) × (bh ≤ 256) × (at ≤ length (now out)) ⌝ }
     ensures { λ r. ⌜ Puts (now (out .entry)) at (linesOf (varblocksOf bw bh (now (kinds .entry)) (now («hf_mul» .entry)))) (now (out .exit)) r ⌝ }
 {
@@ -57,7 +72,13 @@ fn put_varblocks(out: &mut [u8], at: usize, kinds: &[u8], hf_mul: &[u32], bw: us
 }
 
 // Grid, varblocks, total area: a layout's varblocks fill its grid.
-pub(crate) fn put_accepted(out: &mut [u8], kinds: &[u8], hf_mul: &[u32], bw: usize, bh: usize) -> usize
+pub(crate) fn put_accepted(
+    out: &mut [u8],
+    kinds: &[u8],
+    hf_mul: &[u32],
+    bw: usize,
+    bh: usize,
+) -> usize
     requires { ⌜ (length (now kinds) ≡ bh * bw) × (length (now «hf_mul») ≡ bh * bw) × (bw ≤ 256) × (bh ≤ 256) × (area (varblocksOf bw bh (now kinds) (now «hf_mul»)) ≡ bw * bh) ⌝ }
     ensures { λ r. ⌜ Puts (now (out .entry)) 0 (acceptedText bw bh (now (kinds .entry)) (now («hf_mul» .entry))) (now (out .exit)) r ⌝ }
 {

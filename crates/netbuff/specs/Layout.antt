@@ -1,4 +1,5 @@
 -- What the exported layout call and column count hand out (document 01, Layout and filter strength).
+use mathlib.Core.Path.{_≡_, ap, _∙_}
 use mathlib.Core.Bool.{Bool, true, false}
 use mathlib.Core.List.{List}
 use Prim.Native.Nat.{ℕ}
@@ -6,7 +7,8 @@ use lib.Ieee.{Float}
 use Rattle.filter_strength.specs.declared.Filter.{Filter}
 use Rattle.filter_strength.specs.declared.Filter.the-variants.{Off, On}
 use Rattle.column_count.specs.Count.{Counted, count, refused}
-use Rattle.hf_metadata.specs.Call.{Answer, accepted, refused as refusedWith, Outcome}
+use Rattle.hf_metadata.specs.Call.{Answer, accepted, refused as refusedWith, answered, Outcome, leaves}
+use Rattle.hf_metadata.specs.declared.LayoutAnswer.{LayoutAnswer}
 use Rattle.netbuff.specs.declared.layout.LayoutHanded.{LayoutHanded}
 use Rattle.netbuff.specs.declared.layout.CountHanded.{CountHanded}
 
@@ -38,8 +40,15 @@ pub record LayoutOut : Type 0 where
   pub hfMul : List ℕ
   pub sigma : List Float
 
+abbrev pub withLists : LayoutHanded → List ℕ → List ℕ → List Float → LayoutOut
+withLists h kinds hfMul sigma = record { answer = h; kinds = kinds; hfMul = hfMul; sigma = sigma }
+
 abbrev pub left : ℕ → ℕ → ℕ → ℕ → List ℕ → List ℕ → List Float → LayoutOut
-left n u x y kinds hfMul sigma = record { answer = numbers n u x y; kinds = kinds; hfMul = hfMul; sigma = sigma }
+left n u x y kinds hfMul sigma = withLists (numbers n u x y) kinds hfMul sigma
 
 abbrev pub handedAll : Outcome → LayoutOut
-handedAll o = record { answer = handedOut (o .answer); kinds = o .kinds; hfMul = o .hfMul; sigma = o .sigma }
+handedAll o = withLists (handedOut (o .answer)) (o .kinds) (o .hfMul) (o .sigma)
+
+-- the call's own answer, handed on
+pub handed-layout : (h : LayoutHanded) (a : LayoutAnswer) (k m : List ℕ) (g : List Float) (o : Outcome) → h ≡ handedOut (answered a) → leaves a k m g ≡ o → withLists h k m g ≡ handedAll o
+handed-layout h a k m g o e f = ap (λ (z : LayoutHanded). withLists z k m g) e ∙ ap handedAll f

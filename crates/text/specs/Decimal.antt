@@ -43,8 +43,10 @@ fewest-decimal n (suc r) h f = fewest-digits r 19 n (few (f .2)) (f .1) (λ q. l
   where
     less : suc r - 1 ≡ r
     less = omega arith
+
     least : 10 ^ (suc r - 1) ≤ n → 10 ^ r ≤ n
     least p = rw less at p
+
     few : (1 < suc r → 10 ^ (suc r - 1) ≤ n) → suc r ≤ 20
     few g = go (le-or-lt (suc r) 20)
       where
