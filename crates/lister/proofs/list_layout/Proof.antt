@@ -81,7 +81,7 @@ returns-2 c =
     let v = c .before .before .before .before .before .before .before .before .before .before .before .before .before .before .layout in
     let e = v .ensures ∙ listed-is (a .width) (a .height) (a .types .now) (a .muls .now) (a .bw) (a .bh) (a .sharpness .now) (a .kinds .now) (a .hf-mul .now) (a .sigma .now) _ (h .0) (h .1) (h .4) (h .5) (h .6) (h .7) (ap (λ (z : Float). replicate 8 z) zero-bits) in
     let f = sym (ap (λ (z : LayoutAnswer). leaves z (v .last .1 .1 .1 .1 .1 .1 .1 .1 .1 .0) (v .last .1 .1 .1 .1 .1 .1 .1 .1 .1 .1 .0) (v .last .1 .1 .1 .1 .1 .1 .1 .1 .1 .1 .1 .0)) (c .before .before .before .before .before .before .answer .given .1)) ∙ e in
-    let t = ap refusedText (c .before .before .before .numbers .ensures) ∙ refuses (a .width) (a .height) (a .types .now) (a .muls .now) (a .bw) (a .bh) (h .0) (h .1) (v .last .1 .1 .1 .1 .1 .1 .1 .1 .1 .0) (v .last .1 .1 .1 .1 .1 .1 .1 .1 .1 .1 .0) (v .last .1 .1 .1 .1 .1 .1 .1 .1 .1 .1 .1 .0) _ f in
+    let t = ap refusedText (c .before .before .before .numbers .ensures) ∙ refuses (a .width) (a .height) (a .types .now) (a .muls .now) (a .bw) (a .bh) (h .0) (h .1) (v .last .1 .1 .1 .1 .1 .1 .1 .1 .1 .0) (v .last .1 .1 .1 .1 .1 .1 .1 .1 .1 .1 .0) (v .last .1 .1 .1 .1 .1 .1 .1 .1 .1 .1 .1 .0) (c .before .before .before .before .before .before .answer .given .0 .0) f in
     subst (λ (s : List ℕ). Puts (a .out .now) 0 s (c .before .before .put-refused .last .0) (c .before .before .put-refused .result)) t (c .before .before .put-refused .ensures)
 
 pub list-layout-spec : {M : Type 1} → statement M
