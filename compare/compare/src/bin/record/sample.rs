@@ -17,6 +17,9 @@ const MAGIC: &[u8; 8] = b"NETBUFF1";
 const MADE_BY: &str =
     "cargo run --release -p compare --bin record, in compare/; form: compare/RECORD.md";
 const SEED: u64 = 18_181;
+/// Limits of what is lent to a recorded coefficient call: blocks, and entries of the cluster map.
+const GROUP_MOST: usize = 64;
+const ENTRIES_MOST: usize = 65_536;
 
 pub fn file() -> Vec<u8> {
     let mut file = File {
@@ -64,8 +67,8 @@ fn orders() -> [OrdersAndStore; 3] {
     lists.map(|(used, symbols)| OrdersAndStore::new(used, symbols, patterned(MAP_MOST)))
 }
 
-/// Lends buffers that need not be written out; a store that is longer than it should be is not
-/// recorded.
+/// Lends buffers that need not be written out. Large calls, and a store that is longer than it
+/// should be, are not recorded.
 fn pattern_buffers(input: &mut CoefficientsInput) -> bool {
     let buffers = &mut input.call.buffers;
     for grid in &mut buffers.grids {
@@ -76,7 +79,9 @@ fn pattern_buffers(input: &mut CoefficientsInput) -> bool {
     let used = contexts.lengths.iter().map(|&length| length as usize + 1);
     let used_map = used.fold(39, usize::saturating_mul).min(contexts.map.len());
     contexts.map[used_map..].fill(0);
-    input.call.store.len() <= STORE_LENGTH
+    let call = &input.call;
+    let small = call.group.kinds.len() <= GROUP_MOST && call.cluster_map.len() <= ENTRIES_MOST;
+    small && call.store.len() <= STORE_LENGTH
 }
 
 /// How many inputs are tried, how many are recorded for each answer, and how large a record may be.
