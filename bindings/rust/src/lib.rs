@@ -2,10 +2,12 @@
 //! JPEG XL scan. What each call means, the lengths that fit and the refusals stand in
 //! `include/netbuff.h` and in document 01.
 
+mod layout;
 mod reader;
 mod sys;
 mod transform;
 
+pub use layout::{column_count, layout, ColumnCount, Filter, LayoutInput, LayoutOutput, LfGroup};
 pub use reader::{read_bits, read_u32, unpack_signed, Choice, Place, Read};
 pub use transform::{transform, Transform};
 

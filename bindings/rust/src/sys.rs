@@ -36,4 +36,45 @@ extern "C" {
     ) -> u32;
 
     pub fn netbuff_unpack_signed(u: u32) -> i32;
+
+    pub fn netbuff_column_count(
+        bytes: *const u8,
+        bytes_length: usize,
+        width: u32,
+        height: u32,
+        mode0: u32,
+        mode1: u32,
+        mode2: u32,
+        count: &mut u32,
+        bits: &mut usize,
+        x: &mut usize,
+        y: &mut usize,
+    ) -> u32;
+
+    pub fn netbuff_layout(
+        width: u32,
+        height: u32,
+        mode0: u32,
+        mode1: u32,
+        mode2: u32,
+        types: *const i32,
+        types_length: usize,
+        muls: *const i32,
+        muls_length: usize,
+        sharpness: *const i32,
+        sharpness_length: usize,
+        filter_on: bool,
+        multiplier: f32,
+        lookup: &[f32; 8],
+        scale: u32,
+        kinds: *mut u8,
+        kinds_length: usize,
+        hf_mul: *mut i32,
+        hf_mul_length: usize,
+        sigma: *mut f32,
+        sigma_length: usize,
+        used: &mut usize,
+        x: &mut usize,
+        y: &mut usize,
+    ) -> u32;
 }

@@ -26,7 +26,8 @@ pub use contexts::ContextsCase;
 pub use cut::CutCase;
 pub use layout::LayoutCase;
 pub use orders::OrdersCase;
-pub use reader::{ReadKind, ReaderCase, ReaderInput};
+pub use placing::fill;
+pub use reader::ReaderCase;
 pub use signed::SignedCase;
 pub use transform::TransformCase;
 

@@ -1,7 +1,6 @@
 //! Netbuff's answers, through its safe wrapper, in the words of the comparison.
 
-use calls::{Outcome, Refusal, Transform};
-use compare::cases::{ReadKind, ReaderInput};
+use calls::{Outcome, ReadCall, ReadKind, Refusal, Transform};
 use netbuff::{Choice, Place};
 
 fn answer<T>(result: netbuff::Result<T>) -> calls::Answer<T> {
@@ -29,7 +28,7 @@ pub fn signed(&u: &u32) -> Outcome<i32, ()> {
     plain(Ok(netbuff::unpack_signed(u)))
 }
 
-pub fn read(input: &ReaderInput) -> Outcome<(u32, usize), ()> {
+pub fn read(input: &ReadCall) -> Outcome<(u32, usize), ()> {
     let at = Place {
         byte: input.byte,
         bit: input.bit,
