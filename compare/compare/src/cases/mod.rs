@@ -20,7 +20,7 @@ use calls::Outcome;
 use crate::rng::Rng;
 
 pub use alike::AlikeCase;
-pub use coefficients::{CoefficientsCase, CoefficientsInput, MAP_MOST};
+pub use coefficients::{symbol_stream, CoefficientsCase, CoefficientsInput, MAP_MOST};
 pub use column_count::ColumnCountCase;
 pub use contexts::ContextsCase;
 pub use cut::CutCase;

@@ -10,6 +10,7 @@ const ENTRIES: usize = 3 * 15 * paper::ENTRIES_PER_CLUSTER;
 pub fn rows() -> Vec<Row> {
     let orders = orders_with_map(|place| place as u8);
     let zeros = [vec![33], vec![0; 31]].concat();
+    let leftover = [vec![1], vec![0; 65]].concat();
     let one = |transform, symbols: &[u32]| one_varblock(&orders, transform, symbols);
     let calls = [
         ("15: none", one(0, &[]), "refused 15 0 0"),
@@ -19,6 +20,12 @@ pub fn rows() -> Vec<Row> {
             one(0, &zeros),
             "refused 17 32 0",
         ),
+        (
+            "a leftover count: 1, then 63 zeros",
+            one(0, &leftover),
+            "read 66",
+        ),
+        ("surplus symbols", one(0, &[0, 0, 0, 9]), "read 3"),
         (
             "14: presets 0",
             with_presets(&orders, 0, 0),
@@ -44,7 +51,26 @@ pub fn rows() -> Vec<Row> {
     let rows = calls
         .into_iter()
         .map(|(example, call, said)| row(example, answer(call), said));
-    rows.chain(m11(&orders)).collect()
+    rows.chain(m11(&orders)).chain(sums(&orders)).collect()
+}
+
+/// What the first place behind the corner, cell (1,0) of a Dct8 that turns, holds in the end.
+fn sums(orders: &OrdersAndStore) -> [Row; 2] {
+    let sum = |start, symbol, shift| {
+        let mut call = one_varblock(orders, 0, &[1, symbol, 0, 0]);
+        call.buffers.grids[1][8] = start;
+        call.shift = shift;
+        let buffers = expected::coefficients(&call, &orders.orders).buffers;
+        buffers.grids[1][8].to_string()
+    };
+    [
+        row(
+            "2^31 - 1 gains 1",
+            sum(i32::MAX, 2, 0),
+            i32::MIN.to_string(),
+        ),
+        row("symbol 2^32 - 2, shift 1", sum(0, u32::MAX - 1, 1), "-2"),
+    ]
 }
 
 fn m11(orders: &OrdersAndStore) -> [Row; 2] {

@@ -32,6 +32,11 @@ fn layouts() -> Vec<Row> {
         ),
         ("5: type 27", one((27, 0)), "refused 5 0 0"),
         ("type 256", one((256, 0)), "used 1: [2] [1]"),
+        (
+            "surplus columns",
+            make::layout(8, 8, &[(0, 0), (99, -7)]),
+            "used 1: [2] [1]",
+        ),
         ("6, M5: mul -1", one((0, -1)), "refused 6 0 0"),
         ("M5: mul 0", one((0, 0)), "used 1: [2] [1]"),
         ("6: the largest mul", one((0, i32::MAX)), "refused 6 0 0"),

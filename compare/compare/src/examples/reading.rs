@@ -19,6 +19,16 @@ pub fn rows() -> Vec<Row> {
             "refused 12 0 0",
         ),
         row(
+            "12: bsize 72",
+            contexts(&bsize_72(), 1, &[0; 39 * 72]),
+            "refused 12 0 0",
+        ),
+        row(
+            "12: 17 clusters",
+            contexts(&no_lists, 17, &[0; 39]),
+            "refused 12 0 0",
+        ),
+        row(
             "bits end in the fourth length",
             contexts(&[0, 0], 15, &[0; 39]),
             "refused 3 13 0",
@@ -30,6 +40,19 @@ pub fn rows() -> Vec<Row> {
         ),
         row("column count, no bytes", columns(&[]), "refused 3 0 0"),
     ]
+}
+
+/// LF lists of 2, 2 and 1 thresholds and a qf list of 3, all 0: the fewest bits above bsize 64.
+fn bsize_72() -> Vec<u8> {
+    let lists = [(2, 6), (2, 6), (1, 6), (3, 4)];
+    let put = |bits: Bits, (length, value_bits)| {
+        let values = length as usize * value_bits;
+        bits.put(length, 4).put(0, values)
+    };
+    lists
+        .into_iter()
+        .fold(Bits::default().put(0, 1), put)
+        .bytes()
 }
 
 fn contexts(bytes: &[u8], count: u32, map: &[u8]) -> String {
