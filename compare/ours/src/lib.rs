@@ -1,9 +1,12 @@
 //! Netbuff's answers, through its safe wrapper, in the words of the comparison.
 
-use calls::{Outcome, ReadCall, ReadKind, Refusal, Transform};
-use netbuff::{Choice, Place};
+use calls::{
+    Answer, ColumnCount, ColumnCountCall, LayoutBuffers, LayoutCall, Outcome, ReadCall, ReadKind,
+    Refusal, Transform,
+};
+use netbuff::{Choice, Filter, LayoutInput, LayoutOutput, LfGroup, Place};
 
-fn answer<T>(result: netbuff::Result<T>) -> calls::Answer<T> {
+fn answer<T>(result: netbuff::Result<T>) -> Answer<T> {
     result.map_err(|netbuff::Refusal { number, x, y }| Refusal { number, x, y })
 }
 
@@ -41,4 +44,49 @@ pub fn read(input: &ReadCall) -> Outcome<(u32, usize), ()> {
         }
     };
     plain(read.map(|read| (read.value, 8 * read.next.byte + read.next.bit as usize)))
+}
+
+pub fn column_count(call: &ColumnCountCall) -> Outcome<ColumnCount, ()> {
+    let group = LfGroup {
+        width: call.width,
+        height: call.height,
+        modes: call.modes,
+    };
+    plain(
+        netbuff::column_count(&call.bytes, group).map(|read| ColumnCount {
+            count: read.count,
+            bits_read: read.bits_read,
+        }),
+    )
+}
+
+pub fn layout(call: &LayoutCall) -> Outcome<usize, LayoutBuffers> {
+    let mut buffers = call.buffers.clone();
+    Outcome {
+        answer: layout_into(call, &mut buffers),
+        buffers,
+    }
+}
+
+/// The layout call on other buffers than its own.
+pub fn layout_into(call: &LayoutCall, buffers: &mut LayoutBuffers) -> Answer<usize> {
+    let input = LayoutInput {
+        group: LfGroup {
+            width: call.width,
+            height: call.height,
+            modes: call.modes,
+        },
+        types: &call.types,
+        muls: &call.muls,
+        sharpness: &call.sharpness,
+        filter: call.filter.map_or(Filter::Off, Filter::On),
+        lookup: &call.lookup,
+        scale: call.scale,
+    };
+    let output = LayoutOutput {
+        kinds: &mut buffers.kinds,
+        hf_mul: &mut buffers.hf_mul,
+        sigma: &mut buffers.sigma,
+    };
+    answer(netbuff::layout(input, output))
 }
