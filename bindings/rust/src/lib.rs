@@ -3,11 +3,13 @@
 //! `include/netbuff.h` and in document 01.
 
 mod layout;
+mod orders;
 mod reader;
 mod sys;
 mod transform;
 
 pub use layout::{column_count, layout, ColumnCount, Filter, LayoutInput, LayoutOutput, LfGroup};
+pub use orders::{orders, STORE_LENGTH};
 pub use reader::{read_bits, read_u32, unpack_signed, Choice, Place, Read};
 pub use transform::{transform, Transform};
 

@@ -77,4 +77,16 @@ extern "C" {
         x: &mut usize,
         y: &mut usize,
     ) -> u32;
+
+    pub fn netbuff_orders(
+        bytes: *const u8,
+        bytes_length: usize,
+        symbols: *const u32,
+        symbols_length: usize,
+        store: *mut u16,
+        store_length: usize,
+        symbols_read: &mut usize,
+        x: &mut usize,
+        y: &mut usize,
+    ) -> u32;
 }

@@ -1,8 +1,8 @@
 //! Netbuff's answers, through its safe wrapper, in the words of the comparison.
 
 use calls::{
-    Answer, ColumnCount, ColumnCountCall, LayoutBuffers, LayoutCall, Outcome, ReadCall, ReadKind,
-    Refusal, Transform,
+    Answer, ColumnCount, ColumnCountCall, LayoutBuffers, LayoutCall, OrdersCall, Outcome, ReadCall,
+    ReadKind, Refusal, Store, Transform,
 };
 use netbuff::{Choice, Filter, LayoutInput, LayoutOutput, LfGroup, Place};
 
@@ -89,4 +89,17 @@ pub fn layout_into(call: &LayoutCall, buffers: &mut LayoutBuffers) -> Answer<usi
         sigma: &mut buffers.sigma,
     };
     answer(netbuff::layout(input, output))
+}
+
+pub fn orders(call: &OrdersCall) -> Outcome<usize, Store> {
+    let mut store = call.store.clone();
+    Outcome {
+        answer: orders_into(call, &mut store),
+        buffers: store,
+    }
+}
+
+/// The order call on another store than its own.
+pub fn orders_into(call: &OrdersCall, store: &mut Store) -> Answer<usize> {
+    answer(netbuff::orders(&call.bytes, &call.symbols, store))
 }
