@@ -46,8 +46,8 @@ pub fn group(call: &LayoutCall) -> Layout {
     let outcome = expected::layout(call);
     assert!(outcome.answer.is_ok(), "{:?}", outcome.answer);
     Layout {
-        wide: bw as u32,
-        high: bh as u32,
+        wide: bw,
+        high: bh,
         kinds: outcome.buffers.kinds,
         hf_mul: outcome.buffers.hf_mul,
     }

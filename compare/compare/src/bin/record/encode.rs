@@ -59,14 +59,15 @@ fn layout_buffers(
     sigma(body, &bits);
 }
 
-pub fn cut(body: &mut Body, call: &CutCall, outcome: &Outcome<(u32, u32), GroupBuffers>) {
+pub fn cut(body: &mut Body, call: &CutCall, outcome: &Outcome<(usize, usize), GroupBuffers>) {
     lent_layout(body, &call.layout);
     body.size(call.group);
     body.lent(&call.kinds);
     body.lent(&call.hf_mul);
     body.answer(&outcome.answer);
     let (wide, high) = outcome.answer.unwrap_or((0, 0));
-    body.numbers([wide, high]);
+    body.size(wide);
+    body.size(high);
     body.left(&outcome.buffers.0);
     body.left(&outcome.buffers.1);
 }
@@ -79,7 +80,8 @@ pub fn alike(body: &mut Body, call: &AlikeCall, outcome: &Outcome<bool, ()>) {
 }
 
 fn lent_layout(body: &mut Body, layout: &Layout) {
-    body.numbers([layout.wide, layout.high]);
+    body.size(layout.wide);
+    body.size(layout.high);
     body.lent(&layout.kinds);
     body.lent(&layout.hf_mul);
 }

@@ -2,7 +2,7 @@
 
 use std::collections::BTreeMap;
 
-use calls::{Outcome, STORE_LENGTH};
+use calls::{Layout, Outcome, STORE_LENGTH};
 use compare::cases::{
     AlikeCase, Case, CoefficientsCase, CoefficientsInput, ColumnCountCase, ContextsCase, CutCase,
     LayoutCase, OrdersCase, TransformCase, MAP_MOST,
@@ -38,8 +38,12 @@ pub fn file() -> Vec<u8> {
     file.sample(2, &ColumnCountCase, encode::column_count, all, |_| true);
     let small = quota(10_000, 10, 800);
     file.sample(3, &LayoutCase, encode::layout, small, |_| true);
-    file.sample(4, &CutCase, encode::cut, small, |call| call.group < 100);
-    file.sample(5, &AlikeCase, encode::alike, small, |_| true);
+    file.sample(4, &CutCase, encode::cut, small, |call| {
+        sides_recorded(&call.layout) && call.group < 100
+    });
+    file.sample(5, &AlikeCase, encode::alike, small, |call| {
+        sides_recorded(&call.left) && sides_recorded(&call.right)
+    });
     file.sample(6, &ContextsCase, encode::contexts, small, |_| true);
     let few = quota(1000, 8, 2400);
     file.sample(7, &OrdersCase, encode::orders, few, |call| {
@@ -81,7 +85,14 @@ fn pattern_buffers(input: &mut CoefficientsInput) -> bool {
     contexts.map[used_map..].fill(0);
     let call = &input.call;
     let small = call.group.kinds.len() <= GROUP_MOST && call.cluster_map.len() <= ENTRIES_MOST;
-    small && call.store.len() <= STORE_LENGTH
+    small && sides_recorded(&call.group) && call.store.len() <= STORE_LENGTH
+}
+
+/// Sides that are numbers of 32 bits.
+fn sides_recorded(layout: &Layout) -> bool {
+    [layout.wide, layout.high]
+        .iter()
+        .all(|&side| side <= u32::MAX as usize)
 }
 
 /// How many inputs are tried, how many are recorded for each answer, and how large a record may be.
