@@ -3,3 +3,5 @@ pub mod Calls
 pub mod Laws
 pub mod Sizes
 pub mod Loops
+pub mod CutSteps
+pub mod LikeSteps
