@@ -1,1 +1,1 @@
-// hf_pass_store
+// The store of the orders: a list looked up, and the check of stored places.

@@ -38,7 +38,7 @@ module _ (f : ℕ → Place) where
   map-chosen [] l b = refl
   map-chosen (d ∷ ds) l b =
       ap₂ (λ (p : Place) (r : List Place). p ∷ r) (sym (map-at l d (b .0)))
-      (map-chosen (0, 0) ds (without d l) (rw (without-length d l (b .0)) (b .1)) ∙ ap (chosen (0, 0) ds) (map-without l d))
+      (map-chosen ds (without d l) (rw (without-length d l (b .0)) (b .1)) ∙ ap (chosen (0, 0) ds) (map-without l d))
 
 map-upto : (l : List Place) (n o : ℕ) → o + n ≤ length l → map (λ (i : ℕ). getD l i (0, 0)) (upto n o) ≡ take n (drop o l)
 map-upto l zero o h = refl
