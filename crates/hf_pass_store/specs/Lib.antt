@@ -4,3 +4,4 @@ pub mod Offsets
 pub mod Powers
 pub mod LookedUp
 pub mod Checking
+pub mod Naturals
