@@ -1,6 +1,6 @@
 -- the order call, and what an accepted one hands on
 pub mod Reading
-pub mod Written
+pub mod Call
 pub mod Read
 pub mod Accepted
 pub mod Accepts
@@ -8,3 +8,5 @@ pub mod Facts
 pub mod Stretch
 pub mod Fits
 pub mod Marked
+pub mod Lists
+pub mod Progress
