@@ -10,3 +10,4 @@ pub mod Fits
 pub mod Marked
 pub mod Lists
 pub mod Progress
+pub mod Parsing
