@@ -7,6 +7,7 @@ pub mod Accepts
 pub mod Facts
 pub mod Stretch
 pub mod Fits
+pub mod Wrote
 pub mod Marked
 pub mod Lists
 pub mod Progress
