@@ -4,6 +4,7 @@ use refusal::Refusal;
 pub mod block_sizes;
 
 ghost use mathlib.Core.Path.{_≡_};
+ghost use Prim.Native.Nat.{_<_};
 ghost use Rattle.dct_select.specs.Transforms.{wide, high, orderOf, turns};
 ghost use Rattle.dct_select.specs.LookUp.{numberOf, lookUp, sizeOf};
 
@@ -50,9 +51,125 @@ pub struct Sides {
     pub high: usize,
 }
 
-const WIDE: [usize; 27] = [1, 1, 1, 1, 2, 4, 1, 2, 1, 4, 2, 4, 1, 1, 1, 1, 1, 1, 8, 4, 8, 16, 8, 16, 32, 16, 32];
-const HIGH: [usize; 27] = [1, 1, 1, 1, 2, 4, 2, 1, 4, 1, 4, 2, 1, 1, 1, 1, 1, 1, 8, 8, 4, 16, 16, 8, 32, 32, 16];
-const ORDER_ID: [usize; 27] = [0, 1, 1, 1, 2, 3, 4, 4, 5, 5, 6, 6, 1, 1, 1, 1, 1, 1, 7, 8, 8, 9, 10, 10, 11, 12, 12];
+const WIDE: [usize; 27] = [
+    1,
+    1,
+    1,
+    1,
+    2,
+    4,
+    1,
+    2,
+    1,
+    4,
+    2,
+    4,
+    1,
+    1,
+    1,
+    1,
+    1,
+    1,
+    8,
+    4,
+    8,
+    16,
+    8,
+    16,
+    32,
+    16,
+    32,
+];
+
+const HIGH: [usize; 27] = [
+    1,
+    1,
+    1,
+    1,
+    2,
+    4,
+    2,
+    1,
+    4,
+    1,
+    4,
+    2,
+    1,
+    1,
+    1,
+    1,
+    1,
+    1,
+    8,
+    8,
+    4,
+    16,
+    16,
+    8,
+    32,
+    32,
+    16,
+];
+
+const ORDER_ID: [usize; 27] = [
+    0,
+    1,
+    1,
+    1,
+    2,
+    3,
+    4,
+    4,
+    5,
+    5,
+    6,
+    6,
+    1,
+    1,
+    1,
+    1,
+    1,
+    1,
+    7,
+    8,
+    8,
+    9,
+    10,
+    10,
+    11,
+    12,
+    12,
+];
+
+const TURN: [bool; 27] = [
+    true,
+    false,
+    false,
+    false,
+    true,
+    true,
+    true,
+    false,
+    true,
+    false,
+    true,
+    false,
+    false,
+    false,
+    false,
+    false,
+    false,
+    false,
+    true,
+    true,
+    false,
+    true,
+    true,
+    false,
+    true,
+    true,
+    false,
+];
 
 impl TransformType {
     pub const COUNT: usize = 27;
@@ -94,7 +211,7 @@ impl TransformType {
     }
 
     pub fn number(self) -> usize
-        ensures { λ r. ⌜ r ≡ numberOf self ⌝ }
+        ensures { λ r. ⌜ (r ≡ numberOf self) × (r < 27) ⌝ }
     {
         match self {
             TransformType::Dct8 => 0,
@@ -149,9 +266,6 @@ impl TransformType {
         ensures { λ r. ⌜ r ≡ turns (numberOf self) ⌝ }
     {
         let t = self.number();
-        match t {
-            1..=3 | 12..=17 => false,
-            _ => WIDE[t] <= HIGH[t],
-        }
+        TURN[t]
     }
 }
