@@ -19,11 +19,11 @@ pub record Contexts : Type 0 where
   pub map : List ℕ
 
 -- how many different LF indices there are
-abbrev pub lfSize : Contexts → ℕ
+unfoldable pub lfSize : Contexts → ℕ
 lfSize C = (length (C .lf0) + 1) * (length (C .lf1) + 1) * (length (C .lf2) + 1)
 
 -- the product of the four (length + 1)
-abbrev pub bsize : Contexts → ℕ
+unfoldable pub bsize : Contexts → ℕ
 bsize C = lfSize C * (length (C .qf) + 1)
 
 -- a > b as signed numbers
@@ -39,7 +39,7 @@ abbrev pub qfIndex : Contexts → ℕ → ℕ
 qfIndex C mul = above (C .qf) mul
 
 -- of a block with LF numbers q0, q1, q2: channels in the order 0, 2, 1
-abbrev pub lfIndex : Contexts → ℕ → ℕ → ℕ → ℕ
+unfoldable pub lfIndex : Contexts → ℕ → ℕ → ℕ → ℕ
 lfIndex C q0 q1 q2 =
     (above (C .lf0) q0 * (length (C .lf2) + 1) + above (C .lf2) q2) * (length (C .lf1) + 1) + above (C .lf1) q1
 
@@ -52,7 +52,7 @@ abbrev pub WALK : List ℕ
 WALK = 1 ∷ 0 ∷ 2 ∷ []
 
 -- place in the map of the n-th channel walked (n from 0), an order, a qf index and an LF index
-abbrev pub contextIndex : Contexts → ℕ → ℕ → ℕ → ℕ → ℕ
+unfoldable pub contextIndex : Contexts → ℕ → ℕ → ℕ → ℕ → ℕ
 contextIndex C n order qf lf = ((n * 13 + order) * (length (C .qf) + 1) + qf) * lfSize C + lf
 
 abbrev pub contextAt : Contexts → ℕ → ℕ → ℕ → ℕ → ℕ

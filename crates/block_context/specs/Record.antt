@@ -28,7 +28,7 @@ lists clusters lengths lf qf map =
 abbrev pub used : HfBlockContext → Contexts
 used R = lists (R .«num_block_clusters») (R .lengths) (R .«lf_thresholds») (R .«qf_thresholds») (R .«block_ctx_map»)
 
-abbrev pub bsizeOf : List ℕ → ℕ
+unfoldable pub bsizeOf : List ℕ → ℕ
 bsizeOf lengths =
     (getD lengths 0 0 + 1) * (getD lengths 1 0 + 1) * (getD lengths 2 0 + 1) * (getD lengths 3 0 + 1)
 
