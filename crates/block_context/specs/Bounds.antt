@@ -20,7 +20,7 @@ use borrow.Author.Tests.{lt-ltb, le-ltb}
 use Rattle.laws.specs.Cases.{le-or-lt}
 use Rattle.laws.specs.Tables.{every, at-each}
 use Rattle.block_context.specs.declared.HfBlockContext.{HfBlockContext}
-use Rattle.block_context.specs.Contexts.{Contexts, lfSize, bsize, greater, above, qfIndex, lfIndex, lfIndexOf, contextIndex, contextAt, blockContext}
+use Rattle.block_context.specs.Contexts.{Contexts, sizeOf, lfSize, bsize, greater, above, qfIndex, lfIndexIn, lfIndex, lfIndexOf, placeOf, contextIndex, blockContext}
 use Rattle.block_context.specs.Record.{used, bsizeOf, qfFit, fitOf, fit}
 
 more : (b : Bool) {m n : ℕ} → m ≤ n → cond b 1 0 + m ≤ suc n
@@ -39,7 +39,7 @@ swap : (a b c : ℕ) → a * c * b ≡ a * b * c
 swap a b c = mul-assoc a c b ∙ ap (λ (n : ℕ). a * n) (mul-comm c b) ∙ sym (mul-assoc a b c)
 
 pub lf-index-lt : (C : Contexts) (q0 q1 q2 : ℕ) → lfIndex C q0 q1 q2 < lfSize C
-unfolding lfIndex lfSize
+unfolding lfIndexIn sizeOf
 lf-index-lt C q0 q1 q2 =
     subst (λ (n : ℕ). lfIndex C q0 q1 q2 < n) (swap (length (C .lf0) + 1) (length (C .lf1) + 1) (length (C .lf2) + 1))
     (digits-lt
@@ -58,7 +58,7 @@ lf-index-of-lt C false q0 q1 q2 = lf-size-pos C
 -- the index of any varblock lies in the used part of the map
 pub index-lt : (C : Contexts) (n order qf lf : ℕ) → n < 3 → order < 13 → qf < length (C .qf) + 1 → lf < lfSize C
     → contextIndex C n order qf lf < 39 * bsize C
-unfolding contextIndex bsize
+unfolding placeOf bsize
 index-lt C n order qf lf hn ho hq hl =
     subst (λ (m : ℕ). contextIndex C n order qf lf < m)
     (mul-assoc 39 (length (C .qf) + 1) (lfSize C) ∙ ap (λ (m : ℕ). 39 * m) (mul-comm (length (C .qf) + 1) (lfSize C)))
@@ -94,7 +94,10 @@ greater-signed a b ha hb =
 
 -- What a fit record keeps to.
 pub record Fit (clusters : ℕ) (lengths qf map : List ℕ) : Type 0 where
-  pub short : (k : ℕ) → getD lengths k 0 ≤ 15
+  pub short0 : getD lengths 0 0 ≤ 15
+  pub short1 : getD lengths 1 0 ≤ 15
+  pub short2 : getD lengths 2 0 ≤ 15
+  pub short3 : getD lengths 3 0 ≤ 15
   pub size : bsizeOf lengths ≤ 64
   pub some : 1 ≤ clusters
   pub few : clusters ≤ 16
@@ -107,8 +110,8 @@ each-getD rule [] d t e k = t
 each-getD rule (x ∷ xs) d t e zero = and-l (rule x) (every rule xs) e
 each-getD rule (x ∷ xs) d t e (suc k) = each-getD rule xs d t (and-r (rule x) (every rule xs) e) k
 
-six : (a b c d e f : Bool) → T (a && b && c && d && e && f) → T a × T b × T c × T d × T e × T f
-six true true true true true true t = (tt, tt, tt, tt, tt, tt)
+nine : (a b c d e f g h i : Bool) → T (a && b && c && d && e && f && g && h && i) → T a × T b × T c × T d × T e × T f × T g × T h × T i
+nine true true true true true true true true true t = (tt, tt, tt, tt, tt, tt, tt, tt, tt)
 
 value : (v : ℕ) → T (qfFit v) → (1 ≤ v) × (v ≤ 300)
 value v t = (leb→le 1 v (and-l (leb 1 v) (leb v 300) t), leb→le v 300 (and-r (leb 1 v) (leb v 300) t))
@@ -120,28 +123,31 @@ module _ (clusters : ℕ) (lengths qf map : List ℕ) where
   pub fits : fitOf clusters lengths qf map ≡ true → Fit clusters lengths qf map
   unfolding fitOf
   fits e =
-      let n = getD lengths 3 0 in
+      let len : ℕ → ℕ = λ (k : ℕ). getD lengths k 0 in
       let m = 39 * bsizeOf lengths in
       let below : ℕ → Bool = λ (b : ℕ). ltb b clusters in
       let t =
-          six (every (λ (n : ℕ). leb n 15) lengths) (leb (bsizeOf lengths) 64) (leb 1 clusters) (leb clusters 16)
-          (every qfFit (take n qf)) (every below (take m map)) (subst T (sym e) tt)
+          nine (leb (len 0) 15) (leb (len 1) 15) (leb (len 2) 15) (leb (len 3) 15) (leb (bsizeOf lengths) 64) (leb 1 clusters)
+          (leb clusters 16) (every qfFit (take (len 3) qf)) (every below (take m map)) (subst T (sym e) tt)
       in
-      let some : 1 ≤ clusters = leb→le 1 clusters (t .2) in
+      let some : 1 ≤ clusters = leb→le 1 clusters (t .5) in
       record {
-        short = λ k. leb→le (getD lengths k 0) 15 (each-getD (λ (n : ℕ). leb n 15) lengths 0 tt (t .0) k);
-        size = leb→le (bsizeOf lengths) 64 (t .1);
+        short0 = leb→le (len 0) 15 (t .0);
+        short1 = leb→le (len 1) 15 (t .1);
+        short2 = leb→le (len 2) 15 (t .2);
+        short3 = leb→le (len 3) 15 (t .3);
+        size = leb→le (bsizeOf lengths) 64 (t .4);
         some = some;
-        few = leb→le clusters 16 (t .3);
-        values = λ k h. value (getD qf k 0) (rw (getD-take n qf k 0 (shorter n qf k h)) at (at-each qfFit (take n qf) (t .4) 0 k h));
-        bytes = λ k h. rw (← getD-take m map k 0 h) (ltb→lt (getD (take m map) k 0) clusters (each-getD below (take m map) 0 (lt→ltb 0 clusters some) (t .5) k));
+        few = leb→le clusters 16 (t .6);
+        values = λ k h. value (getD qf k 0) (rw (getD-take (len 3) qf k 0 (shorter (len 3) qf k h)) at (at-each qfFit (take (len 3) qf) (t .7) 0 k h));
+        bytes = λ k h. rw (← getD-take m map k 0 h) (ltb→lt (getD (take m map) k 0) clusters (each-getD below (take m map) 0 (lt→ltb 0 clusters some) (t .8) k));
       }
 
 take-le : (n : ℕ) (xs : List ℕ) → length (take n xs) + 1 ≤ n + 1
 take-le n xs = omega (arith, length-take n xs)
 
 used-size-le : (R : HfBlockContext) → bsize (used R) ≤ bsizeOf (R .lengths)
-unfolding bsize lfSize bsizeOf
+unfolding bsize sizeOf bsizeOf
 used-size-le R =
     mul-le-mul
     (mul-le-mul (mul-le-mul (take-le _ (R .«lf_thresholds»)) (take-le _ (drop 15 (R .«lf_thresholds»)))) (take-le _ (drop 30 (R .«lf_thresholds»))))

@@ -18,9 +18,12 @@ pub record Contexts : Type 0 where
   -- block context of each index
   pub map : List ℕ
 
--- how many different LF indices there are
-unfoldable pub lfSize : Contexts → ℕ
-lfSize C = (length (C .lf0) + 1) * (length (C .lf1) + 1) * (length (C .lf2) + 1)
+-- the product of the three (length + 1), the number of LF indices
+unfoldable pub sizeOf : List ℕ → List ℕ → List ℕ → ℕ
+sizeOf t0 t1 t2 = (length t0 + 1) * (length t1 + 1) * (length t2 + 1)
+
+abbrev pub lfSize : Contexts → ℕ
+lfSize C = sizeOf (C .lf0) (C .lf1) (C .lf2)
 
 -- the product of the four (length + 1)
 unfoldable pub bsize : Contexts → ℕ
@@ -30,18 +33,21 @@ bsize C = lfSize C * (length (C .qf) + 1)
 abbrev pub greater : ℕ → ℕ → Bool
 greater a b = ltb ((b + 2 ^ 31) % 2 ^ 32) ((a + 2 ^ 31) % 2 ^ 32)
 
--- how many thresholds lie below q
+-- how many thresholds q is greater than
 unfoldable pub above : List ℕ → ℕ → ℕ
 above [] q = 0
 above (t ∷ ts) q = cond (greater q t) 1 0 + above ts q
 
+-- of hf_mul
 abbrev pub qfIndex : Contexts → ℕ → ℕ
 qfIndex C mul = above (C .qf) mul
 
--- of a block with LF numbers q0, q1, q2: channels in the order 0, 2, 1
-unfoldable pub lfIndex : Contexts → ℕ → ℕ → ℕ → ℕ
-lfIndex C q0 q1 q2 =
-    (above (C .lf0) q0 * (length (C .lf2) + 1) + above (C .lf2) q2) * (length (C .lf1) + 1) + above (C .lf1) q1
+-- LF numbers q0, q1, q2 against lists t0, t1, t2: channels in the order 0, 2, 1
+unfoldable pub lfIndexIn : List ℕ → List ℕ → List ℕ → ℕ → ℕ → ℕ → ℕ
+lfIndexIn t0 t1 t2 q0 q1 q2 = (above t0 q0 * (length t2 + 1) + above t2 q2) * (length t1 + 1) + above t1 q1
+
+abbrev pub lfIndex : Contexts → ℕ → ℕ → ℕ → ℕ
+lfIndex C = lfIndexIn (C .lf0) (C .lf1) (C .lf2)
 
 -- 0 where there are no LF grids
 abbrev pub lfIndexOf : Contexts → Bool → ℕ → ℕ → ℕ → ℕ
@@ -51,9 +57,12 @@ lfIndexOf C there q0 q1 q2 = cond there (lfIndex C q0 q1 q2) 0
 abbrev pub WALK : List ℕ
 WALK = 1 ∷ 0 ∷ 2 ∷ []
 
--- place in the map of the n-th channel walked (n from 0), an order, a qf index and an LF index
-unfoldable pub contextIndex : Contexts → ℕ → ℕ → ℕ → ℕ → ℕ
-contextIndex C n order qf lf = ((n * 13 + order) * (length (C .qf) + 1) + qf) * lfSize C + lf
+-- place in the map: n-th channel walked (from 0), order, qf index of so many, LF index of so many
+unfoldable pub placeOf : ℕ → ℕ → ℕ → ℕ → ℕ → ℕ → ℕ
+placeOf qfs lfs n order qf lf = ((n * 13 + order) * qfs + qf) * lfs + lf
+
+abbrev pub contextIndex : Contexts → ℕ → ℕ → ℕ → ℕ → ℕ
+contextIndex C = placeOf (length (C .qf) + 1) (lfSize C)
 
 abbrev pub contextAt : Contexts → ℕ → ℕ → ℕ → ℕ → ℕ
 contextAt C n order qf lf = getD (C .map) (contextIndex C n order qf lf) 0

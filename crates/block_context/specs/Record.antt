@@ -39,7 +39,10 @@ qfFit v = leb 1 v && leb v 300
 -- Not refused with 12. Places behind a list's length, and map bytes from 39 × bsize on, are not looked at.
 unfoldable pub fitOf : ℕ → List ℕ → List ℕ → List ℕ → Bool
 fitOf clusters lengths qf map =
-    every (λ (n : ℕ). leb n 15) lengths
+    leb (getD lengths 0 0) 15
+    && leb (getD lengths 1 0) 15
+    && leb (getD lengths 2 0) 15
+    && leb (getD lengths 3 0) 15
     && leb (bsizeOf lengths) 64
     && leb 1 clusters
     && leb clusters 16
