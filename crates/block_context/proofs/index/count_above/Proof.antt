@@ -1,6 +1,7 @@
 use mathlib.Core.Bool.{cond}
 use Rattle.block_context.specs.Contexts.{above, greater}
-use Rattle.block_context.specs.Laws.{above-step, above-end, one-at-most}
+use Rattle.block_context.specs.Laws.{above-step, above-end, one-at-most, take-min}
+use mathlib.Core.List.{List}
 use borrow.Author.Needs.{needs}
 use native.Mathlib.Omega.{arith}
 use mathlib.Core.Path.{_≡_, _∙_, ap, sym}
@@ -79,7 +80,8 @@ returns c =
     let whole : l .count ≡ above (take e (drop (a .first) (a .thresholds .now))) (a .q) =
         omega (arith, above-end (a .thresholds .now) (a .first) e (a .q) (omega arith) (l .k) (omega arith))
     in
-    (whole ∙ ap (λ (n : ℕ). above (take n (drop (a .first) (a .thresholds .now))) (a .q)) (c .before .before .used .ensures), omega arith)
+    (whole ∙ ap (λ (n : ℕ). above (take n (drop (a .first) (a .thresholds .now))) (a .q)) (c .before .before .used .ensures)
+     ∙ ap (λ (t : List ℕ). above t (a .q)) (take-min (a .n) 15 (drop (a .first) (a .thresholds .now))), omega arith)
 
 pub count-above-spec : {M : Type 1} → statement M
 count-above-spec =
