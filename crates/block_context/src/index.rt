@@ -1,4 +1,6 @@
 // The block contexts of a varblock (`write_hf_coeff` of `hf_coeff.rs`).
+use super::sizes::lf_size;
+use super::sizes::used;
 ghost use mathlib.Core.Path.{_≡_};
 ghost use mathlib.Core.Bool.{cond};
 ghost use Prim.Native.Nat.{min, _+_, _*_, _≤_, _<_};
@@ -14,16 +16,6 @@ fn one_if_greater(a: u32, b: u32) -> usize
         return 1;
     }
     0
-}
-
-// Places in use of 15.
-fn used(n: u32) -> usize
-    ensures { λ r. ⌜ r ≡ min n 15 ⌝ }
-{
-    if n < 15 {
-        return n as usize;
-    }
-    15
 }
 
 // How many of the first n of the 15 thresholds from first on q is greater than.
@@ -59,16 +51,6 @@ fn lf_index(lf_thresholds: &[u32], lengths: [u32; 4], q0: u32, q1: u32, q2: u32)
     let size2 = used(lengths[2]) + 1;
     let size1 = used(lengths[1]) + 1;
     (i0 * size2 + i2) * size1 + i1
-}
-
-// The number of LF indices.
-fn lf_size(lengths: [u32; 4]) -> usize
-    ensures { λ r. ⌜ (r ≡ (min (getD lengths 0 0) 15 + 1) * (min (getD lengths 1 0) 15 + 1) * (min (getD lengths 2 0) 15 + 1)) × (1 ≤ r) × (r ≤ 4096) ⌝ }
-{
-    let size0 = used(lengths[0]) + 1;
-    let size1 = used(lengths[1]) + 1;
-    let size2 = used(lengths[2]) + 1;
-    size0 * size1 * size2
 }
 
 fn wide(x: u8) -> usize

@@ -13,7 +13,7 @@ use Rattle.block_context.proofs.index.count_above.Tie as tie
 use Rattle.block_context.proofs.index.count_above.Reads as reads
 use Rattle.block_context.proofs.index.count_above.Lts as lts
 use Rattle.block_context.proofs.index.one_if_greater.Reads as one-if-greater-reads
-use Rattle.block_context.proofs.index.used.Reads as used-reads
+use Rattle.block_context.proofs.sizes.used.Reads as used-reads
 
 abbrev Inv-loop : tie.InvT-loop
 Inv-loop thresholds first n q end count₀ k₀ count k =

@@ -10,7 +10,7 @@ use Rattle.block_context.proofs.index.lf_index.Tie as tie
 use Rattle.block_context.proofs.index.lf_index.Reads as reads
 use Rattle.block_context.proofs.index.lf_index.Lts as lts
 use Rattle.block_context.proofs.index.count_above.Reads as count-above-reads
-use Rattle.block_context.proofs.index.used.Reads as used-reads
+use Rattle.block_context.proofs.sizes.used.Reads as used-reads
 
 -- src/index.rt:54:49
 array-read-count-above : tie.Need-array-read-count-above

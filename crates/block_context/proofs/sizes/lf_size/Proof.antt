@@ -5,11 +5,11 @@ use mathlib.Core.Path.{_≡_, _∙_, ap, sym}
 use mathlib.Core.List.{_++_}
 use Prim.Native.Nat.{ℕ, _≤_, _<_, _-_, _+_, _*_}
 use lib.ListN.{length, getD, take, drop, set, length-set}
-use Rattle.block_context.proofs.index.lf_size.Statement.{statement}
-use Rattle.block_context.proofs.index.lf_size.Tie as tie
-use Rattle.block_context.proofs.index.lf_size.Reads as reads
-use Rattle.block_context.proofs.index.lf_size.Lts as lts
-use Rattle.block_context.proofs.index.used.Reads as used-reads
+use Rattle.block_context.proofs.sizes.lf_size.Statement.{statement}
+use Rattle.block_context.proofs.sizes.lf_size.Tie as tie
+use Rattle.block_context.proofs.sizes.lf_size.Reads as reads
+use Rattle.block_context.proofs.sizes.lf_size.Lts as lts
+use Rattle.block_context.proofs.sizes.used.Reads as used-reads
 
 -- src/index.rt:66:22
 array-read-used : tie.Need-array-read-used
