@@ -1,4 +1,6 @@
 // The context call (`HfBlockContext::parse` of `lf.rs`).
+mod thresholds;
+
 use block_context::HfBlockContext;
 use refusal::Refusal;
 
