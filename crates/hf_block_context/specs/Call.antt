@@ -21,16 +21,20 @@ pad n l = l ++ replicate (n - length l) 0
 abbrev pub lengthsOf : Lists → List ℕ
 lengthsOf l = length (l .lf0) ∷ length (l .lf1) ∷ length (l .lf2) ∷ length (l .qf) ∷ []
 
+abbrev pub recordOf : ℕ → List ℕ → List ℕ → List ℕ → List ℕ → HfBlockContext
+recordOf count lengths lf qf map =
+    record {
+      «num_block_clusters» = count;
+      lengths = lengths;
+      «lf_thresholds» = lf;
+      «qf_thresholds» = qf;
+      «block_ctx_map» = map;
+    }
+
 -- the record of a count, lists and a map
 unfoldable pub stored : ℕ → Lists → List ℕ → HfBlockContext
 stored count l map =
-    record {
-      «num_block_clusters» = count;
-      lengths = lengthsOf l;
-      «lf_thresholds» = pad 15 (l .lf0) ++ (pad 15 (l .lf1) ++ pad 15 (l .lf2));
-      «qf_thresholds» = pad 15 (l .qf);
-      «block_ctx_map» = pad 2496 map;
-    }
+    recordOf count (lengthsOf l) (pad 15 (l .lf0) ++ (pad 15 (l .lf1) ++ pad 15 (l .lf2))) (pad 15 (l .qf)) (pad 2496 map)
 
 abbrev pub noLists : Lists
 noLists = listsOf [] [] [] []

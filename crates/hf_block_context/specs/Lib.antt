@@ -5,3 +5,5 @@ pub mod Steps
 pub mod Reads
 pub mod StepLaws
 pub mod Halfway
+pub mod ListLaws
+pub mod Copies
