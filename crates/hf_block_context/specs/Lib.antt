@@ -7,3 +7,4 @@ pub mod StepLaws
 pub mod Halfway
 pub mod ListLaws
 pub mod Copies
+pub mod CallLaws
