@@ -8,3 +8,4 @@ pub mod Halfway
 pub mod ListLaws
 pub mod Copies
 pub mod CallLaws
+pub mod Accepted
