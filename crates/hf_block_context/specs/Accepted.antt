@@ -1,8 +1,8 @@
 -- Every record that the context call accepts is fit.
 use mathlib.Core.Path.{_≡_, refl, ap, sym, _∙_, subst}
-use mathlib.Core.Bool.{Bool, true, false, _&&_, cond}
-use mathlib.Core.List.{List, [], _∷_, _++_}
-use Prim.Native.Nat.{ℕ, zero, suc, _+_, _*_, _-_, _≤_, _<_}
+use mathlib.Core.Bool.{Bool, true, false, cond}
+use mathlib.Core.List.{List, [], _∷_}
+use Prim.Native.Nat.{ℕ, zero, suc, _*_, _-_, _≤_}
 use native.Mathlib.Omega.{arith}
 use lib.Dec.{T, eqb, leb, le→leb}
 use lib.Ieee.Fits.{and-i}
@@ -11,14 +11,13 @@ use lib.Seq.{take-append-seam}
 use borrow.Author.Tests.{leb-true, eqb-true}
 use Rattle.laws.specs.Tables.{every}
 use Rattle.refusal.specs.declared.Refusal.{Refusal}
-use Rattle.refusal.specs.declared.Refusal.the-variants.{Length, BitsEnd, Context}
+use Rattle.refusal.specs.declared.Refusal.the-variants.{Length, Context}
 use Rattle.bits.specs.Bits.{Read, Value, Ended, readBits}
 use Rattle.bits.specs.Numbers.{Bytes}
-use Rattle.block_context.specs.declared.HfBlockContext.{HfBlockContext}
 use Rattle.block_context.specs.Record.{bsizeOf, qfFit, bytesBelow, fitOf, fit}
 use Rattle.block_context.specs.Bounds.{fit-last}
 use Rattle.hf_block_context.specs.declared.ContextResult.{ContextResult}
-use Rattle.hf_block_context.specs.declared.ContextAnswer.the-variants.{Accepted, Refused}
+use Rattle.hf_block_context.specs.declared.ContextAnswer.the-variants.{Accepted}
 use Rattle.hf_block_context.specs.Reading.{Reading, Is, Short, andThen, reading, prepend, Lists, listsOf, lfValue, qfValue, readValues, readList, readLists}
 use Rattle.hf_block_context.specs.Call.{pad, lengthsOf, stored, noLists, DEFAULT-MAP, accepted, refused, unless, judged, judgedLists, orEnded, byFirst, parsed}
 use Rattle.hf_block_context.specs.Reads.{lf-near, qf-near, qf-some}
@@ -127,7 +126,7 @@ module _ (s : List ℕ) (h : Bytes s) where
   stored-fit count map l k size e some few below =
       let used : take (length (l .qf)) (pad 15 (l .qf)) ≡ l .qf = take-append-seam (l .qf) (replicate (15 - length (l .qf)) 0) in
       let bytes : take (39 * bsizeOf (lengthsOf l)) (pad 2496 map) ≡ map =
-          ap (λ (n : ℕ). take n (pad 2496 map)) (sym e) ∙ take-append-seam map (replicate (2496 - length map) 0)
+      ap (λ (n : ℕ). take n (pad 2496 map)) (sym e) ∙ take-append-seam map (replicate (2496 - length map) 0)
       in
       fit-last count (lengthsOf l) (pad 15 (l .qf)) (pad 2496 map) (k .few0) (k .few1) (k .few2) (k .few3) size some few
       (ap (every qfFit) used ∙ true-of (every qfFit (l .qf)) (k .values))
@@ -140,8 +139,8 @@ module _ (s : List ℕ) (h : Bytes s) where
   judged-fit count map l at t k e =
       let n = bsizeOf (lengthsOf l) in
       let f =
-          five Context Length Context Context Context (accepted at (stored count l map)) t (leb n 64) (eqb (length map) (39 * n)) (leb 1 count) (leb count 16)
-          (bytesBelow count map) e
+      five Context Length Context Context Context (accepted at (stored count l map)) t (leb n 64) (eqb (length map) (39 * n)) (leb 1 count) (leb count 16)
+      (bytesBelow count map) e
       in
       ap (λ (r : ContextResult). fit (r .contexts)) (f .5)
       ∙ stored-fit count map l k (leb-true n 64 (f .0)) (eqb-true (length map) (39 * n) (f .1)) (leb-true 1 count (f .2)) (leb-true count 16 (f .3)) (f .4)

@@ -9,7 +9,6 @@ use Rattle.refusal.specs.declared.Refusal.the-variants.{Length, BitsEnd, Contex
 use Rattle.bits.specs.Bits.{readBits}
 use Rattle.block_context.specs.declared.HfBlockContext.{HfBlockContext}
 use Rattle.block_context.specs.Record.{bsizeOf, bytesBelow}
-use Rattle.hf_block_context.specs.declared.ContextAnswer.{ContextAnswer}
 use Rattle.hf_block_context.specs.declared.ContextAnswer.the-variants.{Accepted, Refused}
 use Rattle.hf_block_context.specs.declared.ContextResult.{ContextResult}
 use Rattle.hf_block_context.specs.Reading.{Reading, Is, Short, reading, Lists, listsOf, readLists}

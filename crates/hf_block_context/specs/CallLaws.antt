@@ -1,10 +1,9 @@
 -- The ways out of the context call.
 use mathlib.Core.Path.{_≡_, refl, ap, sym, _∙_}
-use mathlib.Core.Bool.{Bool, true, false}
+use mathlib.Core.Bool.{true, false}
 use mathlib.Core.List.{List, [], _∷_, _++_}
 use Prim.Native.Nat.{ℕ, _+_, _*_, _%_, _≤_, _<_}
 use native.Mathlib.Omega.{arith}
-use lib.Dec.{eqb, leb}
 use lib.ListN.{length}
 use borrow.Author.Tests.{le-leb, lt-leb, eq-eqb, ne-eqb}
 use Rattle.refusal.specs.declared.Refusal.the-variants.{Length, BitsEnd, Context}
@@ -18,8 +17,8 @@ use Rattle.block_context.specs.Record.{bsizeOf, bytesBelow}
 use Rattle.hf_block_context.specs.declared.ContextResult.{ContextResult}
 use Rattle.hf_block_context.specs.declared.thresholds.ListStep.the-variants as listStep
 use Rattle.hf_block_context.specs.declared.thresholds.Thresholds.{Thresholds}
-use Rattle.hf_block_context.specs.Reading.{Reading, Is, Short, andThen, reading, Lists, listsOf, lfValue, qfValue, readList, readLists}
-use Rattle.hf_block_context.specs.Call.{pad, recordOf, lengthsOf, stored, accepted, refused, judged, judgedLists, orEnded, noLists, DEFAULT-MAP, parsed}
+use Rattle.hf_block_context.specs.Reading.{Reading, Is, Short, reading, Lists, listsOf, lfValue, qfValue, readList, readLists}
+use Rattle.hf_block_context.specs.Call.{pad, recordOf, stored, accepted, refused, judged, judgedLists, orEnded, noLists, DEFAULT-MAP, parsed}
 use Rattle.hf_block_context.specs.Steps.{thresholdsOf}
 use Rattle.hf_block_context.specs.ListLaws.{list-near}
 

@@ -1,11 +1,11 @@
 -- Lists copied into arrays.
 use mathlib.Core.Path.{_≡_, refl, ap, sym, _∙_}
-use mathlib.Core.List.{List, [], _∷_, _++_, append-nil, append-assoc}
-use Prim.Native.Nat.{ℕ, zero, suc, _+_, _-_, _≤_, _<_}
+use mathlib.Core.List.{List, [], _++_, append-nil, append-assoc}
+use Prim.Native.Nat.{ℕ, _+_, _-_, _≤_, _<_}
 use native.Mathlib.Nat.{zero-add}
 use native.Mathlib.Numerals.{add-one}
 use native.Mathlib.Omega.{arith}
-use lib.ListN.{length, take, drop, set, getD, replicate, length-append, length-replicate, replicate-append-replicate}
+use lib.ListN.{length, drop, set, getD, replicate, length-append, length-replicate, replicate-append-replicate}
 use lib.Seq.{take-all, take-at, drop-at, drop-append-add, paste, paste-suc}
 use Rattle.hf_block_context.specs.Call.{pad}
 

@@ -1,7 +1,7 @@
 -- A list of thresholds, halfway read.
-use mathlib.Core.Path.{_≡_, refl, ap, sym, _∙_, subst}
+use mathlib.Core.Path.{_≡_, refl, ap, sym, _∙_}
 use mathlib.Core.List.{List, [], _∷_, _++_, append-assoc, append-nil}
-use Prim.Native.Nat.{ℕ, zero, suc, _+_, _*_, _-_, _≤_, _<_}
+use Prim.Native.Nat.{ℕ, suc, _+_, _*_, _-_, _≤_, _<_}
 use native.Mathlib.Omega.{arith}
 use lib.ListN.{length, set, replicate, length-append}
 use lib.Seq.{set-at}
@@ -9,9 +9,7 @@ use Rattle.bits.specs.declared.Place.{Place}
 use Rattle.bits.specs.Bits.{Read, Value, Ended}
 use Rattle.bits.specs.Reads.{placeAt}
 use Rattle.hf_block_context.specs.declared.thresholds.ListStep.the-variants as listStep
-use Rattle.hf_block_context.specs.declared.thresholds.Thresholds.{Thresholds}
-use Rattle.hf_block_context.specs.Reading.{Reading, Is, Short, andThen, reading, prepend, readValues}
-use Rattle.hf_block_context.specs.Reads.{Near}
+use Rattle.hf_block_context.specs.Reading.{Reading, Is, Short, prepend, readValues}
 use Rattle.hf_block_context.specs.Call.{pad}
 use Rattle.hf_block_context.specs.Steps.{thresholdsOf}
 
@@ -99,7 +97,7 @@ module _ (value : ℕ → Read) (n from : ℕ) where
     half-short at e =
         let a : n - k ≡ suc (n - (k + 1)) = omega arith in
         let r : readValues value n from ≡ Short at =
-            sym (h .left) ∙ ap (prefix (h .done)) (ap (λ (j : ℕ). readValues value j (h .at)) a ∙ short (n - (k + 1)) (h .at) at e)
+        sym (h .left) ∙ ap (prefix (h .done)) (ap (λ (j : ℕ). readValues value j (h .at)) a ∙ short (n - (k + 1)) (h .at) at e)
         in
         rw r
 
@@ -108,10 +106,10 @@ module _ (value : ℕ → Read) (n from : ℕ) where
   half-done values q k h e =
       let a : n - k ≡ 0 = omega arith in
       let r : readValues value n from ≡ Is (h .done) (h .at) =
-          sym (h .left)
-          ∙ ap (λ (j : ℕ). prefix (h .done) (readValues value j (h .at))) a
-          ∙ ap (prefix (h .done)) (none (h .at))
-          ∙ ap (λ (s : List ℕ). Is s (h .at)) (append-nil (h .done))
+      sym (h .left)
+      ∙ ap (λ (j : ℕ). prefix (h .done) (readValues value j (h .at))) a
+      ∙ ap (prefix (h .done)) (none (h .at))
+      ∙ ap (λ (s : List ℕ). Is s (h .at)) (append-nil (h .done))
       in
       let c : length (h .done) ≡ n = h .count ∙ e in
       listed n q values (h .done) (h .at) c (h .place) (h .is) ∙ ap thresholdsOf (sym r)

@@ -1,18 +1,17 @@
 -- Laws of whole lists.
-use mathlib.Core.Path.{_≡_, refl, ap, sym, _∙_, subst}
+use mathlib.Core.Path.{_≡_, refl, ap, sym, _∙_}
 use mathlib.Core.List.{List, [], _∷_}
-use Prim.Native.Nat.{ℕ, zero, suc, _+_, _*_, _%_, _^_, _≤_, _<_}
+use Prim.Native.Nat.{ℕ, zero, suc, _+_, _*_, _%_, _≤_, _<_}
 use native.Mathlib.Omega.{arith}
 use lib.ListN.{length, replicate}
 use Rattle.bits.specs.declared.Place.{Place}
 use Rattle.bits.specs.Bits.{Read, Value, Ended, readBits}
-use Rattle.bits.specs.Reads.{passed, placeAt}
+use Rattle.bits.specs.Reads.{passed}
 use Rattle.bits.specs.Numbers.{Bytes}
 use Rattle.bits.specs.Laws.{passed-at, value-at}
 use Rattle.hf_block_context.specs.declared.thresholds.Step.the-variants as step
 use Rattle.hf_block_context.specs.declared.thresholds.ListStep.the-variants as listStep
-use Rattle.hf_block_context.specs.declared.thresholds.Thresholds.{Thresholds}
-use Rattle.hf_block_context.specs.Reading.{Reading, Is, Short, reading, prepend, readValues, readList}
+use Rattle.hf_block_context.specs.Reading.{Reading, Is, Short, readValues, readList}
 use Rattle.hf_block_context.specs.Reads.{field-lt}
 use Rattle.hf_block_context.specs.Steps.{stepOf, thresholdsOf}
 use Rattle.hf_block_context.specs.StepLaws.{stepped, ended}

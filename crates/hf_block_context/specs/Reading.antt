@@ -1,8 +1,6 @@
 -- What the bits of block contexts say (document 01, Block contexts; `HfBlockContext::parse` of `lf.rs`).
-use mathlib.Core.Bool.{cond}
 use mathlib.Core.List.{List, [], _∷_}
 use Prim.Native.Nat.{ℕ, zero, suc, _+_}
-use lib.Dec.{eqb}
 use Rattle.bits.specs.Bits.{Read, Value, Ended, then, Offset, readBits, readU32}
 use Rattle.bits.specs.Signed.{unpackSigned}
 

@@ -1,13 +1,12 @@
 -- Laws of the reads of block contexts: how far they go, and how large qf values are.
-use mathlib.Core.Path.{_≡_, refl, ap, sym, _∙_, subst}
+use mathlib.Core.Path.{_≡_, refl, sym, _∙_, subst}
 use mathlib.Core.Bool.{Bool, true, false, cond}
-use mathlib.Core.List.{List, [], _∷_, _++_}
-use Prim.Native.Nat.{ℕ, zero, suc, _+_, _*_, _-_, _/_, _%_, _^_, _≤_, _<_}
+use mathlib.Core.List.{List}
+use Prim.Native.Nat.{ℕ, zero, suc, _+_, _-_, _/_, _%_, _^_, _≤_, _<_}
 use native.Mathlib.Nat.{mod-lt}
 use native.Mathlib.Omega.{arith}
 use lib.Dec.{eqb}
 use lib.Pow.{pow-pos}
-use lib.ListN.{length}
 use Rattle.bits.specs.Bits.{Read, Value, Ended, then, Choice, Constant, Offset, readBits, readChoice, chosen, readU32}
 use Rattle.bits.specs.Numbers.{Bytes, number}
 use Rattle.bits.specs.Laws.{value-at, ended-at, read-whole}

@@ -1,5 +1,5 @@
 -- A read of the reader as a step of the context call.
-use mathlib.Core.Path.{_≡_, refl, ap, sym, _∙_}
+use mathlib.Core.Path.{_≡_, ap, sym}
 use mathlib.Core.List.{List}
 use Prim.Native.Nat.{ℕ, _+_, _-_, _≤_}
 use native.Mathlib.Omega.{arith}
@@ -8,7 +8,6 @@ use Rattle.bits.specs.declared.Got.the-variants as got
 use Rattle.bits.specs.Bits.{Read, Value, Ended, then}
 use Rattle.bits.specs.Reads.{placeAt, gotOf}
 use Rattle.bits.specs.Laws.{was-value, was-end}
-use Rattle.hf_block_context.specs.declared.thresholds.Step.{Step}
 use Rattle.hf_block_context.specs.declared.thresholds.Step.the-variants as step
 use Rattle.bits.specs.Numbers.{Bytes}
 use Rattle.hf_block_context.specs.Reading.{qfU32}

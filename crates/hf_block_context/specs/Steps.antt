@@ -8,7 +8,6 @@ use Rattle.hf_block_context.specs.declared.thresholds.Kind.{Kind}
 use Rattle.hf_block_context.specs.declared.thresholds.Kind.the-variants.{Lf, Qf}
 use Rattle.hf_block_context.specs.declared.thresholds.Step.{Step}
 use Rattle.hf_block_context.specs.declared.thresholds.Step.the-variants as step
-use Rattle.hf_block_context.specs.declared.thresholds.ListStep.{ListStep}
 use Rattle.hf_block_context.specs.declared.thresholds.ListStep.the-variants as listStep
 use Rattle.hf_block_context.specs.declared.thresholds.Thresholds.{Thresholds}
 use Rattle.hf_block_context.specs.Reading.{Reading, Is, Short, lfValue, qfValue}

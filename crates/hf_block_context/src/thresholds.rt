@@ -2,7 +2,6 @@
 use bits::Got;
 use bits::Place;
 use bits::U32Specifier;
-
 ghost use mathlib.Core.Path.{_≡_};
 ghost use Prim.Native.Nat.{_≤_, _<_};
 ghost use Rattle.bits.specs.Bits.{readBits};
@@ -51,9 +50,18 @@ fn lf_value(bytes: &[u8], p: Place) -> Step
     ensures { λ r. ⌜ r ≡ stepOf (lfValue (now (bytes .entry)) (passed p)) ⌝ }
 {
     let d0 = U32Specifier { offset: 0, bits: 4 };
-    let d1 = U32Specifier { offset: 16, bits: 8 };
-    let d2 = U32Specifier { offset: 272, bits: 16 };
-    let d3 = U32Specifier { offset: 65808, bits: 32 };
+    let d1 = U32Specifier {
+        offset: 16,
+        bits: 8,
+    };
+    let d2 = U32Specifier {
+        offset: 272,
+        bits: 16,
+    };
+    let d3 = U32Specifier {
+        offset: 65808,
+        bits: 32,
+    };
     let got = bits::read_u32(bytes, p, d0, d1, d2, d3);
     match got {
         Got::Value(u, next) => Step::Value(bits::unpack_signed(u), next),
@@ -67,8 +75,14 @@ fn qf_value(bytes: &[u8], p: Place) -> Step
 {
     let d0 = U32Specifier { offset: 0, bits: 2 };
     let d1 = U32Specifier { offset: 4, bits: 3 };
-    let d2 = U32Specifier { offset: 12, bits: 5 };
-    let d3 = U32Specifier { offset: 44, bits: 8 };
+    let d2 = U32Specifier {
+        offset: 12,
+        bits: 5,
+    };
+    let d3 = U32Specifier {
+        offset: 44,
+        bits: 8,
+    };
     let got = bits::read_u32(bytes, p, d0, d1, d2, d3);
     match got {
         Got::Value(u, next) => Step::Value(1 + u, next),

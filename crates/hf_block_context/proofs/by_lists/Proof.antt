@@ -7,19 +7,10 @@ use Rattle.hf_block_context.specs.Steps.{thresholdsOf}
 use Rattle.hf_block_context.specs.CallLaws.{WasList, was-list, was-short, short0, short1, short2, short3, whole, judged-arrays, or-ended, or-judged}
 use borrow.Author.Needs.{needs}
 use native.Mathlib.Omega.{arith}
-use mathlib.Core.Path.{_≡_, _∙_, ap, sym}
-use mathlib.Core.List.{_++_}
-use Prim.Native.Nat.{ℕ, _≤_, _<_, _-_, _+_, _*_}
-use lib.ListN.{length, getD, take, drop, set, length-set}
+use mathlib.Core.Path.{_≡_, _∙_, ap}
+use Prim.Native.Nat.{ℕ, _-_}
 use Rattle.hf_block_context.proofs.by_lists.Statement.{statement}
 use Rattle.hf_block_context.proofs.by_lists.Tie as tie
-use Rattle.hf_block_context.proofs.by_lists.Reads as reads
-use Rattle.hf_block_context.proofs.by_lists.Lts as lts
-use Rattle.bits.proofs.Place.bits_read.Reads as bits-read-reads
-use Rattle.hf_block_context.proofs.judge.Reads as judge-reads
-use Rattle.hf_block_context.proofs.record.joined.Reads as joined-reads
-use Rattle.hf_block_context.proofs.refuse.Reads as refuse-reads
-use Rattle.hf_block_context.proofs.thresholds.read_list.Reads as read-list-reads
 
 bytes-of : (c : tie.After-step02) → Bytes (c .before .before .before .before .before .args .bytes .now)
 bytes-of c i = c .before .before .before .before .shared-slice-known .given i .fits
@@ -62,88 +53,68 @@ module _ (c : tie.After-step32) where
       (c .before .before .read-list4 .result) (c .step32 .given .0 .0) (c .step32 .given .0 .1 .0)
       (c .before .before .read-list4 .ensures ∙ ap (λ (p : ℕ). thresholdsOf (readList (a .bytes .now) (qfValue (a .bytes .now)) p)) (third (c .before .before .before .before) .place)) (c .step32 .given .1)
 
--- src/lib.rt:123:15
 read-list-requires : tie.Need-read-list-requires
 read-list-requires c κs = search needs
 
--- src/lib.rt:126:23
 enum-known-step0 : tie.Need-enum-known-step0
 enum-known-step0 c = search needs
 
--- src/lib.rt:126:30
 refuse-requires : tie.Need-refuse-requires
 refuse-requires c κs = search needs
 
--- src/lib.rt:127:26
 enum-known-step0-2 : tie.Need-enum-known-step0-2
 enum-known-step0-2 c = search needs
 
--- src/lib.rt:128:23
 read-list-requires-2 : tie.Need-read-list-requires-2
 read-list-requires-2 c κs =
     let l = first (c .before) in (l .bit, omega (arith, l .place, l .near))
 
--- src/lib.rt:131:31
 enum-known-step1 : tie.Need-enum-known-step1
 enum-known-step1 c = search needs
 
--- src/lib.rt:131:38
 refuse-requires-2 : tie.Need-refuse-requires-2
 refuse-requires-2 c κs = search needs
 
--- src/lib.rt:132:34
 enum-known-step1-2 : tie.Need-enum-known-step1-2
 enum-known-step1-2 c = search needs
 
--- src/lib.rt:133:31
 read-list-requires-3 : tie.Need-read-list-requires-3
 read-list-requires-3 c κs =
     let l = second (c .before) in (l .bit, omega (arith, l .place, l .near, first (c .before .before .before .before .before) .near))
 
--- src/lib.rt:136:39
 enum-known-step2 : tie.Need-enum-known-step2
 enum-known-step2 c = search needs
 
--- src/lib.rt:136:46
 refuse-requires-3 : tie.Need-refuse-requires-3
 refuse-requires-3 c κs = search needs
 
--- src/lib.rt:137:42
 enum-known-step2-2 : tie.Need-enum-known-step2-2
 enum-known-step2-2 c = search needs
 
--- src/lib.rt:138:33
 read-list-requires-4 : tie.Need-read-list-requires-4
 read-list-requires-4 c κs =
     let l = third (c .before) in (l .bit, omega (arith, l .place, l .near, second (c .before .before .before .before .before) .near, first (c .before .before .before .before .before .before .before .before .before) .near))
 
--- src/lib.rt:141:47
 enum-known-step3 : tie.Need-enum-known-step3
 enum-known-step3 c = search needs
 
--- src/lib.rt:141:54
 refuse-requires-4 : tie.Need-refuse-requires-4
 refuse-requires-4 c κs = search needs
 
--- src/lib.rt:142:50
 enum-known-step3-2 : tie.Need-enum-known-step3-2
 enum-known-step3-2 c = search needs
 
--- src/lib.rt:143:41
 joined-requires : tie.Need-joined-requires
 joined-requires c κs = search needs
 
--- src/lib.rt:145:92
 bits-read-requires : tie.Need-bits-read-requires
 bits-read-requires c κs = search needs
 
--- src/lib.rt:145:37
 judge-requires : tie.Need-judge-requires
 judge-requires c κs =
     let l = c .before .before .before .before .before .before .before .before .before .before in
     (first (l .before .before .before .before .before .before .before .before .before .before .before .before) .few, second (l .before .before .before .before .before .before .before .before) .few, third (l .before .before .before .before) .few, fourth l .few)
 
--- src/lib.rt:119:1
 returns : tie.Need-returns
 returns c =
     let a = c .before .before .before .before .before .before .before .args in
@@ -153,7 +124,6 @@ returns c =
     ∙ or-ended (readLists s (passed (a .p))) (judgedLists (a .num-clusters) (a .map .now)) at
     (short0 s (passed (a .p)) at (was-short s (lfValue s) (passed (a .p)) (c .before .before .before .before .read-list .result) at (c .before .before .before .before .read-list .ensures) (c .before .before .step0 .given .1)))
 
--- src/lib.rt:119:1
 returns-2 : tie.Need-returns-2
 returns-2 c =
     let b = c .before .before .before .before .before .before in
@@ -167,7 +137,6 @@ returns-2 c =
     (was-short s (lfValue s) (l .at) (c .before .before .before .before .read-list2 .result) at
     (c .before .before .before .before .read-list2 .ensures ∙ ap (λ (p : ℕ). thresholdsOf (readList s (lfValue s) p)) (l .place)) (c .before .before .step1 .given .1)))
 
--- src/lib.rt:119:1
 returns-3 : tie.Need-returns-3
 returns-3 c =
     let d = c .before .before .before .before .before .before in
@@ -183,7 +152,6 @@ returns-3 c =
     (was-short s (lfValue s) (m .at) (c .before .before .before .before .read-list3 .result) at
     (c .before .before .before .before .read-list3 .ensures ∙ ap (λ (p : ℕ). thresholdsOf (readList s (lfValue s) p)) (m .place)) (c .before .before .step2 .given .1)))
 
--- src/lib.rt:119:1
 returns-4 : tie.Need-returns-4
 returns-4 c =
     let e = c .before .before .before .before .before .before in
@@ -201,7 +169,6 @@ returns-4 c =
     (was-short s (qfValue s) (n .at) (c .before .before .before .before .read-list4 .result) at
     (c .before .before .before .before .read-list4 .ensures ∙ ap (λ (p : ℕ). thresholdsOf (readList s (qfValue s) p)) (n .place)) (c .before .before .step3 .given .1)))
 
--- src/lib.rt:119:1
 returns-5 : tie.Need-returns-5
 returns-5 c =
     let f = c .before .before .before .before .before .before .before .before .before .before .before in

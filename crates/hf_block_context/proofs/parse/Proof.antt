@@ -1,4 +1,4 @@
-use Prim.Native.Nat.{_%_}
+use Prim.Native.Nat.{_%_, ℕ, _-_}
 use Rattle.bits.specs.declared.Place.{Place}
 use Rattle.bits.specs.Bits.{readBits}
 use Rattle.bits.specs.Reads.{passed}
@@ -11,19 +11,8 @@ use Rattle.hf_block_context.specs.CallLaws.{parsed-ended, parsed-default
 use borrow.Author.Needs.{needs}
 use native.Mathlib.Omega.{arith}
 use mathlib.Core.Path.{_≡_, _∙_, ap, sym}
-use mathlib.Core.List.{_++_}
-use Prim.Native.Nat.{ℕ, _≤_, _<_, _-_, _+_, _*_}
-use lib.ListN.{length, getD, take, drop, set, length-set}
 use Rattle.hf_block_context.proofs.parse.Statement.{statement}
 use Rattle.hf_block_context.proofs.parse.Tie as tie
-use Rattle.hf_block_context.proofs.parse.Reads as reads
-use Rattle.hf_block_context.proofs.parse.Lts as lts
-use Rattle.bits.proofs.Place.bits_read.Reads as bits-read-reads
-use Rattle.bits.proofs.Place.start.Reads as start-reads
-use Rattle.hf_block_context.proofs.by_lists.Reads as by-lists-reads
-use Rattle.hf_block_context.proofs.default_contexts.Reads as default-contexts-reads
-use Rattle.hf_block_context.proofs.refuse.Reads as refuse-reads
-use Rattle.hf_block_context.proofs.thresholds.field.Reads as field-reads
 
 -- The first bit, where it is there.
 bit : (c : tie.After-first2) → WasValue (readBits (c .before .before .before .before .before .before .args .bytes .now) 0 1) (c .first2 .given .0 .0) (c .first2 .given .0 .1 .0)
@@ -38,36 +27,28 @@ bit-near c =
     let b = bit c in
     (ap passed (b .place) ∙ passed-at (b .at), value-at (c .before .before .before .before .before .before .args .bytes .now) 0 1 (c .first2 .given .0 .0) (b .at) (b .is) .0)
 
--- src/lib.rt:160:30
 start-requires : tie.Need-start-requires
 start-requires c κs = search needs
 
--- src/lib.rt:160:9
 field-requires : tie.Need-field-requires
 field-requires c κs =
     (rw (c .start .ensures) (omega arith), omega arith)
 
--- src/lib.rt:162:19
 enum-known-first : tie.Need-enum-known-first
 enum-known-first c = search needs
 
--- src/lib.rt:162:26
 refuse-requires : tie.Need-refuse-requires
 refuse-requires c κs = search needs
 
--- src/lib.rt:163:21
 enum-known-first-2 : tie.Need-enum-known-first-2
 enum-known-first-2 c = search needs
 
--- src/lib.rt:165:41
 bits-read-requires : tie.Need-bits-read-requires
 bits-read-requires c κs = search needs
 
--- src/lib.rt:165:17
 default-contexts-requires : tie.Need-default-contexts-requires
 default-contexts-requires c κs = search needs
 
--- src/lib.rt:165:17
 returns : tie.Need-returns
 returns c =
     let f = c .before .before .before .before in
@@ -78,14 +59,12 @@ returns c =
     ∙ ap (λ (n : ℕ). accepted n (stored 15 noLists DEFAULT-MAP)) at
     ∙ parsed-default (a .bytes .now) (a .num-clusters) (a .map .now) (f .first2 .given .0 .0) (b .at) (b .is) (c .before .before .if1 .taken)
 
--- src/lib.rt:167:13
 by-lists-requires : tie.Need-by-lists-requires
 by-lists-requires c κs =
     let f = c .before .before in
     let e : f .first2 .given .0 .1 .0 .bit ≡ bit f .at % 8 = ap (λ (p : Place). p .bit) (bit f .place) in
     (omega (arith, e), omega (arith, bit-near f))
 
--- src/lib.rt:157:1
 returns-2 : tie.Need-returns-2
 returns-2 c =
     let a = c .before .before .before .before .before .before .before .before .args in
@@ -96,7 +75,6 @@ returns-2 c =
     (ended (readBits s 0 1) (g .0 .0)
     (ap (λ (p : Place). stepOf (readBits s (passed p) 1)) (sym (c .before .before .before .before .before .start .ensures)) ∙ sym (c .before .before .before .before .field .ensures) ∙ g .1))
 
--- src/lib.rt:157:1
 returns-3 : tie.Need-returns-3
 returns-3 c =
     let f = c .before .before .before in

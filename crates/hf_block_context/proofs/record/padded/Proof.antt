@@ -1,16 +1,12 @@
-use lib.ListN.{replicate}
+use lib.ListN.{replicate, length, getD, set}
 use lib.Seq.{paste, paste-zero}
 use Rattle.hf_block_context.specs.Copies.{copy-more, copy-all}
 use borrow.Author.Needs.{needs}
 use native.Mathlib.Omega.{arith}
 use mathlib.Core.Path.{_≡_, _∙_, ap, sym}
-use mathlib.Core.List.{_++_}
-use Prim.Native.Nat.{ℕ, _≤_, _<_, _-_, _+_, _*_}
-use lib.ListN.{length, getD, take, drop, set, length-set}
+use Prim.Native.Nat.{ℕ, _≤_, _-_, _+_}
 use Rattle.hf_block_context.proofs.record.padded.Statement.{statement}
 use Rattle.hf_block_context.proofs.record.padded.Tie as tie
-use Rattle.hf_block_context.proofs.record.padded.Reads as reads
-use Rattle.hf_block_context.proofs.record.padded.Lts as lts
 
 abbrev Inv-loop : tie.InvT-loop
 Inv-loop map out₀ i₀ out i = (i ≤ length map) × (out ≡ paste out₀ 0 map i)
@@ -18,37 +14,31 @@ Inv-loop map out₀ i₀ out i = (i ≤ length map) × (out ≡ paste out₀ 0 m
 abbrev μ-loop : tie.MeasureT-loop
 μ-loop map out₀ i₀ out i = length map - i
 
--- src/record.rt:16:5
 loop-holds : tie.Need-loop-holds Inv-loop μ-loop
 loop-holds c = (omega arith, paste-zero (replicate 2496 0) 0 (c .args .map .now))
 
--- src/record.rt:17:18
 shared-slice-read-out : tie.Need-shared-slice-read-out Inv-loop μ-loop
 shared-slice-read-out c = search needs
 
--- src/record.rt:17:9
 array-write-out : tie.Need-array-write-out Inv-loop μ-loop
 array-write-out c = search needs
 
--- src/record.rt:18:9
 add-i : tie.Need-add-i Inv-loop μ-loop
 add-i c = search needs
 
--- src/record.rt:16:5
 loop-less : tie.Need-loop-less Inv-loop μ-loop
 loop-less c = search needs
 
--- src/record.rt:16:5
 loop-again : tie.Need-loop-again Inv-loop μ-loop
 loop-again c =
     let l = c .before .before .loop in
     let map = c .before .before .before .args .map .now in
-    let z : 0 + l .i ≡ l .i = omega arith in
-    (omega arith,
-     ap (λ (k : ℕ). set (l .out) k (getD map (l .i) 0)) (sym z)
-     ∙ copy-more (replicate 2496 0) 0 map (l .out) (l .i) (l .inv .1) (omega arith) (omega arith))
+    let z : 0 + l .i ≡ l .i = omega arith in (
+      omega arith,
+      ap (λ (k : ℕ). set (l .out) k (getD map (l .i) 0)) (sym z)
+          ∙ copy-more (replicate 2496 0) 0 map (l .out) (l .i) (l .inv .1) (omega arith) (omega arith),
+    )
 
--- src/record.rt:10:1
 returns : tie.Need-returns Inv-loop μ-loop
 returns c =
     let l = c .before .loop in

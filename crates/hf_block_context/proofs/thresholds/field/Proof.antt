@@ -1,4 +1,4 @@
-use Prim.Native.Nat.{min}
+use Prim.Native.Nat.{min, ℕ, _-_, _+_}
 use Rattle.bits.specs.Bits.{readBits}
 use Rattle.bits.specs.Reads.{passed, gotOf}
 use Rattle.bits.specs.Laws.{ended-at}
@@ -7,41 +7,27 @@ use Rattle.hf_block_context.specs.StepLaws.{field-value, field-end}
 use borrow.Author.Needs.{needs}
 use native.Mathlib.Omega.{arith}
 use mathlib.Core.Path.{_≡_, _∙_, ap, sym}
-use mathlib.Core.List.{_++_}
-use Prim.Native.Nat.{ℕ, _≤_, _<_, _-_, _+_, _*_}
-use lib.ListN.{length, getD, take, drop, set, length-set}
 use Rattle.hf_block_context.proofs.thresholds.field.Statement.{statement}
 use Rattle.hf_block_context.proofs.thresholds.field.Tie as tie
-use Rattle.hf_block_context.proofs.thresholds.field.Reads as reads
-use Rattle.hf_block_context.proofs.thresholds.field.Lts as lts
-use Rattle.bits.proofs.Place.bits_read.Reads as bits-read-reads
-use Rattle.bits.proofs.read_bits.Reads as read-bits-reads
 
--- src/thresholds.rt:41:9
 read-bits-requires : tie.Need-read-bits-requires
 read-bits-requires c κs = search needs
 
--- src/thresholds.rt:43:20
 enum-known-got : tie.Need-enum-known-got
 enum-known-got c = search needs
 
--- src/thresholds.rt:44:18
 enum-known-got-2 : tie.Need-enum-known-got-2
 enum-known-got-2 c = search needs
 
--- src/thresholds.rt:44:38
 bits-read-requires : tie.Need-bits-read-requires
 bits-read-requires c κs = search needs
 
--- src/thresholds.rt:44:54
 cast-t10 : tie.Need-cast-t10
 cast-t10 c = search needs
 
--- src/thresholds.rt:44:38
 add-t11 : tie.Need-add-t11
 add-t11 c = search needs
 
--- src/thresholds.rt:37:1
 returns : tie.Need-returns
 returns c =
     let a = c .before .before .before .before .before .args in
@@ -51,7 +37,6 @@ returns c =
     field-value p (readBits (a .bytes .now) p (a .n)) (g .0 .0) (g .0 .1 .0)
     (ap (λ (n : ℕ). gotOf p (readBits (a .bytes .now) p n)) (sym m) ∙ sym (c .before .before .before .read-bits .ensures) ∙ g .1)
 
--- src/thresholds.rt:37:1
 returns-2 : tie.Need-returns-2
 returns-2 c =
     let a = c .before .before .before .before .before .before .args in

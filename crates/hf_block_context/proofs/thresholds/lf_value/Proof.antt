@@ -7,46 +7,31 @@ use Rattle.hf_block_context.specs.StepLaws.{step-value, step-end}
 use borrow.Author.Needs.{needs}
 use native.Mathlib.Omega.{arith}
 use mathlib.Core.Path.{_≡_, _∙_, ap, sym}
-use mathlib.Core.List.{_++_}
-use Prim.Native.Nat.{ℕ, _≤_, _<_, _-_, _+_, _*_}
-use lib.ListN.{length, getD, take, drop, set, length-set}
+use Prim.Native.Nat.{ℕ, _-_, _+_}
 use Rattle.hf_block_context.proofs.thresholds.lf_value.Statement.{statement}
 use Rattle.hf_block_context.proofs.thresholds.lf_value.Tie as tie
-use Rattle.hf_block_context.proofs.thresholds.lf_value.Reads as reads
-use Rattle.hf_block_context.proofs.thresholds.lf_value.Lts as lts
-use Rattle.bits.proofs.Place.bits_read.Reads as bits-read-reads
-use Rattle.bits.proofs.read_u32.Reads as read-u32-reads
-use Rattle.bits.proofs.unpack_signed.Reads as unpack-signed-reads
 
--- src/thresholds.rt:57:9
 read-u32-requires : tie.Need-read-u32-requires
 read-u32-requires c κs = search needs
 
--- src/thresholds.rt:59:20
 enum-known-got : tie.Need-enum-known-got
 enum-known-got c = search needs
 
--- src/thresholds.rt:59:44
 unpack-signed-requires : tie.Need-unpack-signed-requires
 unpack-signed-requires c κs = search needs
 
--- src/thresholds.rt:60:18
 enum-known-got-2 : tie.Need-enum-known-got-2
 enum-known-got-2 c = search needs
 
--- src/thresholds.rt:60:38
 bits-read-requires : tie.Need-bits-read-requires
 bits-read-requires c κs = search needs
 
--- src/thresholds.rt:60:54
 cast-t14 : tie.Need-cast-t14
 cast-t14 c = search needs
 
--- src/thresholds.rt:60:38
 add-t15 : tie.Need-add-t15
 add-t15 c = search needs
 
--- src/thresholds.rt:49:1
 returns : tie.Need-returns
 unfolding lfValue
 returns c =
@@ -55,7 +40,6 @@ returns c =
     ap (λ (v : ℕ). step.Value v (g .0 .1 .0)) (c .unpack-signed .ensures)
     ∙ step-value unpackSigned (passed (a .p)) (lfU32 (a .bytes .now) (passed (a .p))) (g .0 .0) (g .0 .1 .0) (sym (c .before .before .before .before .read-u32 .ensures) ∙ g .1)
 
--- src/thresholds.rt:49:1
 returns-2 : tie.Need-returns-2
 unfolding lfValue
 returns-2 c =

@@ -6,25 +6,16 @@ use Rattle.hf_block_context.specs.StepLaws.{step-value, step-end, qf-fit
 use borrow.Author.Needs.{needs}
 use native.Mathlib.Omega.{arith}
 use mathlib.Core.Path.{_≡_, _∙_, ap, sym}
-use mathlib.Core.List.{_++_}
-use Prim.Native.Nat.{ℕ, _≤_, _<_, _-_, _+_, _*_}
-use lib.ListN.{length, getD, take, drop, set, length-set}
+use Prim.Native.Nat.{ℕ, _-_, _+_}
 use Rattle.hf_block_context.proofs.thresholds.qf_value.Statement.{statement}
 use Rattle.hf_block_context.proofs.thresholds.qf_value.Tie as tie
-use Rattle.hf_block_context.proofs.thresholds.qf_value.Reads as reads
-use Rattle.hf_block_context.proofs.thresholds.qf_value.Lts as lts
-use Rattle.bits.proofs.Place.bits_read.Reads as bits-read-reads
-use Rattle.bits.proofs.read_u32.Reads as read-u32-reads
 
--- src/thresholds.rt:72:9
 read-u32-requires : tie.Need-read-u32-requires
 read-u32-requires c κs = search needs
 
--- src/thresholds.rt:74:20
 enum-known-got : tie.Need-enum-known-got
 enum-known-got c = search needs
 
--- src/thresholds.rt:74:44
 add-t12 : tie.Need-add-t12
 add-t12 c =
     let a = c .before .before .before .before .before .args in
@@ -32,23 +23,18 @@ add-t12 c =
     omega
     (arith, qf-fits (a .bytes .now) (λ i. c .before .before .before .before .shared-slice-known .given i .fits) (passed (a .p)) (g .0 .0) (g .0 .1 .0) (sym (c .before .before .before .read-u32 .ensures) ∙ g .1))
 
--- src/thresholds.rt:75:18
 enum-known-got-2 : tie.Need-enum-known-got-2
 enum-known-got-2 c = search needs
 
--- src/thresholds.rt:75:38
 bits-read-requires : tie.Need-bits-read-requires
 bits-read-requires c κs = search needs
 
--- src/thresholds.rt:75:54
 cast-t14 : tie.Need-cast-t14
 cast-t14 c = search needs
 
--- src/thresholds.rt:75:38
 add-t15 : tie.Need-add-t15
 add-t15 c = search needs
 
--- src/thresholds.rt:64:1
 returns : tie.Need-returns
 unfolding qfValue
 returns c =
@@ -56,7 +42,6 @@ returns c =
     let g = c .before .got .given in
     step-value (λ (u : ℕ). 1 + u) (passed (a .p)) (qfU32 (a .bytes .now) (passed (a .p))) (g .0 .0) (g .0 .1 .0) (sym (c .before .before .before .read-u32 .ensures) ∙ g .1)
 
--- src/thresholds.rt:64:1
 returns-2 : tie.Need-returns-2
 unfolding qfValue
 returns-2 c =

@@ -6,15 +6,10 @@ use Rattle.hf_block_context.specs.StepLaws.{stepped, ended}
 use Rattle.hf_block_context.specs.Halfway.{Half, half-start, half-step, half-short, half-done}
 use borrow.Author.Needs.{needs}
 use native.Mathlib.Omega.{arith}
-use mathlib.Core.Path.{_≡_, _∙_, ap, sym}
-use mathlib.Core.List.{_++_}
-use Prim.Native.Nat.{ℕ, _≤_, _<_, _-_, _+_, _*_}
-use lib.ListN.{length, getD, take, drop, set, length-set}
+use mathlib.Core.Path.{_∙_, ap, sym}
+use Prim.Native.Nat.{_≤_, _-_}
 use Rattle.hf_block_context.proofs.thresholds.read_values.Statement.{statement}
 use Rattle.hf_block_context.proofs.thresholds.read_values.Tie as tie
-use Rattle.hf_block_context.proofs.thresholds.read_values.Reads as reads
-use Rattle.hf_block_context.proofs.thresholds.read_values.Lts as lts
-use Rattle.hf_block_context.proofs.thresholds.read_value.Reads as read-value-reads
 
 abbrev Inv-loop : tie.InvT-loop
 Inv-loop bytes kind n end values₀ p₀ k₀ values p k = (k ≤ n) × Half (readValue kind bytes) n (passed p₀) values p k
@@ -22,23 +17,19 @@ Inv-loop bytes kind n end values₀ p₀ k₀ values p k = (k ≤ n) × Half (re
 abbrev μ-loop : tie.MeasureT-loop
 μ-loop bytes kind n end values₀ p₀ k₀ values p k = n - k
 
--- src/thresholds.rt:98:5
 loop-holds : tie.Need-loop-holds Inv-loop μ-loop
 loop-holds c =
     let a = c .before .args in
     (omega arith, half-start (readValue (a .kind) (a .bytes .now)) (a .n) (passed (a .from)) (a .from) (sym (at-passed (a .from) (omega arith))))
 
--- src/thresholds.rt:99:13
 read-value-requires : tie.Need-read-value-requires Inv-loop μ-loop
 read-value-requires c κs =
     let h = c .before .loop .inv .1 in
     rw (h .place, passed-at (h .at)) (omega (arith, h .near))
 
--- src/thresholds.rt:101:23
 enum-known-step : tie.Need-enum-known-step Inv-loop μ-loop
 enum-known-step c = search needs
 
--- src/thresholds.rt:102:17
 returns : tie.Need-returns Inv-loop μ-loop
 returns c =
     let a = c .before .before .before .before .before .before .before .args in
@@ -50,27 +41,21 @@ returns c =
     half-short read (a .n) (passed (a .from)) (l .values) (l .p) (l .k) h (omega arith) (g .0 .0)
     (ap read (sym (ap passed (h .place) ∙ passed-at (h .at))) ∙ e)
 
--- src/thresholds.rt:107:25
 enum-known-step-2 : tie.Need-enum-known-step-2 Inv-loop μ-loop
 enum-known-step-2 c = search needs
 
--- src/thresholds.rt:108:17
 mul-values : tie.Need-mul-values Inv-loop μ-loop
 mul-values c = search needs
 
--- src/thresholds.rt:108:17
 array-write-values : tie.Need-array-write-values Inv-loop μ-loop
 array-write-values c = search needs
 
--- src/thresholds.rt:112:9
 add-k : tie.Need-add-k Inv-loop μ-loop
 add-k c = search needs
 
--- src/thresholds.rt:98:5
 loop-less : tie.Need-loop-less Inv-loop μ-loop
 loop-less c = search needs
 
--- src/thresholds.rt:98:5
 loop-again : tie.Need-loop-again Inv-loop μ-loop
 loop-again c =
     let a = c .before .before .before .before .before .before .before .args in
@@ -78,14 +63,14 @@ loop-again c =
     let h = l .inv .1 in
     let g = c .before .step2 .given in
     let read = readValue (a .kind) (a .bytes .now) in
-    let w = stepped (read (passed (l .p))) (g .0 .0) (g .0 .1 .0) (sym (c .before .before .before .read-value .ensures) ∙ g .1) in
-    (omega arith,
-     half-step read (a .n) (passed (a .from)) (l .values) (l .p) (l .k) h (omega arith) (g .0 .0) (w .at) (g .0 .1 .0) (omega arith)
-     (λ v b e. value-near (a .bytes .now) (λ i. c .before .before .before .before .before .before .shared-slice-known .given i .fits) (a .kind) (h .at) .value v b e .0)
-     (ap read (sym (ap passed (h .place) ∙ passed-at (h .at))) ∙ w .is)
-     (w .place))
+    let w = stepped (read (passed (l .p))) (g .0 .0) (g .0 .1 .0) (sym (c .before .before .before .read-value .ensures) ∙ g .1) in (
+      omega arith,
+      half-step read (a .n) (passed (a .from)) (l .values) (l .p) (l .k) h (omega arith) (g .0 .0) (w .at) (g .0 .1 .0) (omega arith)
+          (λ v b e. value-near (a .bytes .now) (λ i. c .before .before .before .before .before .before .shared-slice-known .given i .fits) (a .kind) (h .at) .value v b e .0)
+          (ap read (sym (ap passed (h .place) ∙ passed-at (h .at))) ∙ w .is)
+          (w .place),
+    )
 
--- src/thresholds.rt:90:1
 returns-2 : tie.Need-returns-2 Inv-loop μ-loop
 returns-2 c =
     let a = c .before .before .before .args in

@@ -5,28 +5,17 @@ use Rattle.hf_block_context.specs.Call.{pad, recordOf, accepted}
 use Rattle.hf_block_context.specs.CallLaws.{judged-size, judged-length, judged-none, judged-many, judged-bytes, judged-fit}
 use borrow.Author.Needs.{needs}
 use native.Mathlib.Omega.{arith}
-use mathlib.Core.Path.{_≡_, _∙_, ap, sym}
-use mathlib.Core.List.{_++_}
-use Prim.Native.Nat.{ℕ, _≤_, _<_, _-_, _+_, _*_}
-use lib.ListN.{length, getD, take, drop, set, length-set}
-use Rattle.hf_block_context.proofs.judge.Statement.{statement}
-use Rattle.hf_block_context.proofs.judge.Tie as tie
-use Rattle.hf_block_context.proofs.judge.Reads as reads
-use Rattle.hf_block_context.proofs.judge.Lts as lts
-use Rattle.block_context.proofs.fit.all_below.Reads as all-below-reads
-use Rattle.block_context.proofs.fit.bsize.Reads as bsize-reads
-use Rattle.hf_block_context.proofs.record.padded.Reads as padded-reads
-use Rattle.hf_block_context.proofs.refuse.Reads as refuse-reads
+use mathlib.Core.Path.{_∙_, ap, sym}
+use Prim.Native.Nat.{ℕ, _-_}
+use Rattle.hf_block_context.proofs.judge.judge.Statement.{statement}
+use Rattle.hf_block_context.proofs.judge.judge.Tie as tie
 
--- src/lib.rt:88:9
 bsize-requires : tie.Need-bsize-requires
 bsize-requires c κs = search needs
 
--- src/lib.rt:90:9
 refuse-requires : tie.Need-refuse-requires
 refuse-requires c κs = search needs
 
--- src/lib.rt:90:9
 returns : tie.Need-returns
 returns c =
     let a = c .before .before .before .before .args in
@@ -34,15 +23,12 @@ returns c =
     let e = c .before .before .bsize .ensures ∙ capped (a .lengths) (omega arith) (omega arith) (omega arith) (omega arith) in
     c .refuse .ensures ∙ judged-size (a .num-clusters) (a .map .now) (a .lengths) all (a .at) (omega arith)
 
--- src/lib.rt:92:21
 mul-if2 : tie.Need-mul-if2
 mul-if2 c = search needs
 
--- src/lib.rt:93:9
 refuse-requires-2 : tie.Need-refuse-requires-2
 refuse-requires-2 c κs = search needs
 
--- src/lib.rt:93:9
 returns-2 : tie.Need-returns-2
 returns-2 c =
     let a = c .before .before .before .before .before .args in
@@ -50,11 +36,9 @@ returns-2 c =
     let e = c .before .before .before .bsize .ensures ∙ capped (a .lengths) (omega arith) (omega arith) (omega arith) (omega arith) in
     c .refuse2 .ensures ∙ judged-length (a .num-clusters) (a .map .now) (a .lengths) all (a .at) (omega arith) (λ l. omega arith)
 
--- src/lib.rt:96:9
 refuse-requires-3 : tie.Need-refuse-requires-3
 refuse-requires-3 c κs = search needs
 
--- src/lib.rt:96:9
 returns-3 : tie.Need-returns-3
 returns-3 c =
     let a = c .before .before .before .before .before .before .args in
@@ -62,11 +46,9 @@ returns-3 c =
     let e = c .before .before .before .before .bsize .ensures ∙ capped (a .lengths) (omega arith) (omega arith) (omega arith) (omega arith) in
     c .refuse3 .ensures ∙ judged-none (a .num-clusters) (a .map .now) (a .lengths) all (a .at) (omega arith) (omega arith) (omega arith)
 
--- src/lib.rt:99:9
 refuse-requires-4 : tie.Need-refuse-requires-4
 refuse-requires-4 c κs = search needs
 
--- src/lib.rt:99:9
 returns-4 : tie.Need-returns-4
 returns-4 c =
     let a = c .before .before .before .before .before .before .before .args in
@@ -74,15 +56,12 @@ returns-4 c =
     let e = c .before .before .before .before .before .bsize .ensures ∙ capped (a .lengths) (omega arith) (omega arith) (omega arith) (omega arith) in
     c .refuse4 .ensures ∙ judged-many (a .num-clusters) (a .map .now) (a .lengths) all (a .at) (omega arith) (omega arith) (omega arith) (omega arith)
 
--- src/lib.rt:101:9
 all-below-requires : tie.Need-all-below-requires
 all-below-requires c κs = search needs
 
--- src/lib.rt:102:9
 refuse-requires-5 : tie.Need-refuse-requires-5
 refuse-requires-5 c κs = search needs
 
--- src/lib.rt:102:9
 returns-5 : tie.Need-returns-5
 returns-5 c =
     let a = c .before .before .before .before .before .before .before .before .before .args in
@@ -92,11 +71,9 @@ returns-5 c =
     ∙ judged-bytes (a .num-clusters) (a .map .now) (a .lengths) all (a .at) (omega arith) (omega arith) (omega arith) (omega arith)
     (sym (c .before .before .all-below .ensures) ∙ not-true _ (c .before .if5 .taken))
 
--- src/lib.rt:104:9
 padded-requires : tie.Need-padded-requires
 padded-requires c κs = search needs
 
--- src/lib.rt:77:1
 returns-6 : tie.Need-returns-6
 returns-6 c =
     let a = c .before .before .before .before .before .before .before .before .before .args in
