@@ -5,12 +5,14 @@
 mod layout;
 mod orders;
 mod reader;
+mod record;
 mod sys;
 mod transform;
 
 pub use layout::{column_count, layout, ColumnCount, Filter, LayoutInput, LayoutOutput, LfGroup};
 pub use orders::{orders, STORE_LENGTH};
 pub use reader::{read_bits, read_u32, unpack_signed, Choice, Place, Read};
+pub use record::{alike, cut, Layout, Sides};
 pub use transform::{transform, Transform};
 
 /// A refusal's number, 1 to 18, and its position.

@@ -89,4 +89,40 @@ extern "C" {
         x: &mut usize,
         y: &mut usize,
     ) -> u32;
+
+    pub fn netbuff_cut(
+        bw: usize,
+        bh: usize,
+        kinds: *const u8,
+        kinds_length: usize,
+        hf_mul: *const i32,
+        hf_mul_length: usize,
+        index: usize,
+        out_kinds: *mut u8,
+        out_kinds_length: usize,
+        out_hf_mul: *mut i32,
+        out_hf_mul_length: usize,
+        wide: &mut usize,
+        high: &mut usize,
+        x: &mut usize,
+        y: &mut usize,
+    ) -> u32;
+
+    pub fn netbuff_alike(
+        bw: usize,
+        bh: usize,
+        kinds: *const u8,
+        kinds_length: usize,
+        hf_mul: *const i32,
+        hf_mul_length: usize,
+        bw2: usize,
+        bh2: usize,
+        kinds2: *const u8,
+        kinds2_length: usize,
+        hf_mul2: *const i32,
+        hf_mul2_length: usize,
+        alike: &mut bool,
+        x: &mut usize,
+        y: &mut usize,
+    ) -> u32;
 }

@@ -1,8 +1,8 @@
 //! Netbuff's answers, through its safe wrapper, in the words of the comparison.
 
 use calls::{
-    Answer, ColumnCount, ColumnCountCall, LayoutBuffers, LayoutCall, OrdersCall, Outcome, ReadCall,
-    ReadKind, Refusal, Store, Transform,
+    AlikeCall, Answer, ColumnCount, ColumnCountCall, CutCall, GroupBuffers, LayoutBuffers,
+    LayoutCall, OrdersCall, Outcome, ReadCall, ReadKind, Refusal, Store, Transform,
 };
 use netbuff::{Choice, Filter, LayoutInput, LayoutOutput, LfGroup, Place};
 
@@ -102,4 +102,31 @@ pub fn orders(call: &OrdersCall) -> Outcome<usize, Store> {
 /// The order call on another store than its own.
 pub fn orders_into(call: &OrdersCall, store: &mut Store) -> Answer<usize> {
     answer(netbuff::orders(&call.bytes, &call.symbols, store))
+}
+
+pub fn cut(call: &CutCall) -> Outcome<(usize, usize), GroupBuffers> {
+    let mut buffers = (call.kinds.clone(), call.hf_mul.clone());
+    Outcome {
+        answer: cut_into(call, &mut buffers),
+        buffers,
+    }
+}
+
+/// The cut on other buffers than its own.
+pub fn cut_into(call: &CutCall, (kinds, hf_mul): &mut GroupBuffers) -> Answer<(usize, usize)> {
+    let sides = netbuff::cut(lent(&call.layout), call.group, kinds, hf_mul);
+    answer(sides.map(|sides| (sides.wide, sides.high)))
+}
+
+pub fn alike(call: &AlikeCall) -> Outcome<bool, ()> {
+    plain(netbuff::alike(lent(&call.left), lent(&call.right)))
+}
+
+fn lent(layout: &calls::Layout) -> netbuff::Layout<'_> {
+    netbuff::Layout {
+        wide: layout.wide,
+        high: layout.high,
+        kinds: &layout.kinds,
+        hf_mul: &layout.hf_mul,
+    }
 }
