@@ -2,6 +2,7 @@
 //! JPEG XL scan. What each call means, the lengths that fit and the refusals stand in
 //! `include/netbuff.h` and in document 01.
 
+mod contexts;
 mod layout;
 mod orders;
 mod reader;
@@ -9,6 +10,7 @@ mod record;
 mod sys;
 mod transform;
 
+pub use contexts::{block_context, BlockContexts};
 pub use layout::{column_count, layout, ColumnCount, Filter, LayoutInput, LayoutOutput, LfGroup};
 pub use orders::{orders, STORE_LENGTH};
 pub use reader::{read_bits, read_u32, unpack_signed, Choice, Place, Read};

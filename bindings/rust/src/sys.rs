@@ -125,4 +125,20 @@ extern "C" {
         x: &mut usize,
         y: &mut usize,
     ) -> u32;
+
+    pub fn netbuff_block_context(
+        bytes: *const u8,
+        bytes_length: usize,
+        num_clusters: u32,
+        map: *const u8,
+        map_length: usize,
+        num_block_clusters: &mut u32,
+        lengths: &mut [u32; 4],
+        lf_thresholds: &mut [i32; 45],
+        qf_thresholds: &mut [u32; 15],
+        block_ctx_map: &mut [u8; 2496],
+        bits_read: &mut usize,
+        x: &mut usize,
+        y: &mut usize,
+    ) -> u32;
 }

@@ -60,8 +60,7 @@ pub fn default_contexts() -> Contexts {
         count: 0,
         map: Vec::new(),
     };
-    let read = expected::contexts(&call);
-    read.expect("the default contexts are accepted").0
+    expected::contexts(&call).buffers
 }
 
 pub fn used_store() -> Store {

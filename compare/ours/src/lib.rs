@@ -1,10 +1,10 @@
 //! Netbuff's answers, through its safe wrapper, in the words of the comparison.
 
 use calls::{
-    AlikeCall, Answer, ColumnCount, ColumnCountCall, CutCall, GroupBuffers, LayoutBuffers,
-    LayoutCall, OrdersCall, Outcome, ReadCall, ReadKind, Refusal, Store, Transform,
+    AlikeCall, Answer, ColumnCount, ColumnCountCall, Contexts, ContextsCall, CutCall, GroupBuffers,
+    LayoutBuffers, LayoutCall, OrdersCall, Outcome, ReadCall, ReadKind, Refusal, Store, Transform,
 };
-use netbuff::{Choice, Filter, LayoutInput, LayoutOutput, LfGroup, Place};
+use netbuff::{BlockContexts, Choice, Filter, LayoutInput, LayoutOutput, LfGroup, Place};
 
 fn answer<T>(result: netbuff::Result<T>) -> Answer<T> {
     result.map_err(|netbuff::Refusal { number, x, y }| Refusal { number, x, y })
@@ -129,4 +129,38 @@ fn lent(layout: &calls::Layout) -> netbuff::Layout<'_> {
         kinds: &layout.kinds,
         hf_mul: &layout.hf_mul,
     }
+}
+
+/// A record that holds something, so that zeros beside a refusal show.
+const USED_RECORD: BlockContexts = BlockContexts {
+    num_block_clusters: 77,
+    lengths: [9; 4],
+    lf_thresholds: [-7; 45],
+    qf_thresholds: [7; 15],
+    block_ctx_map: [0xA5; 2496],
+};
+
+pub fn contexts(call: &ContextsCall) -> Outcome<usize, Contexts> {
+    let mut record = USED_RECORD;
+    let read = contexts_into(call, &mut record);
+    Outcome {
+        answer: read,
+        buffers: Contexts {
+            count: record.num_block_clusters,
+            lengths: record.lengths,
+            lf: record.lf_thresholds,
+            qf: record.qf_thresholds,
+            map: record.block_ctx_map,
+        },
+    }
+}
+
+/// The context call into a record of the wrapper.
+pub fn contexts_into(call: &ContextsCall, record: &mut BlockContexts) -> Answer<usize> {
+    answer(netbuff::block_context(
+        &call.bytes,
+        call.count,
+        &call.map,
+        record,
+    ))
 }

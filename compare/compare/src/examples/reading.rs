@@ -61,8 +61,10 @@ fn contexts(bytes: &[u8], count: u32, map: &[u8]) -> String {
         count,
         map: map.to_vec(),
     };
-    say(expected::contexts(&call), |(record, bits)| {
-        format!("{} clusters, {bits} bits", record.count)
+    let outcome = expected::contexts(&call);
+    let clusters = outcome.buffers.count;
+    say(outcome.answer, |bits| {
+        format!("{clusters} clusters, {bits} bits")
     })
 }
 

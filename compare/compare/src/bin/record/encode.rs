@@ -86,14 +86,13 @@ fn lent_layout(body: &mut Body, layout: &Layout) {
     body.lent(&layout.hf_mul);
 }
 
-pub fn contexts(body: &mut Body, call: &ContextsCall, outcome: &Outcome<(Contexts, usize), ()>) {
+pub fn contexts(body: &mut Body, call: &ContextsCall, outcome: &Outcome<usize, Contexts>) {
     body.lent(&call.bytes);
     body.number(call.count);
     body.lent(&call.map);
     body.answer(&outcome.answer);
-    let nothing = (Contexts::ZERO, 0);
-    let (record, bits) = outcome.answer.as_ref().unwrap_or(&nothing);
-    body.size(*bits);
+    body.size(*outcome.answer.as_ref().unwrap_or(&0));
+    let record = &outcome.buffers;
     record_numbers(body, record);
     body.left(&record.lf);
     body.left(&record.qf);
