@@ -132,7 +132,7 @@ fn lent(layout: &calls::Layout) -> netbuff::Layout<'_> {
 }
 
 /// A record that holds something, so that zeros beside a refusal show.
-const USED_RECORD: BlockContexts = BlockContexts {
+pub const USED_RECORD: BlockContexts = BlockContexts {
     num_block_clusters: 77,
     lengths: [9; 4],
     lf_thresholds: [-7; 45],
