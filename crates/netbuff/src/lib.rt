@@ -2,4 +2,5 @@
 // same answer. A call returns the refusal's number, 0 where it is accepted, and its position
 // through x and y.
 pub mod reader;
+pub mod record;
 pub mod transform;
