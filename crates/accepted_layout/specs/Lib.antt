@@ -1,0 +1,4 @@
+-- theorems over the layout call's definition
+pub mod Took
+pub mod Puts
+pub mod Accepted
