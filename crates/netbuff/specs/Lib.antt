@@ -2,3 +2,4 @@
 pub mod Transform
 pub mod Reader
 pub mod Record
+pub mod Contexts
