@@ -5,3 +5,4 @@ pub mod Sizes
 pub mod Loops
 pub mod CutSteps
 pub mod LikeSteps
+pub mod Theorems

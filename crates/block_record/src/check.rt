@@ -141,7 +141,7 @@ pub(crate) fn is_layout(bw: usize, bh: usize, kinds: &[u8], muls: &[u32]) -> boo
 }
 
 // Both sides are 1 to limit.
-pub fn in_limits(limit: usize, wide: usize, high: usize) -> bool
+pub(crate) fn in_limits(limit: usize, wide: usize, high: usize) -> bool
     ensures { λ r. ⌜ r ≡ inLimits limit wide high ⌝ }
 {
     if wide < 1 {

@@ -19,5 +19,7 @@ pub mod Same
 pub mod CutLaws
 pub mod Like
 pub mod LikeLaws
+pub mod Groups
+pub mod Listed
 pub mod Theorems
 pub mod WalkSteps

@@ -13,7 +13,7 @@ use Rattle.layout.specs.Both.{and-true}
 use Rattle.layout.specs.Kinds.{wideOf, highOf}
 use Rattle.layout.specs.Grid.{at, place-lt, Cell, cell-at}
 use Rattle.layout.specs.Valid.{Covers, Layout}
-use Rattle.layout.specs.Like.{Lent, lent, kindAt, mulAt, Has, SameRectangles, alikeCorners, bySort, alikeCell, alikeFrom, alike}
+use Rattle.layout.specs.Like.{Lent, lent, kindAt, mulAt, HasRectangle, SameRectangles, alikeCorners, bySort, alikeCell, alikeFrom, alike}
 
 -- what one cell tells
 data Pair (k m k′ m′ : ℕ) : Type 0 where
@@ -71,11 +71,11 @@ module _ (kinds muls kinds′ muls′ : List ℕ) where
     unfolding SameRectangles
     to f x y w h m = (λ r. one r (f (y * bw + x) (omega arith) (omega (arith, place-lt bw bh x y (r .inX) (r .inY)))), λ r. two r (f (y * bw + x) (omega arith) (omega (arith, place-lt bw bh x y (r .inX) (r .inY)))))
       where
-        one : Has L x y w h m → PairAt (y * bw + x) → Has N x y w h m
+        one : HasRectangle L x y w h m → PairAt (y * bw + x) → HasRectangle N x y w h m
         one r (corners a b c d g) = record { inX = r .inX; inY = r .inY; corner = b; isWide = sym c ∙ r .isWide; isHigh = sym d ∙ r .isHigh; isMul = sym g ∙ r .isMul }
         one r (plains a b) = absurd (let z = r .corner in omega arith)
 
-        two : Has N x y w h m → PairAt (y * bw + x) → Has L x y w h m
+        two : HasRectangle N x y w h m → PairAt (y * bw + x) → HasRectangle L x y w h m
         two r (corners a b c d g) = record { inX = r .inX; inY = r .inY; corner = a; isWide = c ∙ r .isWide; isHigh = d ∙ r .isHigh; isMul = g ∙ r .isMul }
         two r (plains a b) = absurd (let z = r .corner in omega arith)
 
@@ -121,3 +121,33 @@ module _ (L N : Lent) where
       back s =
           rw (eq-eqb (L .wide) (N .wide) (s .0), eq-eqb (L .high) (N .high) (s .1))
           (from-pairs (L .kinds) (L .muls) (N .kinds) (N .muls) (L .wide) (L .high) (subst (λ (n : Lent). SameRectangles L n) (sym (moved (s .0) (s .1))) (s .2)))
+
+-- A layout reaches its right and lower edges, so that layouts with the same rectangles have the same sides.
+module _ (L N : Lent) (here : Layout (L .wide) (L .high) (L .kinds) (L .muls)) (there : Layout (N .wide) (N .high) (N .kinds) (N .muls)) (same : SameRectangles L N) where
+  inside : (x y : ℕ) → x < L .wide → y < L .high → (x < N .wide) × (y < N .high)
+  unfolding SameRectangles
+  inside x y i j =
+      let o = here .valid .owned x y i j in
+      let v = o .covers in
+      let a = v .fromX in let b = v .toX in let c = v .fromY in let d = v .toY in
+      let r = same (o .ox) (o .oy) (wideOf (kindAt L (o .ox) (o .oy))) (highOf (kindAt L (o .ox) (o .oy))) (mulAt L (o .ox) (o .oy)) .0
+      (record { inX = omega arith; inY = omega arith; corner = v .corner; isWide = refl; isHigh = refl; isMul = refl }) in
+      let w = r .isWide in let h = r .isHigh in
+      let f = there .valid .fits (o .ox) (o .oy) (r .inX) (r .inY) (r .corner) in
+      let p = f .inX in let q = f .inY in
+      (omega arith, omega arith)
+
+  pub not-wider : 1 ≤ L .wide → 1 ≤ L .high → (L .wide ≤ N .wide) × (L .high ≤ N .high)
+  not-wider i j = let p = inside (L .wide - 1) (L .high - 1) (omega arith) (omega arith) in (omega arith, omega arith)
+
+pub same-turned : (L N : Lent) → SameRectangles L N → SameRectangles N L
+unfolding SameRectangles
+same-turned L N s x y w h m = (s x y w h m .1, s x y w h m .0)
+
+pub same-joined : (L N O : Lent) → SameRectangles L N → SameRectangles N O → SameRectangles L O
+unfolding SameRectangles
+same-joined L N O s t x y w h m = (λ r. t x y w h m .0 (s x y w h m .0 r), λ r. s x y w h m .1 (t x y w h m .1 r))
+
+pub same-itself : (L : Lent) → SameRectangles L L
+unfolding SameRectangles
+same-itself L x y w h m = (λ r. r, λ r. r)
