@@ -12,6 +12,7 @@ mod orders;
 mod placing;
 mod reader;
 mod signed;
+mod stores;
 mod symbol_stream;
 mod transform;
 
@@ -31,6 +32,7 @@ pub use orders::OrdersCase;
 pub use placing::fill;
 pub use reader::ReaderCase;
 pub use signed::SignedCase;
+pub use stores::{OrderCase, PlacesCase, PlacesInput};
 pub use symbol_stream::symbol_stream;
 pub use transform::TransformCase;
 
