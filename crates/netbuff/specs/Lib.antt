@@ -1,3 +1,4 @@
 -- what the exported calls hand out
 pub mod Transform
 pub mod Reader
+pub mod Orders
