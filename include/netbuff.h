@@ -149,6 +149,17 @@ uint32_t netbuff_orders(const uint8_t *bytes, size_t bytes_length, const uint32_
                         size_t symbols_length, uint16_t *store, size_t store_length,
                         size_t *symbols_read, size_t *x, size_t *y);
 
+/*
+ * Where the list of an order (0 to 12) and channel (0 to 2) stands in a store: its first number and
+ * how many there are, two for each place. An order above 12, a channel above 2 or a store of another
+ * length gets the empty stretch. Never refused.
+ */
+void netbuff_order(const uint16_t *store, size_t store_length, size_t order, size_t channel,
+                   size_t *first, size_t *count);
+
+/* Whether a store has its length, and every place of its 39 lists is inside its order's size. */
+bool netbuff_places_fit(const uint16_t *store, size_t store_length);
+
 #ifdef __cplusplus
 }
 #endif

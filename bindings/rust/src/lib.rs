@@ -12,7 +12,7 @@ mod transform;
 
 pub use contexts::{block_context, BlockContexts};
 pub use layout::{column_count, layout, ColumnCount, Filter, LayoutInput, LayoutOutput, LfGroup};
-pub use orders::{orders, STORE_LENGTH};
+pub use orders::{order, orders, places_fit, STORE_LENGTH};
 pub use reader::{read_bits, read_u32, unpack_signed, Choice, Place, Read};
 pub use record::{alike, cut, Layout, Sides};
 pub use transform::{transform, Transform};

@@ -141,4 +141,15 @@ extern "C" {
         x: &mut usize,
         y: &mut usize,
     ) -> u32;
+
+    pub fn netbuff_order(
+        store: *const u16,
+        store_length: usize,
+        order: usize,
+        channel: usize,
+        first: &mut usize,
+        count: &mut usize,
+    );
+
+    pub fn netbuff_places_fit(store: *const u16, store_length: usize) -> bool;
 }

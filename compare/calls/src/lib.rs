@@ -15,7 +15,8 @@ pub use contexts::{Contexts, ContextsCall, LIST_MOST, MAP_MOST};
 pub use groups::{AlikeCall, CutCall, GroupBuffers, Layout};
 pub use layout::{LayoutBuffers, LayoutCall};
 pub use orders::{
-    list_length, list_start, OrdersCall, Store, LIST_COUNT, ORDER_COUNT, ORDER_SIZES, STORE_LENGTH,
+    list_length, list_start, OrderCall, OrdersCall, Store, LIST_COUNT, ORDER_COUNT, ORDER_SIZES,
+    STORE_LENGTH,
 };
 
 pub use reads::{ReadCall, ReadKind};

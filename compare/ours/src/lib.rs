@@ -2,7 +2,8 @@
 
 use calls::{
     AlikeCall, Answer, ColumnCount, ColumnCountCall, Contexts, ContextsCall, CutCall, GroupBuffers,
-    LayoutBuffers, LayoutCall, OrdersCall, Outcome, ReadCall, ReadKind, Refusal, Store, Transform,
+    LayoutBuffers, LayoutCall, OrderCall, OrdersCall, Outcome, ReadCall, ReadKind, Refusal, Store,
+    Transform,
 };
 use netbuff::{BlockContexts, Choice, Filter, LayoutInput, LayoutOutput, LfGroup, Place};
 
@@ -132,7 +133,7 @@ fn lent(layout: &calls::Layout) -> netbuff::Layout<'_> {
 }
 
 /// A record that holds something, so that zeros beside a refusal show.
-const USED_RECORD: BlockContexts = BlockContexts {
+pub const USED_RECORD: BlockContexts = BlockContexts {
     num_block_clusters: 77,
     lengths: [9; 4],
     lf_thresholds: [-7; 45],
@@ -163,4 +164,14 @@ pub fn contexts_into(call: &ContextsCall, record: &mut BlockContexts) -> Answer<
         &call.map,
         record,
     ))
+}
+
+pub fn order(call: &OrderCall) -> Outcome<Store, ()> {
+    plain(Ok(
+        netbuff::order(&call.store, call.order, call.channel).to_vec()
+    ))
+}
+
+pub fn places_fit(store: &Store) -> Outcome<bool, ()> {
+    plain(Ok(netbuff::places_fit(store)))
 }

@@ -53,6 +53,20 @@ pub fn fill(rng: &mut Rng, wide: usize, high: usize, favoured: Option<u8>) -> Fi
     }
 }
 
+/// A group that is one varblock.
+pub fn single(transform: u8) -> Layout {
+    let (wide, high) = sides(transform);
+    let mut kinds = vec![1; wide * high];
+    let mut hf_mul = vec![0; wide * high];
+    (kinds[0], hf_mul[0]) = (2 + transform, 1);
+    Layout {
+        wide,
+        high,
+        kinds,
+        hf_mul,
+    }
+}
+
 fn sides(transform: u8) -> (usize, usize) {
     paper::kind_sides(transform + 2).expect("a transform number")
 }
