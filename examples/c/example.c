@@ -1,8 +1,13 @@
-/* A walk through Netbuff's calls from C. Prints what it finds; ends with 1 on anything unexpected. */
+/*
+ * A walk through Netbuff's calls from C: the layout of a scan of 16 x 16 pixels becomes a pass group.
+ * Prints what it finds; ends with 1 on anything unexpected.
+ */
 #include "netbuff.h"
 
 #include <inttypes.h>
 #include <stdio.h>
+
+enum { BLOCKS = 4 };
 
 static int failures = 0;
 
@@ -27,8 +32,40 @@ static void look_up(void)
     expect(refused == 5 && x == 0 && y == 0, "transform 27");
 }
 
+static void cut_group(const uint8_t kinds[BLOCKS], const int32_t hf_mul[BLOCKS])
+{
+    uint8_t group_kinds[BLOCKS];
+    int32_t group_hf_mul[BLOCKS];
+    size_t wide, high, x, y;
+    bool alike;
+    uint32_t refused = netbuff_cut(2, 2, kinds, BLOCKS, hf_mul, BLOCKS, 0, group_kinds, BLOCKS,
+                                   group_hf_mul, BLOCKS, &wide, &high, &x, &y);
+    printf("group 0: %zu x %zu blocks\n", wide, high);
+    expect(refused == 0 && wide == 2 && high == 2, "cut");
+    refused = netbuff_alike(2, 2, kinds, BLOCKS, hf_mul, BLOCKS, 2, 2, group_kinds, BLOCKS,
+                            group_hf_mul, BLOCKS, &alike, &x, &y);
+    expect(refused == 0 && alike, "the group is the whole layout");
+}
+
+static void read_contexts(void)
+{
+    const uint8_t bytes[1] = {1};
+    uint32_t clusters, lengths[4], qf[15];
+    int32_t lf[45];
+    uint8_t map[2496];
+    size_t bits, x, y;
+    uint32_t refused = netbuff_block_context(bytes, 1, 0, bytes, 0, &clusters, lengths, lf, qf, map,
+                                             &bits, &x, &y);
+    printf("contexts: %" PRIu32 " clusters, %zu bits read\n", clusters, bits);
+    expect(refused == 0 && clusters == 15 && bits == 1 && map[38] == 14, "contexts");
+}
+
 int main(void)
 {
+    const uint8_t kinds[BLOCKS] = {2 + 6, 2, 1, 2};
+    const int32_t hf_mul[BLOCKS] = {5, 1, 0, 3};
     look_up();
+    cut_group(kinds, hf_mul);
+    read_contexts();
     return failures == 0 ? 0 : 1;
 }

@@ -2,3 +2,4 @@
 pub mod Took
 pub mod Puts
 pub mod Accepted
+pub mod Theorems

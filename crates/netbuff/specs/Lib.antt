@@ -2,3 +2,5 @@
 pub mod Transform
 pub mod Reader
 pub mod Record
+pub mod Contexts
+pub mod Orders

@@ -1,14 +1,15 @@
 //! The calls that are compared.
 
-use compare::cases::{Case, ReaderCase, SignedCase, TransformCase};
+use compare::cases::{
+    AlikeCase, Case, ContextsCase, CutCase, ReaderCase, SignedCase, TransformCase,
+};
 
 use crate::options::Options;
-use crate::ours;
 
 /// Compares one call, and tells whether it agrees.
 type Compare = fn(&Options) -> bool;
 
-const CALLS: [(&str, Compare); 3] = [
+const CALLS: [(&str, Compare); 6] = [
     (TransformCase::NAME, |options| {
         compare(options, &TransformCase, ours::transform)
     }),
@@ -17,6 +18,15 @@ const CALLS: [(&str, Compare); 3] = [
     }),
     (ReaderCase::NAME, |options| {
         compare(options, &ReaderCase, ours::read)
+    }),
+    (CutCase::NAME, |options| {
+        compare(options, &CutCase, ours::cut)
+    }),
+    (AlikeCase::NAME, |options| {
+        compare(options, &AlikeCase, ours::alike)
+    }),
+    (ContextsCase::NAME, |options| {
+        compare(options, &ContextsCase, ours::contexts)
     }),
 ];
 
