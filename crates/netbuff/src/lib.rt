@@ -3,6 +3,7 @@
 // through x and y.
 pub mod contexts;
 pub mod orders;
+pub mod layout;
 pub mod reader;
 pub mod record;
 pub mod transform;
