@@ -1,6 +1,5 @@
 // The sizes of the 13 orders (`hf_pass.rs`).
 use crate::Sides;
-
 ghost use mathlib.Core.Path.{_≡_};
 ghost use Rattle.dct_select.specs.LookUp.{blockSize};
 
@@ -14,10 +13,22 @@ const BLOCK_SIZES: [Sides; 13] = [
     Sides { wide: 32, high: 16 },
     Sides { wide: 64, high: 64 },
     Sides { wide: 64, high: 32 },
-    Sides { wide: 128, high: 128 },
-    Sides { wide: 128, high: 64 },
-    Sides { wide: 256, high: 256 },
-    Sides { wide: 256, high: 128 },
+    Sides {
+        wide: 128,
+        high: 128,
+    },
+    Sides {
+        wide: 128,
+        high: 64,
+    },
+    Sides {
+        wide: 256,
+        high: 256,
+    },
+    Sides {
+        wide: 256,
+        high: 128,
+    },
 ];
 
 // Width and height in cells of an order; an order above 12 has none.

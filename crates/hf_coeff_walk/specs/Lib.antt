@@ -1,0 +1,8 @@
+-- one channel of a varblock: its count, its coefficients
+pub mod Signed
+pub mod SignedLaws
+pub mod Walk
+pub mod Places
+pub mod Item
+pub mod Outcome
+pub mod PlaceLaws
