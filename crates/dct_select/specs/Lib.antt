@@ -3,3 +3,4 @@ pub mod Transforms
 pub mod BlockSizes
 pub mod LookUp
 pub mod Rules
+pub mod Varblock

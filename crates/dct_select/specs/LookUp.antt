@@ -49,10 +49,13 @@ known =
 abbrev pub lookUp : ℕ → Looked
 lookUp n = getD known n (Refused (UnknownTransform 0 0))
 
+abbrev pub sides : ℕ → ℕ → Sides
+sides w h = record { wide = w; high = h }
+
 -- width and height in blocks
 abbrev pub sizeOf : TransformType → Sides
-sizeOf t = record { wide = wide (numberOf t); high = high (numberOf t) }
+sizeOf t = sides (wide (numberOf t)) (high (numberOf t))
 
 -- width and height of an order in cells, 0 and 0 above 12
 abbrev pub blockSize : ℕ → Sides
-blockSize k = record { wide = widthOf k; high = heightOf k }
+blockSize k = sides (widthOf k) (heightOf k)

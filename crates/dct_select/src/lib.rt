@@ -4,6 +4,7 @@ use refusal::Refusal;
 pub mod block_sizes;
 
 ghost use mathlib.Core.Path.{_≡_};
+ghost use Prim.Native.Nat.{_<_};
 ghost use Rattle.dct_select.specs.Transforms.{wide, high, orderOf, turns};
 ghost use Rattle.dct_select.specs.LookUp.{numberOf, lookUp, sizeOf};
 
@@ -140,6 +141,36 @@ const ORDER_ID: [usize; 27] = [
     12,
 ];
 
+const TURN: [bool; 27] = [
+    true,
+    false,
+    false,
+    false,
+    true,
+    true,
+    true,
+    false,
+    true,
+    false,
+    true,
+    false,
+    false,
+    false,
+    false,
+    false,
+    false,
+    false,
+    true,
+    true,
+    false,
+    true,
+    true,
+    false,
+    true,
+    true,
+    false,
+];
+
 impl TransformType {
     pub const COUNT: usize = 27;
 
@@ -180,7 +211,7 @@ impl TransformType {
     }
 
     pub fn number(self) -> usize
-        ensures { λ r. ⌜ r ≡ numberOf self ⌝ }
+        ensures { λ r. ⌜ (r ≡ numberOf self) × (r < 27) ⌝ }
     {
         match self {
             TransformType::Dct8 => 0,
@@ -235,9 +266,6 @@ impl TransformType {
         ensures { λ r. ⌜ r ≡ turns (numberOf self) ⌝ }
     {
         let t = self.number();
-        match t {
-            1..=3 | 12..=17 => false,
-            _ => WIDE[t] <= HIGH[t],
-        }
+        TURN[t]
     }
 }

@@ -1,13 +1,8 @@
 -- What document 01 hands back for each refusal: its number and a position of two numbers.
 use Prim.Native.Nat.{ℕ}
 use Rattle.refusal.specs.declared.Refusal.{Refusal}
+use Rattle.refusal.specs.declared.Said.{Said}
 use Rattle.refusal.specs.declared.Refusal.the-variants.{Length, Size, BitsEnd, ColumnsEnd, UnknownTransform, HfMul, Border, Overlap, Outside, Sharpness, Parameter, Context, Order, StoredPlace, Preset, SymbolsEnd, Count, TooManyZeros, Layout}
-
--- a refusal's number, and its position x, y
-pub record Said : Type 0 where
-  pub number : ℕ
-  pub x : ℕ
-  pub y : ℕ
 
 abbrev pub at : ℕ → ℕ → ℕ → Said
 at n x y = record { number = n; x = x; y = y }

@@ -1,4 +1,6 @@
 // The refusals of document 01, section "Refused, and what then remains".
+ghost use mathlib.Core.Path.{_≡_};
+ghost use Rattle.refusal.specs.Said.{said};
 
 // Each case carries the position that it hands back.
 pub enum Refusal {
@@ -32,4 +34,87 @@ pub enum Refusal {
     TooManyZeros(usize),
     // 18: a lent layout or group is none.
     Layout,
+}
+
+// What a refusal hands back: its number and a position of two numbers.
+pub struct Said {
+    pub number: u32,
+    pub x: usize,
+    pub y: usize,
+}
+
+impl Refusal {
+    pub fn numbers(self) -> Said
+        ensures { λ r. ⌜ r ≡ said self ⌝ }
+    {
+        match self {
+            Refusal::Length => Said {
+                number: 1,
+                x: 0,
+                y: 0,
+            },
+            Refusal::Size => Said {
+                number: 2,
+                x: 0,
+                y: 0,
+            },
+            Refusal::BitsEnd(read) => Said {
+                number: 3,
+                x: read,
+                y: 0,
+            },
+            Refusal::ColumnsEnd(x, y) => Said { number: 4, x, y },
+            Refusal::UnknownTransform(x, y) => Said { number: 5, x, y },
+            Refusal::HfMul(x, y) => Said { number: 6, x, y },
+            Refusal::Border(x, y) => Said { number: 7, x, y },
+            Refusal::Overlap(x, y) => Said { number: 8, x, y },
+            Refusal::Outside(x, y) => Said { number: 9, x, y },
+            Refusal::Sharpness(x, y) => Said { number: 10, x, y },
+            Refusal::Parameter => Said {
+                number: 11,
+                x: 0,
+                y: 0,
+            },
+            Refusal::Context => Said {
+                number: 12,
+                x: 0,
+                y: 0,
+            },
+            Refusal::Order(read) => Said {
+                number: 13,
+                x: read,
+                y: 0,
+            },
+            Refusal::StoredPlace => Said {
+                number: 13,
+                x: 0,
+                y: 0,
+            },
+            Refusal::Preset(read) => Said {
+                number: 14,
+                x: read,
+                y: 0,
+            },
+            Refusal::SymbolsEnd(read) => Said {
+                number: 15,
+                x: read,
+                y: 0,
+            },
+            Refusal::Count(read) => Said {
+                number: 16,
+                x: read,
+                y: 0,
+            },
+            Refusal::TooManyZeros(read) => Said {
+                number: 17,
+                x: read,
+                y: 0,
+            },
+            Refusal::Layout => Said {
+                number: 18,
+                x: 0,
+                y: 0,
+            },
+        }
+    }
 }
