@@ -1,0 +1,21 @@
+-- What a layout is, its rectangles, its groups, likeness, and the check that decides it.
+pub mod Kinds
+pub mod Walk
+pub mod Both
+pub mod Stretch
+pub mod Grid
+pub mod Valid
+pub mod Order
+pub mod Check
+pub mod CheckLaws
+pub mod CheckValid
+pub mod ValidCheck
+pub mod Varblocks
+pub mod Area
+pub mod Rest
+pub mod Cut
+pub mod Same
+pub mod CutLaws
+pub mod Like
+pub mod Theorems
+pub mod WalkSteps

@@ -1,0 +1,48 @@
+-- The statements that other crates cite.
+use mathlib.Core.Path.{_≡_, refl}
+use mathlib.Core.Bool.{Bool, true}
+use mathlib.Core.Logic.{_↔_}
+use mathlib.Core.List.{List}
+use Prim.Native.Nat.{ℕ, _*_, _≤_, _<_}
+use native.Mathlib.Omega.{arith}
+use lib.ListN.{length}
+use Rattle.layout.specs.Grid.{at}
+use Rattle.layout.specs.Valid.{Covers, Owned, Valid, Layout}
+use Rattle.layout.specs.Check.{check}
+use Rattle.layout.specs.CheckValid.{check-valid}
+use Rattle.layout.specs.ValidCheck.{valid-check}
+use Rattle.layout.specs.Varblocks.{varblocksOf, area}
+use Rattle.layout.specs.Area.{area-valid}
+use Rattle.layout.specs.Cut.{groupWide, groupHigh, cut}
+use Rattle.layout.specs.CutLaws.{cut-layout}
+
+module _ (bw bh : ℕ) (kinds muls : List ℕ) where
+  -- 18 is refused exactly where it should be
+  pub check-iff : (room : ℕ) → bw ≤ room → length kinds ≡ bh * bw → length muls ≡ bh * bw → (check room bw bh kinds muls ≡ true) ↔ Layout bw bh kinds muls
+  check-iff room h k m = (
+    λ e. record { kindsLength = k; mulsLength = m; valid = check-valid bw bh (at kinds bw) (at muls bw) room h e },
+    λ ok. valid-check bw bh (at kinds bw) (at muls bw) (ok .valid) room h,
+  )
+
+  pub layout-check : (room : ℕ) → bw ≤ room → Layout bw bh kinds muls → check room bw bh kinds muls ≡ true
+  layout-check room h ok = valid-check bw bh (at kinds bw) (at muls bw) (ok .valid) room h
+
+  -- rectangles that share a cell of the grid are one
+  pub disjoint : Layout bw bh kinds muls → (a b c d x y : ℕ) → x < bw → y < bh → Covers (at kinds bw) a b x y → Covers (at kinds bw) c d x y → (a ≡ c) × (b ≡ d)
+  disjoint ok a b c d x y i j v w =
+      let o = ok .valid .owned x y i j in
+      let p = o .only a b v in
+      let q = o .only c d w in
+      (omega arith, omega arith)
+
+  -- each cell of the grid is in one
+  pub covered : Layout bw bh kinds muls → (x y : ℕ) → x < bw → y < bh → Owned (at kinds bw) x y
+  covered ok x y i j = ok .valid .owned x y i j
+
+  pub layout-area : Layout bw bh kinds muls → area (varblocksOf bw bh kinds muls) ≡ bw * bh
+  layout-area ok = area-valid bw bh (at kinds bw) (at muls bw) (ok .valid)
+
+  -- no group of a layout is refused with 18
+  pub group-check : (g room : ℕ) → groupWide bw g ≤ room → Layout bw bh kinds muls → check room (groupWide bw g) (groupHigh bw bh g) (cut bw bh g kinds) (cut bw bh g muls) ≡ true
+  group-check g room h ok =
+      valid-check (groupWide bw g) (groupHigh bw bh g) (at (cut bw bh g kinds) (groupWide bw g)) (at (cut bw bh g muls) (groupWide bw g)) (cut-layout bw bh g kinds muls ok .valid) room h
