@@ -1,0 +1,10 @@
+-- the order call, and what an accepted one hands on
+pub mod Reading
+pub mod Written
+pub mod Read
+pub mod Accepted
+pub mod Accepts
+pub mod Facts
+pub mod Stretch
+pub mod Fits
+pub mod Marked

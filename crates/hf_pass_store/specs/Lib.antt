@@ -1,0 +1,2 @@
+-- the store of the orders
+pub mod Store

@@ -1,0 +1,1 @@
+// The natural order of a block size (`hf_pass.rs`).

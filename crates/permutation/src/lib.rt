@@ -1,0 +1,1 @@
+// Digits that put a list in order, in place (`read_permutation`).
