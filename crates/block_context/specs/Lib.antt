@@ -1,0 +1,4 @@
+-- what a block context is, the lent record, and laws on both
+pub mod Contexts
+pub mod Record
+pub mod Bounds
