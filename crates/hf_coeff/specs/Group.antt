@@ -53,3 +53,13 @@ module _ (shift clusters : ℕ) (stretch : List ℕ) where
   unfolding group itemsOf
   group-items P [] r = unfold read in refl
   group-items P (v ∷ vs) r = rw (read-append (channels P v) (itemsOf P vs) r) (group-items P vs (varblock P v r))
+
+-- symbols read
+abbrev pub readOf : Reading → ℕ
+readOf (going us at log grids rows left) = at
+readOf (refused why at log grids) = at
+
+-- what was left over of the counts, in all
+abbrev pub leftOf : Reading → ℕ
+leftOf (going us at log grids rows left) = left
+leftOf (refused why at log grids) = 0

@@ -1,5 +1,4 @@
 -- one channel of a varblock: its count, its coefficients
-pub mod Signed
 pub mod SignedLaws
 pub mod Walk
 pub mod Places

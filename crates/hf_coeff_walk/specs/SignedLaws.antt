@@ -2,7 +2,7 @@
 use mathlib.Core.Path.{_≡_, refl}
 use Prim.Native.Nat.{ℕ, _+_, _-_, _/_, _%_, _^_}
 use borrow.Author.Tests.{eq-eqb, ne-eqb}
-use Rattle.hf_coeff_walk.specs.Signed.{unpackSigned}
+use Rattle.bits.specs.Signed.{unpackSigned}
 
 pub unpack-even : (u : ℕ) → u % 2 ≡ 0 → unpackSigned u ≡ u / 2
 unfolding unpackSigned

@@ -10,7 +10,7 @@ pub mod place;
 ghost use mathlib.Core.Path.{_≡_};
 ghost use Prim.Native.Nat.{_+_, _*_, _%_, _^_, _≤_, _<_};
 ghost use lib.ListN.{length, drop};
-ghost use Rattle.hf_coeff_walk.specs.Signed.{unpackSigned};
+ghost use Rattle.bits.specs.Signed.{unpackSigned};
 ghost use Rattle.hf_coeff_walk.specs.Walk.{flag, walk};
 ghost use Rattle.hf_coeff_walk.specs.Places.{paired, placesOf};
 ghost use Rattle.hf_coeff_walk.specs.Outcome.{Ready, Handed, lessOf, gainCell};

@@ -1,0 +1,9 @@
+pub mod Symbols
+pub mod Sequence
+pub mod Places
+pub mod Contexts
+pub mod Channel
+pub mod Premises
+pub mod Whole
+pub mod Existence
+pub mod OneToOne
