@@ -6,13 +6,20 @@ use Prim.Native.Nat.{ℕ, zero, suc, _+_, _*_, _/_, _<_, _≤_}
 use native.Mathlib.Omega.{arith}
 use native.Mathlib.Nat.{mul-le-mul}
 use lib.ListN.{length, getD, drop}
-use Rattle.hf_coeff_walk.specs.Places.{Place, paired, placesOf, cellOf}
+use Rattle.natural_order.specs.Places.{Place, flat}
+use Rattle.hf_coeff_walk.specs.Places.{paired, placesOf, cellOf}
 
 pub length-paired : (l : List ℕ) → length (paired l) ≡ length l / 2
 unfolding paired
 length-paired [] = omega arith
 length-paired (a ∷ []) = omega arith
 length-paired (a ∷ b ∷ l) = let e : length (paired l) ≡ length l / 2 = length-paired l in omega arith
+
+-- what is stored is read back
+pub paired-flat : (l : List Place) → paired (flat l) ≡ l
+unfolding paired
+paired-flat [] = refl
+paired-flat (p ∷ l) = ap (λ (m : List Place). p ∷ m) (paired-flat l)
 
 pub paired-drop : (k : ℕ) (l : List ℕ) → paired (drop (2 * k) l) ≡ drop k (paired l)
 unfolding paired

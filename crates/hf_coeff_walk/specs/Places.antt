@@ -2,9 +2,7 @@
 use mathlib.Core.Bool.{Bool, cond}
 use mathlib.Core.List.{List, [], _∷_}
 use Prim.Native.Nat.{ℕ, _+_, _*_}
-
-abbrev pub Place : Type 0
-Place = ℕ × ℕ
+use Rattle.natural_order.specs.Places.{Place}
 
 -- a stretch of the store: x, y, x, y, ..
 unfoldable pub paired : List ℕ → List Place

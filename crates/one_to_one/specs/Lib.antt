@@ -7,3 +7,5 @@ pub mod Premises
 pub mod Whole
 pub mod Existence
 pub mod OneToOne
+pub mod Spread
+pub mod Corners
