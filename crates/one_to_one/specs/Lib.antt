@@ -9,3 +9,4 @@ pub mod Existence
 pub mod OneToOne
 pub mod Spread
 pub mod Corners
+pub mod Items
