@@ -14,7 +14,7 @@ use Rattle.block_context.specs.Record.{fit}
 use Rattle.hf_coeff.specs.declared.CoeffAnswer.{CoeffAnswer}
 use Rattle.hf_coeff.specs.declared.CoeffAnswer.the-variants.{Accepted, Refused}
 use Rattle.hf_coeff.specs.Pass.{Pass, varblocks}
-use Rattle.hf_coeff.specs.Group.{Grids, Reading, going, refused, group}
+use Rattle.hf_coeff.specs.Group.{Grids, Reading, going, refused, group, leftOf}
 use Rattle.hf_coeff.specs.Exponent.{exponent}
 
 -- what is lent
@@ -118,3 +118,11 @@ call L =
     (cond (not (layoutFits (L .pass))) (refuse L Layout)
     (cond (not (placesFit (L .pass .store))) (refuse L StoredPlace)
     (withPreset L (readPreset L)))))))
+
+-- counts that were not used up, in all
+abbrev pub leftoverAt : Lent → Read → ℕ
+leftoverAt L (Ended at) = 0
+leftoverAt L (Value preset at) = leftOf (reading L preset)
+
+abbrev pub leftover : Lent → ℕ
+leftover L = leftoverAt L (readPreset L)

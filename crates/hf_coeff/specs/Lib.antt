@@ -3,3 +3,5 @@ pub mod Exponent
 pub mod Pass
 pub mod Group
 pub mod Call
+pub mod CallLaws
+pub mod Fits

@@ -10,3 +10,4 @@ pub mod OneToOne
 pub mod Spread
 pub mod Corners
 pub mod Items
+pub mod Demand3
