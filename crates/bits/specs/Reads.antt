@@ -1,10 +1,11 @@
 -- The declared types against reads of the list of bits.
+use mathlib.Core.Bool.{cond}
 use Prim.Native.Nat.{ℕ, _+_, _*_, _-_, _/_, _%_, min}
+use lib.Dec.{eqb}
 use Rattle.bits.specs.declared.Place.{Place}
 use Rattle.bits.specs.declared.Got.{Got}
 use Rattle.bits.specs.declared.Got.the-variants as got
 use Rattle.bits.specs.declared.U32Specifier.{U32Specifier}
-use Rattle.bits.specs.declared.U32Specifier.the-variants as specifier
 use Rattle.bits.specs.Bits.{Read, Value, Ended, Choice, Constant, Offset}
 
 -- the bits before a place
@@ -20,7 +21,6 @@ abbrev pub gotOf : ℕ → Read → Got
 gotOf from (Value v at) = got.Value v (placeAt at)
 gotOf from (Ended at) = got.End (at - from)
 
--- at most 32 bits are taken at a time
+-- no bits: a constant; at most 32 bits are taken at a time
 abbrev pub choiceOf : U32Specifier → Choice
-choiceOf (specifier.Constant v) = Constant v
-choiceOf (specifier.BitsOffset o n) = Offset o (min n 32)
+choiceOf d = cond (eqb (d .bits) 0) (Constant (d .offset)) (Offset (d .offset) (min (d .bits) 32))

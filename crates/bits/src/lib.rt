@@ -1,6 +1,6 @@
 // A reader of bits over lent bytes, lowest first within each byte (stand-in for `jxl_bitstream`).
 ghost use mathlib.Core.Path.{_≡_};
-ghost use Prim.Native.Nat.{_≤_, _<_, _+_, _/_, _%_, _^_, min};
+ghost use Prim.Native.Nat.{_≤_, _<_, _+_, _/_, _%_, _^_, _*_, min};
 ghost use lib.ListN.{length, take, drop};
 ghost use Rattle.bits.specs.Bits.{readBits, readU32, readChoice, chosen};
 ghost use Rattle.bits.specs.Numbers.{number};
@@ -20,10 +20,10 @@ pub enum Got {
     End(u32),
 }
 
-// A choice of a U32: a constant, or an offset and how many bits are added to it.
-pub enum U32Specifier {
-    Constant(u32),
-    BitsOffset(u32, u32),
+// A choice of a U32: an offset and how many bits are added to it; a constant has none.
+pub struct U32Specifier {
+    pub offset: u32,
+    pub bits: u32,
 }
 
 impl Place {
@@ -104,22 +104,25 @@ pub fn read_bits(s: &[u8], p: Place, n: u32) -> Got
 }
 
 // One choice of a U32, behind its selector.
-fn read_choice(s: &[u8], p: Place, choice: U32Specifier) -> Got
-    requires { ⌜ p .bit < 8 ⌝ }
-    ensures { λ r. ⌜ r ≡ gotOf (passed p) (readChoice (now (s .entry)) (passed p) (choiceOf choice)) ⌝ }
+fn read_choice(s: &[u8], p: Place, d: U32Specifier) -> Got
+    requires { ⌜ passed p ≤ 8 * length (now s) ⌝ }
+    ensures { λ r. ⌜ r ≡ gotOf (passed p) (readChoice (now (s .entry)) (passed p) (choiceOf d)) ⌝ }
 {
-    match choice {
-        U32Specifier::Constant(v) => Got::Value(v, p),
-        U32Specifier::BitsOffset(offset, n) => {
-            let Got::Value(v, next) = read_bits(s, p, n) else {
-                return Got::End(0);
-            };
-            Got::Value(std::num::wrapping_add_u32(offset, v), next)
-        }
-    }
+    let offset = d.offset;
+    let bits = d.bits;
+    let Got::Value(v, next) = read_bits(s, p, bits) else {
+        return Got::End(0);
+    };
+    Got::Value(std::num::wrapping_add_u32(offset, v), next)
 }
 
-fn choose(k: u32, d0: U32Specifier, d1: U32Specifier, d2: U32Specifier, d3: U32Specifier) -> U32Specifier
+fn choose(
+    k: u32,
+    d0: U32Specifier,
+    d1: U32Specifier,
+    d2: U32Specifier,
+    d3: U32Specifier,
+) -> U32Specifier
     ensures { λ r. ⌜ choiceOf r ≡ chosen k (choiceOf d0) (choiceOf d1) (choiceOf d2) (choiceOf d3) ⌝ }
 {
     match k {
@@ -132,7 +135,14 @@ fn choose(k: u32, d0: U32Specifier, d1: U32Specifier, d2: U32Specifier, d3: U32S
 
 // A U32: a two-bit selector, then that choice. A selector that was read counts where its field
 // is missing.
-pub fn read_u32(s: &[u8], p: Place, d0: U32Specifier, d1: U32Specifier, d2: U32Specifier, d3: U32Specifier) -> Got
+pub fn read_u32(
+    s: &[u8],
+    p: Place,
+    d0: U32Specifier,
+    d1: U32Specifier,
+    d2: U32Specifier,
+    d3: U32Specifier,
+) -> Got
     ensures { λ r. ⌜ r ≡ gotOf (passed p) (readU32 (now (s .entry)) (passed p) (choiceOf d0) (choiceOf d1) (choiceOf d2) (choiceOf d3)) ⌝ }
 {
     let Got::Value(k, next) = read_bits(s, p, 2) else {

@@ -8,7 +8,8 @@ use Rattle.dct_select.specs.declared.TransformType.the-variants.{Dct8, H
 use Rattle.dct_select.specs.declared.Looked.{Looked}
 use Rattle.dct_select.specs.declared.Looked.the-variants.{Known, Refused}
 use Rattle.dct_select.specs.declared.Sides.{Sides}
-use Rattle.dct_select.specs.Transforms.{wide, high}
+use Rattle.dct_select.specs.declared.Carried.{Carried}
+use Rattle.dct_select.specs.Transforms.{wide, high, orderOf, turns}
 use Rattle.dct_select.specs.BlockSizes.{widthOf, heightOf}
 
 -- numbers follow the enum's order
@@ -55,6 +56,10 @@ sides w h = record { wide = w; high = h }
 -- width and height in blocks
 abbrev pub sizeOf : TransformType → Sides
 sizeOf t = sides (wide (numberOf t)) (high (numberOf t))
+
+-- what the code's table holds for a number
+abbrev pub carriedBy : ℕ → Carried
+carriedBy t = (wide t, high t, orderOf t, turns t)
 
 -- width and height of an order in cells, 0 and 0 above 12
 abbrev pub blockSize : ℕ → Sides

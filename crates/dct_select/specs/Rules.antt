@@ -8,22 +8,12 @@ use lib.Dec.{T}
 use lib.ListN.{getD, List·getD-eq-default}
 use Rattle.laws.specs.Lists.{getD-map, tabulate, getD-tabulate}
 use Rattle.laws.specs.Tables.{each, each-at}
-use Rattle.dct_select.specs.Transforms.{Row, row, TRANSFORMS, wide, high, orderOf, turns}
 use Rattle.dct_select.specs.BlockSizes.{BLOCK-SIZES, widthOf, heightOf}
-use Rattle.dct_select.specs.LookUp.{sides, blockSize}
+use Rattle.dct_select.specs.LookUp.{sides, blockSize, carriedBy}
 
--- The tables column by column, as the code has them.
-pub wide-at : (t : ℕ) → getD (map (λ (r : Row). r .width) TRANSFORMS) t 0 ≡ wide t
-unfolding wide
-wide-at t = getD-map (λ (r : Row). r .width) TRANSFORMS t (row 0 0 0)
-
-pub high-at : (t : ℕ) → getD (map (λ (r : Row). r .height) TRANSFORMS) t 0 ≡ high t
-unfolding high
-high-at t = getD-map (λ (r : Row). r .height) TRANSFORMS t (row 0 0 0)
-
-pub order-at : (t : ℕ) → getD (map (λ (r : Row). r .order) TRANSFORMS) t 0 ≡ orderOf t
-unfolding orderOf
-order-at t = getD-map (λ (r : Row). r .order) TRANSFORMS t (row 0 0 0)
+-- what the transforms carry, as the code has it
+pub carried-at : (t : ℕ) → t < 27 → getD (tabulate carriedBy 27 0) t (0, 0, 0, false) ≡ carriedBy t
+carried-at t h = let e : 0 + t ≡ t = omega arith in getD-tabulate carriedBy 27 0 t (0, 0, 0, false) h ∙ ap carriedBy e
 
 -- the sizes of the orders, as the code has them
 pub block-size-at : (k : ℕ) → getD (map (λ (s : ℕ × ℕ). sides (s .0) (s .1)) BLOCK-SIZES) k (sides 0 0) ≡ blockSize k
@@ -37,7 +27,3 @@ block-size-beyond k h = rw (List·getD-eq-default BLOCK-SIZES (0, 0) {n = k} h)
 -- A rule for the numbers 0 to 26.
 pub below-27 : (rule : ℕ → Bool) → T (each rule 27 0) → (t : ℕ) → t < 27 → T (rule t)
 below-27 rule all t h = each-at rule 27 0 all t (omega arith) (omega arith)
-
--- the turns, as the code has them
-pub turn-at : (t : ℕ) → t < 27 → getD (tabulate turns 27 0) t false ≡ turns t
-turn-at t h = let e : 0 + t ≡ t = omega arith in getD-tabulate turns 27 0 t false h ∙ ap turns e

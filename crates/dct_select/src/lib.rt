@@ -5,8 +5,8 @@ pub mod block_sizes;
 
 ghost use mathlib.Core.Path.{_≡_};
 ghost use Prim.Native.Nat.{_<_};
-ghost use Rattle.dct_select.specs.Transforms.{wide, high, orderOf, turns};
-ghost use Rattle.dct_select.specs.LookUp.{numberOf, lookUp, sizeOf};
+ghost use Rattle.dct_select.specs.Transforms.{orderOf, turns};
+ghost use Rattle.dct_select.specs.LookUp.{numberOf, lookUp, sizeOf, carriedBy};
 
 // Numbered 0 to 26 in this order.
 pub enum TransformType {
@@ -51,124 +51,37 @@ pub struct Sides {
     pub high: usize,
 }
 
-const WIDE: [usize; 27] = [
-    1,
-    1,
-    1,
-    1,
-    2,
-    4,
-    1,
-    2,
-    1,
-    4,
-    2,
-    4,
-    1,
-    1,
-    1,
-    1,
-    1,
-    1,
-    8,
-    4,
-    8,
-    16,
-    8,
-    16,
-    32,
-    16,
-    32,
-];
+// What a transform carries: width and height in blocks, order, turn.
+struct Carried(usize, usize, usize, bool);
 
-const HIGH: [usize; 27] = [
-    1,
-    1,
-    1,
-    1,
-    2,
-    4,
-    2,
-    1,
-    4,
-    1,
-    4,
-    2,
-    1,
-    1,
-    1,
-    1,
-    1,
-    1,
-    8,
-    8,
-    4,
-    16,
-    16,
-    8,
-    32,
-    32,
-    16,
-];
-
-const ORDER_ID: [usize; 27] = [
-    0,
-    1,
-    1,
-    1,
-    2,
-    3,
-    4,
-    4,
-    5,
-    5,
-    6,
-    6,
-    1,
-    1,
-    1,
-    1,
-    1,
-    1,
-    7,
-    8,
-    8,
-    9,
-    10,
-    10,
-    11,
-    12,
-    12,
-];
-
-const TURN: [bool; 27] = [
-    true,
-    false,
-    false,
-    false,
-    true,
-    true,
-    true,
-    false,
-    true,
-    false,
-    true,
-    false,
-    false,
-    false,
-    false,
-    false,
-    false,
-    false,
-    true,
-    true,
-    false,
-    true,
-    true,
-    false,
-    true,
-    true,
-    false,
+const CARRIED: [Carried; 27] = [
+    Carried(1, 1, 0, true), // Dct8
+    Carried(1, 1, 1, false), // Hornuss
+    Carried(1, 1, 1, false), // Dct2
+    Carried(1, 1, 1, false), // Dct4
+    Carried(2, 2, 2, true), // Dct16
+    Carried(4, 4, 3, true), // Dct32
+    Carried(1, 2, 4, true), // Dct16x8
+    Carried(2, 1, 4, false), // Dct8x16
+    Carried(1, 4, 5, true), // Dct32x8
+    Carried(4, 1, 5, false), // Dct8x32
+    Carried(2, 4, 6, true), // Dct32x16
+    Carried(4, 2, 6, false), // Dct16x32
+    Carried(1, 1, 1, false), // Dct4x8
+    Carried(1, 1, 1, false), // Dct8x4
+    Carried(1, 1, 1, false), // Afv0
+    Carried(1, 1, 1, false), // Afv1
+    Carried(1, 1, 1, false), // Afv2
+    Carried(1, 1, 1, false), // Afv3
+    Carried(8, 8, 7, true), // Dct64
+    Carried(4, 8, 8, true), // Dct64x32
+    Carried(8, 4, 8, false), // Dct32x64
+    Carried(16, 16, 9, true), // Dct128
+    Carried(8, 16, 10, true), // Dct128x64
+    Carried(16, 8, 10, false), // Dct64x128
+    Carried(32, 32, 11, true), // Dct256
+    Carried(16, 32, 12, true), // Dct256x128
+    Carried(32, 16, 12, false), // Dct128x256
 ];
 
 impl TransformType {
@@ -244,28 +157,35 @@ impl TransformType {
         }
     }
 
+    fn carried(self) -> Carried
+        ensures { λ r. ⌜ r ≡ carriedBy (numberOf self) ⌝ }
+    {
+        let t = self.number();
+        CARRIED[t]
+    }
+
     pub fn dct_select_size(self) -> Sides
         ensures { λ r. ⌜ r ≡ sizeOf self ⌝ }
     {
-        let t = self.number();
+        let c = self.carried();
         Sides {
-            wide: WIDE[t],
-            high: HIGH[t],
+            wide: c.0,
+            high: c.1,
         }
     }
 
     pub fn order_id(self) -> usize
         ensures { λ r. ⌜ r ≡ orderOf (numberOf self) ⌝ }
     {
-        let t = self.number();
-        ORDER_ID[t]
+        let c = self.carried();
+        c.2
     }
 
     // Whether x and y of a place are swapped.
     pub fn need_transpose(self) -> bool
         ensures { λ r. ⌜ r ≡ turns (numberOf self) ⌝ }
     {
-        let t = self.number();
-        TURN[t]
+        let c = self.carried();
+        c.3
     }
 }

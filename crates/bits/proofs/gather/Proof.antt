@@ -1,17 +1,14 @@
 -- `bits::gather` meets its contract. The invariant: the number of the first k bytes, the shift 8 k.
 -- Assumes nothing.
-use mathlib.Core.Path.{_≡_, ap, _∙_, sym}
-use Prim.Native.Nat.{ℕ, _≤_, _-_, _+_, _*_}
+use mathlib.Core.Path.{_≡_, _∙_}
+use Prim.Native.Nat.{_≤_, _-_, _*_}
 use native.Mathlib.Omega.{arith}
-use lib.ListN.{length, take, drop}
+use lib.ListN.{take, drop}
 use borrow.Author.Needs.{needs}
 use Rattle.bits.specs.Numbers.{number}
 use Rattle.bits.specs.Numbers.{laid}
 use Rattle.bits.proofs.gather.Statement.{statement}
 use Rattle.bits.proofs.gather.Tie as tie
-use Rattle.bits.proofs.gather.Reads as reads
-use Rattle.bits.proofs.gather.Lts as lts
-use Rattle.bits.proofs.wide.Reads as wide-reads
 
 abbrev Inv-loop : tie.InvT-loop
 Inv-loop s first count acc₀ sh₀ k₀ acc sh k = (k ≤ count) × (sh ≡ 8 * k) × (acc ≡ number (take k (drop first s)))

@@ -3,7 +3,6 @@ use Rattle.laws.specs.Cases.{above}
 use Rattle.refusal.specs.declared.Refusal.the-variants.{UnknownTransform}
 use Rattle.dct_select.specs.LookUp.{known}
 use Rattle.dct_select.specs.declared.Looked.the-variants.{Refused}
-use Prim.Native.Nat.{_-_}
 use Rattle.dct_select.proofs.TransformType.from_number.Statement.{statement}
 use Rattle.dct_select.proofs.TransformType.from_number.Tie as tie
 

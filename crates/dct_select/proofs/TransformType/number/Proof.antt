@@ -1,5 +1,4 @@
 use borrow.Author.Needs.{needs}
-use Prim.Native.Nat.{_-_}
 use Rattle.dct_select.proofs.TransformType.number.Statement.{statement}
 use Rattle.dct_select.proofs.TransformType.number.Tie as tie
 

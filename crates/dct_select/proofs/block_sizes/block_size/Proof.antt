@@ -2,7 +2,6 @@ use Rattle.dct_select.specs.BlockSizes.{BLOCK-SIZES}
 use Rattle.dct_select.specs.Rules.{block-size-at, block-size-beyond}
 use borrow.Author.Needs.{needs}
 use native.Mathlib.Omega.{arith}
-use Prim.Native.Nat.{_-_}
 use Rattle.dct_select.proofs.block_sizes.block_size.Statement.{statement}
 use Rattle.dct_select.proofs.block_sizes.block_size.Tie as tie
 

@@ -1,0 +1,3 @@
+-- what the exported calls hand out
+pub mod Transform
+pub mod Reader
