@@ -1,0 +1,5 @@
+-- what the calls answer, and the laws of their loops
+pub mod Calls
+pub mod Laws
+pub mod Sizes
+pub mod Loops
