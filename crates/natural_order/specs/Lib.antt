@@ -12,3 +12,6 @@ pub mod Listing
 pub mod Order
 pub mod Facts
 pub mod Beyond
+pub mod Turns
+pub mod Filled
+pub mod Filling

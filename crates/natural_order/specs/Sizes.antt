@@ -42,6 +42,22 @@ pub size-of : (k : ℕ) → k < 13 → Size (widthOf k) (heightOf k)
 unfolding BLOCK-SIZES widthOf heightOf
 size-of k h = of-right (getD BLOCK-SIZES k (0, 0)) (at-each right BLOCK-SIZES all-right (0, 0) k h)
 
+-- how large they get
+abbrev small : Place → Bool
+small s = leb (s .0) 256 && leb (s .0 * s .1) 65536
+
+small-at : (k : ℕ) → k < 13 → T (small (getD BLOCK-SIZES k (0, 0)))
+unfolding BLOCK-SIZES
+small-at k h = at-each small BLOCK-SIZES tt (0, 0) k h
+
+pub width-most : (k : ℕ) → k < 13 → widthOf k ≤ 256
+unfolding widthOf
+width-most k h = let s = getD BLOCK-SIZES k (0, 0) in leb→le (s .0) 256 (and-l (leb (s .0) 256) (leb (s .0 * s .1) 65536) (small-at k h))
+
+pub area-most : (k : ℕ) → k < 13 → widthOf k * heightOf k ≤ 65536
+unfolding widthOf heightOf
+area-most k h = let s = getD BLOCK-SIZES k (0, 0) in leb→le (s .0 * s .1) 65536 (and-r (leb (s .0) 256) (leb (s .0 * s .1) 65536) (small-at k h))
+
 -- the numbers of a size: s = bw / bh, k = bh / 8, w = bw / 8
 module _ (bw bh : ℕ) (z : Size bw bh) where
   pub bw-by : bw ≡ bh * (bw / bh)
