@@ -150,7 +150,7 @@ used-size-le : (R : HfBlockContext) → bsize (used R) ≤ bsizeOf (R .lengths)
 unfolding bsize sizeOf bsizeOf
 used-size-le R =
     mul-le-mul
-    (mul-le-mul (mul-le-mul (take-le _ (R .«lf_thresholds»)) (take-le _ (drop 15 (R .«lf_thresholds»)))) (take-le _ (drop 30 (R .«lf_thresholds»))))
+    (mul-le-mul (mul-le-mul (take-le _ (take 15 (R .«lf_thresholds»))) (take-le _ (take 15 (drop 15 (R .«lf_thresholds»))))) (take-le _ (take 15 (drop 30 (R .«lf_thresholds»)))))
     (take-le _ (R .«qf_thresholds»))
 
 -- the block context of any varblock is one of the record's clusters

@@ -70,3 +70,8 @@ contextAt C n order qf lf = getD (C .map) (contextIndex C n order qf lf) 0
 -- of the n-th channel walked, in a varblock of an order with hf_mul mul and LF numbers q0, q1, q2, if there are any
 abbrev pub blockContext : Contexts → ℕ → ℕ → ℕ → Bool → ℕ → ℕ → ℕ → ℕ
 blockContext C n order mul there q0 q1 q2 = contextAt C n order (qfIndex C mul) (lfIndexOf C there q0 q1 q2)
+
+-- of the channels as they are walked
+abbrev pub blockContexts : Contexts → ℕ → ℕ → Bool → ℕ → ℕ → ℕ → List ℕ
+blockContexts C order mul there q0 q1 q2 =
+    blockContext C 0 order mul there q0 q1 q2 ∷ blockContext C 1 order mul there q0 q1 q2 ∷ blockContext C 2 order mul there q0 q1 q2 ∷ []

@@ -2,3 +2,4 @@
 pub mod Contexts
 pub mod Record
 pub mod Bounds
+pub mod Laws

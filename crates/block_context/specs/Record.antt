@@ -8,9 +8,9 @@ use Rattle.laws.specs.Tables.{every}
 use Rattle.block_context.specs.declared.HfBlockContext.{HfBlockContext}
 use Rattle.block_context.specs.Contexts.{Contexts}
 
--- the LF list of channel c, of n thresholds
+-- the LF list of channel c, of n thresholds: the first of its 15 places
 abbrev pub lfList : List ℕ → ℕ → ℕ → List ℕ
-lfList lf c n = take n (drop (15 * c) lf)
+lfList lf c n = take n (take 15 (drop (15 * c) lf))
 
 -- lengths: of the LF lists of channels 0, 1, 2, then of the qf list
 abbrev pub lists : ℕ → List ℕ → List ℕ → List ℕ → List ℕ → Contexts

@@ -1,7 +1,8 @@
 // Block contexts: the record, its limits, and the index of a block context (`HfBlockContext` of `lf.rs`).
-ghost use mathlib.Core.Path.{_≡_};
+pub mod fit;
+pub mod index;
 
-// Signed numbers are 32-bit patterns; places behind a list's length are not looked at.
+// Signed numbers are 32-bit patterns. Places behind a list's length are not looked at.
 pub struct HfBlockContext {
     pub num_block_clusters: u32,
     // Of the LF lists of channels 0, 1, 2, then of the qf list.
