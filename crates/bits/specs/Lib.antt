@@ -3,4 +3,5 @@ pub mod Bits
 pub mod Reads
 pub mod Signed
 pub mod Numbers
+pub mod Exponent
 pub mod Laws

@@ -6,6 +6,7 @@ ghost use Rattle.bits.specs.Bits.{readBits, readU32, readChoice, chosen}
 ghost use Rattle.bits.specs.Numbers.{number};
 ghost use Rattle.bits.specs.Reads.{passed, placeAt, gotOf, choiceOf};
 ghost use Rattle.bits.specs.Signed.{unpackSigned};
+ghost use Rattle.bits.specs.Exponent.{exponent as exponentOf};
 
 // A place between two bits: whole bytes passed, and bits passed of the next one.
 pub struct Place {
@@ -163,4 +164,17 @@ pub fn unpack_signed(u: u32) -> u32
     } else {
         0xffff_ffff - u / 2
     }
+}
+
+// The exponent of the least power of two not below n: as many bits number n things.
+pub fn exponent(n: u32) -> u32
+    ensures { λ r. ⌜ r ≡ exponentOf n ⌝ }
+{
+    let mut e: u32 = 0;
+    let mut power: u64 = 1;
+    while power < n as u64 {
+        power = power * 2;
+        e += 1;
+    }
+    e
 }

@@ -1,0 +1,29 @@
+//! Safe calls of Netbuff: layout, filter strengths, block contexts, orders and coefficients of a
+//! JPEG XL scan. What each call means, the lengths that fit and the refusals stand in
+//! `include/netbuff.h` and in document 01.
+
+mod reader;
+mod sys;
+mod transform;
+
+pub use reader::{read_bits, read_u32, unpack_signed, Choice, Place, Read};
+pub use transform::{transform, Transform};
+
+/// A refusal's number, 1 to 18, and its position.
+#[derive(Debug, Copy, Clone, PartialEq, Eq)]
+pub struct Refusal {
+    pub number: u32,
+    pub x: usize,
+    pub y: usize,
+}
+
+pub type Result<T> = std::result::Result<T, Refusal>;
+
+/// Makes a call that answers by a number and a position.
+fn call(answer: impl FnOnce(&mut usize, &mut usize) -> u32) -> Result<()> {
+    let (mut x, mut y) = (0, 0);
+    match answer(&mut x, &mut y) {
+        0 => Ok(()),
+        number => Err(Refusal { number, x, y }),
+    }
+}

@@ -1,0 +1,56 @@
+/// Most places of a threshold list, and of the block map (39 for each of at most 64).
+pub const LIST_MOST: usize = 15;
+pub const MAP_MOST: usize = 39 * 64;
+
+/// The context call (document 01, Block contexts), with the lent count and map.
+#[derive(Debug, Clone)]
+pub struct ContextsCall {
+    pub bytes: Vec<u8>,
+    pub count: u32,
+    pub map: Vec<u8>,
+}
+
+/// A context record: four lists with their lengths, and the map, unused places 0.
+#[derive(Debug, Clone, PartialEq, Eq)]
+pub struct Contexts {
+    pub count: u32,
+    /// Of the LF lists of channels 0, 1, 2, then of the qf list.
+    pub lengths: [u32; 4],
+    /// The list of channel c from 15 c on.
+    pub lf: [i32; 3 * LIST_MOST],
+    pub qf: [u32; LIST_MOST],
+    pub map: [u8; MAP_MOST],
+}
+
+impl Contexts {
+    pub const ZERO: Self = Self {
+        count: 0,
+        lengths: [0; 4],
+        lf: [0; 3 * LIST_MOST],
+        qf: [0; LIST_MOST],
+        map: [0; MAP_MOST],
+    };
+
+    /// The product of the four (length + 1), where no list is longer than 15.
+    pub fn bsize(&self) -> usize {
+        self.lengths
+            .map(|length| length as usize + 1)
+            .iter()
+            .product()
+    }
+
+    /// The used places of the LF list of a channel.
+    pub fn lf_list(&self, channel: usize) -> &[i32] {
+        &self.lf[LIST_MOST * channel..][..self.lengths[channel] as usize]
+    }
+
+    /// The used places of the qf list.
+    pub fn qf_list(&self) -> &[u32] {
+        &self.qf[..self.lengths[3] as usize]
+    }
+
+    /// The used places of the map.
+    pub fn used_map(&self) -> &[u8] {
+        &self.map[..39 * self.bsize()]
+    }
+}

@@ -1,0 +1,42 @@
+//! The calls that are compared.
+
+use compare::cases::{Case, ReaderCase, SignedCase, TransformCase};
+
+use crate::options::Options;
+use crate::ours;
+
+/// Compares one call, and tells whether it agrees.
+type Compare = fn(&Options) -> bool;
+
+const CALLS: [(&str, Compare); 3] = [
+    (TransformCase::NAME, |options| {
+        compare(options, &TransformCase, ours::transform)
+    }),
+    (SignedCase::NAME, |options| {
+        compare(options, &SignedCase, ours::signed)
+    }),
+    (ReaderCase::NAME, |options| {
+        compare(options, &ReaderCase, ours::read)
+    }),
+];
+
+pub fn names() -> Vec<&'static str> {
+    CALLS.iter().map(|call| call.0).collect()
+}
+
+/// Compares the wanted calls, and tells whether all agree.
+pub fn run(options: &Options) -> bool {
+    let wanted = CALLS.iter().filter(|call| options.wants(call.0));
+    let agreed: Vec<bool> = wanted.map(|call| call.1(options)).collect();
+    agreed.iter().all(|&agreed| agreed)
+}
+
+fn compare<C: Case>(
+    options: &Options,
+    case: &C,
+    ours: impl Fn(&C::Input) -> calls::Outcome<C::Value, C::Buffers>,
+) -> bool {
+    let report = compare::driver::run(case, ours, options.effort, options.seed);
+    println!("{report}");
+    report.difference.is_none()
+}

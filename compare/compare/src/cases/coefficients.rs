@@ -1,0 +1,337 @@
+use std::fmt;
+use std::sync::Arc;
+
+use calls::{CoefficientBuffers, CoefficientsCall, Contexts, Layout, Outcome, LIST_MOST};
+
+use super::digits::{lists_count, Digits};
+use super::orders::symbols;
+use super::placing::{damage, fill};
+use super::{plainer, shorter, simpler, variants, Case};
+use crate::expected;
+use crate::make::{self, OrdersAndStore};
+use crate::rng::Rng;
+
+/// Coefficient calls over a few orders that accepted order calls wrote.
+pub struct CoefficientsCase {
+    orders: Vec<Arc<OrdersAndStore>>,
+}
+
+#[derive(Clone)]
+pub struct CoefficientsInput {
+    pub call: CoefficientsCall,
+    pub orders: Arc<OrdersAndStore>,
+}
+
+impl fmt::Debug for CoefficientsInput {
+    fn fmt(&self, f: &mut fmt::Formatter<'_>) -> fmt::Result {
+        write!(
+            f,
+            "{:?} with used orders {:#x}",
+            self.call, self.orders.used
+        )
+    }
+}
+
+/// Entries of the cluster map of 256 presets and 16 clusters.
+pub const MAP_MOST: usize = 256 * 16 * paper::ENTRIES_PER_CLUSTER;
+/// Short inputs: one Dct8 with default contexts, over lists of these symbols.
+const SHORT_SYMBOLS: [u32; 6] = [0, 1, 2, 3, 63, 64];
+const SHORT_MOST: usize = 6;
+
+impl CoefficientsCase {
+    pub fn new(seed: u64) -> Self {
+        let mut rng = Rng::new(seed);
+        let cluster_map = rng.bytes(MAP_MOST);
+        let used = [0, 0x1fff, 0x7f, 0x5f, 0x13, 0x380, 0x1c00, 0x1, 0x1e];
+        let orders = used.map(|used| {
+            let symbols = symbols(&mut rng, used);
+            OrdersAndStore::new(used, &symbols, cluster_map.clone())
+        });
+        Self::over(orders)
+    }
+
+    /// Calls over the given orders, whose cluster maps serve 256 presets of 16 clusters.
+    pub fn over(orders: impl IntoIterator<Item = OrdersAndStore>) -> Self {
+        Self {
+            orders: orders.into_iter().map(Arc::new).collect(),
+        }
+    }
+
+    fn input(&self, which: usize, group: Layout, contexts: Contexts) -> CoefficientsInput {
+        let orders = self.orders[which].clone();
+        CoefficientsInput {
+            call: orders.coefficients(group, contexts, &[]),
+            orders,
+        }
+    }
+}
+
+impl Case for CoefficientsCase {
+    const NAME: &'static str = "coefficients";
+    type Input = CoefficientsInput;
+    type Value = usize;
+    type Buffers = CoefficientBuffers;
+
+    fn expected(&self, input: &CoefficientsInput) -> Outcome<usize, CoefficientBuffers> {
+        expected::coefficients(&input.call, &input.orders.orders)
+    }
+
+    fn short_count(&self) -> usize {
+        lists_count(SHORT_SYMBOLS.len(), SHORT_MOST)
+    }
+
+    fn short(&self, number: usize) -> CoefficientsInput {
+        let group = Layout {
+            wide: 1,
+            high: 1,
+            kinds: vec![2],
+            hf_mul: vec![1],
+        };
+        let mut input = self.input(0, group, make::default_contexts());
+        input.call.symbols = Digits::of(number).list(&SHORT_SYMBOLS, SHORT_MOST);
+        input
+    }
+
+    fn random(&self, rng: &mut Rng) -> CoefficientsInput {
+        let contexts = if rng.once_in(3) {
+            make::default_contexts()
+        } else {
+            contexts(rng)
+        };
+        let group = group(rng);
+        let mut input = self.input(rng.below(self.orders.len()), group, contexts);
+        let call = &mut input.call;
+        call.symbols = symbol_stream(rng, &call.group);
+        call.shift = rng.below(4) as u32;
+        presets(rng, call, &input.orders.cluster_map);
+        if rng.once_in(2) {
+            call.lf = Some(std::array::from_fn(|c| lf_grid(rng, call, c)));
+        }
+        call.buffers = buffers(rng, call.group.blocks());
+        if rng.once_in(2) {
+            damage_symbols(rng, &mut call.symbols);
+        }
+        if rng.once_in(6) {
+            damage_call(rng, call);
+        }
+        input
+    }
+
+    fn smaller(&self, input: &CoefficientsInput) -> Vec<CoefficientsInput> {
+        let call = &input.call;
+        let mut found = variants(input, shorter(&call.symbols), |i, list| {
+            i.call.symbols = list
+        });
+        for plain in [0, 1] {
+            let lists = plainer(&call.symbols, plain);
+            found.extend(variants(input, lists, |i, list| i.call.symbols = list));
+        }
+        found.extend(variants(input, simpler(&call.lf, [None]), |i, lf| {
+            i.call.lf = lf
+        }));
+        for channel in 0..3 {
+            let grids = plainer(&call.buffers.grids[channel], 0);
+            let first = grids.into_iter().take(1).collect();
+            found.extend(variants(input, first, |i, grid| {
+                i.call.buffers.grids[channel] = grid
+            }));
+        }
+        found.extend(variants(input, simpler(&call.shift, [0]), |i, s| {
+            i.call.shift = s
+        }));
+        found
+    }
+}
+
+/// A record that is fit, with thresholds on any of its lists.
+fn contexts(rng: &mut Rng) -> Contexts {
+    let mut record = Contexts {
+        count: rng.between(1, 16) as u32,
+        ..Contexts::ZERO
+    };
+    let mut room = 64;
+    let turn = rng.below(4);
+    for list in 0..4 {
+        let most = rng.pick(&[0, 1, 3, LIST_MOST]);
+        let length = rng.below(most + 1).min(room - 1);
+        room /= length + 1;
+        record.lengths[(list + turn) % 4] = length as u32;
+    }
+    // Places that are not used may hold anything.
+    record.lf = std::array::from_fn(|_| threshold(rng));
+    record.qf = std::array::from_fn(|_| rng.between(1, 300) as u32);
+    let count = record.count as usize;
+    record.map = std::array::from_fn(|_| rng.below(count) as u8);
+    record
+}
+
+fn threshold(rng: &mut Rng) -> i32 {
+    match rng.below(4) {
+        0 => rng.any_i32(),
+        _ => rng.below(9) as i32 - 4,
+    }
+}
+
+fn group(rng: &mut Rng) -> Layout {
+    let favoured = rng.once_in(2).then(|| rng.below(27) as u8);
+    let (wide, high) = match (rng.below(40), favoured) {
+        (0, _) => (rng.between(1, 32), rng.between(1, 32)),
+        (1..=12, Some(transform)) => paper::kind_sides(transform + 2).expect("a transform"),
+        _ => (rng.between(1, 5), rng.between(1, 5)),
+    };
+    fill(rng, wide, high, favoured).layout
+}
+
+/// LF numbers, mostly around the thresholds of their channel.
+fn lf_grid(rng: &mut Rng, call: &CoefficientsCall, channel: usize) -> Vec<i32> {
+    let thresholds = call.contexts.lf_list(channel);
+    let number = |_| {
+        if thresholds.is_empty() || rng.once_in(4) {
+            rng.any_i32()
+        } else {
+            let offset = rng.below(3) as i32 - 1;
+            rng.pick(thresholds).wrapping_add(offset)
+        }
+    };
+    (0..call.group.blocks()).map(number).collect()
+}
+
+/// A number of presets and the bits of one of them, seldom of none.
+fn presets(rng: &mut Rng, call: &mut CoefficientsCall, cluster_map: &[u8]) {
+    call.presets = match rng.below(40) {
+        0 => rng.between(0, 256) as u32,
+        1 => 0,
+        _ => rng.between(1, 5) as u32,
+    };
+    let entries = paper::ENTRIES_PER_CLUSTER * call.contexts.count as usize;
+    call.cluster_map = cluster_map[..entries * call.presets as usize].to_vec();
+    let any_below = if rng.once_in(8) {
+        256
+    } else {
+        call.presets.max(1)
+    };
+    call.bytes = vec![rng.below(any_below as usize) as u8];
+    match rng.below(16) {
+        0 => call.bytes.clear(),
+        1 => call.bytes.push(0xff),
+        _ => {}
+    }
+}
+
+fn buffers(rng: &mut Rng, blocks: usize) -> CoefficientBuffers {
+    let zero = rng.once_in(2);
+    let extra = if rng.once_in(4) { rng.below(9) } else { 0 };
+    let grid = |rng: &mut Rng| {
+        if zero {
+            vec![0; 64 * blocks]
+        } else {
+            rng.words(64 * blocks)
+        }
+    };
+    CoefficientBuffers {
+        grids: std::array::from_fn(|_| grid(rng)),
+        log: rng.bytes(192 * blocks + extra),
+    }
+}
+
+/// Symbols that read a group to its end: for each varblock and channel a count and its places.
+fn symbol_stream(rng: &mut Rng, group: &Layout) -> Vec<u32> {
+    let mut symbols = Vec::new();
+    let density = rng.pick(&[1, 2, 8, 64]);
+    for &kind in &group.kinds {
+        let Some((wide, high)) = paper::kind_sides(kind) else {
+            continue;
+        };
+        for _ in 0..3 {
+            places(rng, 63 * wide * high, density, &mut symbols);
+        }
+    }
+    symbols
+}
+
+fn places(rng: &mut Rng, places: usize, density: usize, symbols: &mut Vec<u32>) {
+    let most = (places / density).max(1);
+    let count = match rng.below(8) {
+        0 | 1 => 0,
+        2 => most,
+        _ => rng.below(most + 1),
+    };
+    let leftover = usize::from(count > 1 && rng.once_in(16));
+    symbols.push(count as u32);
+    let mut wanted = count - leftover;
+    for place in 0..places {
+        if wanted + leftover == 0 {
+            break;
+        }
+        let filled = wanted > 0 && rng.below(places - place) < wanted;
+        symbols.push(if filled { coefficient(rng) } else { 0 });
+        wanted -= usize::from(filled);
+    }
+}
+
+fn coefficient(rng: &mut Rng) -> u32 {
+    match rng.below(8) {
+        0 => rng.any_u32().max(1),
+        _ => rng.between(1, 9) as u32,
+    }
+}
+
+fn damage_symbols(rng: &mut Rng, symbols: &mut Vec<u32>) {
+    let place = rng.below(symbols.len());
+    match rng.below(5) {
+        0 | 1 => symbols.truncate(place),
+        2 => symbols[place] = rng.pick(&[63, 64, 126, 127, 252, 253, 64_512, 64_513, u32::MAX]),
+        3 => symbols[place] = 0,
+        _ => symbols.extend([3, 0, u32::MAX]),
+    }
+}
+
+fn damage_call(rng: &mut Rng, call: &mut CoefficientsCall) {
+    let channel = rng.below(3);
+    match rng.below(16) {
+        0 => call.group.wide = rng.pick(&[0, 33, u32::MAX]),
+        1 => call.group.high = rng.pick(&[0, 33, u32::MAX]),
+        2 => call.shift = rng.pick(&[4, u32::MAX]),
+        3 => call.presets = rng.pick(&[257, u32::MAX]),
+        4 => call.contexts.count = rng.pick(&[0, 17, u32::MAX, 1]),
+        5 => call.contexts.lengths[rng.below(4)] = rng.pick(&[15, 16, u32::MAX]),
+        6 => call.contexts.qf[0] = rng.pick(&[0, 301, 300, u32::MAX]),
+        7 => call.contexts.map[rng.below(39)] = rng.pick(&[15, 16, 255]),
+        8 => call
+            .cluster_map
+            .resize(rng.misfit(call.cluster_map.len()), 0),
+        9 => misfit_grid(rng, &mut call.buffers.grids[channel]),
+        10 => call
+            .buffers
+            .log
+            .truncate((192 * call.group.blocks()).saturating_sub(1)),
+        11 => call
+            .lf
+            .iter_mut()
+            .for_each(|lf| misfit_grid(rng, &mut lf[channel])),
+        12 => call.group.kinds.push(1),
+        13 => damage_store(rng, call),
+        _ => damage(rng, &mut call.group),
+    }
+}
+
+fn misfit_grid(rng: &mut Rng, grid: &mut Vec<i32>) {
+    grid.resize(rng.misfit(grid.len()), 0);
+}
+
+/// A store of another length, or with one number outside.
+fn damage_store(rng: &mut Rng, call: &mut CoefficientsCall) {
+    let mut store = call.store.to_vec();
+    if rng.once_in(3) {
+        store.resize(rng.misfit(store.len()), 0);
+    } else {
+        let place = rng.below(store.len());
+        store[place] = rng.pick(&[8, 16, 255, 256, u16::MAX]);
+    }
+    let untouched = store == *call.store;
+    if !untouched && paper::store_fits(&store) && paper::places_inside(&store) {
+        // Inside, yet no store of an order call: not compared (document 01, Coefficients).
+        return;
+    }
+    call.store = Arc::new(store);
+}

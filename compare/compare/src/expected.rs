@@ -1,0 +1,65 @@
+//! What document 01 expects of each call: the checks that only the paper has, then the Rust.
+
+use calls::{
+    Answer, CoefficientBuffers, CoefficientsCall, ColumnCount, ColumnCountCall, Contexts,
+    ContextsCall, LayoutBuffers, LayoutCall, OrdersCall, Outcome, Refusal, Store, Transform,
+};
+use jxl_vardct::oracle::{self, Orders};
+
+/// The whole number counts, where the Rust takes one byte.
+pub fn transform(number: u32) -> Answer<Transform> {
+    let byte = u8::try_from(number).map_err(|_| Refusal::plain(5))?;
+    oracle::transform(byte)
+}
+
+pub fn column_count(call: &ColumnCountCall) -> Answer<ColumnCount> {
+    match paper::column_count_before_work(call) {
+        Some(refusal) => Err(refusal),
+        None => oracle::column_count(call),
+    }
+}
+
+pub fn layout(call: &LayoutCall) -> Outcome<usize, LayoutBuffers> {
+    match paper::layout_before_work(call) {
+        Some(refusal) => Outcome::untouched(refusal, call.buffers.clone()),
+        None => oracle::layout(call),
+    }
+}
+
+/// A record and the bits read for it.
+pub fn contexts(call: &ContextsCall) -> Answer<(Contexts, usize)> {
+    let read = oracle::contexts(call)?;
+    let refused = |asked| paper::clusters_refused(asked, call.count, &call.map);
+    match read.asked.and_then(refused) {
+        Some(refusal) => Err(refusal),
+        None => Ok((oracle::paper_form(&read.contexts), read.bits_read)),
+    }
+}
+
+/// The number of symbols read, and the store.
+pub fn orders(call: &OrdersCall) -> Outcome<usize, Store> {
+    if !paper::store_fits(&call.store) {
+        return Outcome::untouched(Refusal::plain(1), call.store.clone());
+    }
+    match oracle::orders(&call.bytes, &call.symbols, &[]) {
+        Ok(orders) => Outcome {
+            answer: Ok(orders.symbols_read),
+            buffers: orders.store(),
+        },
+        Err(refusal) => Outcome {
+            answer: Err(refusal),
+            buffers: oracle::store_after(refusal, &call.store),
+        },
+    }
+}
+
+/// The orders are those of the call's store, and their cluster map begins with the call's.
+pub fn coefficients(
+    call: &CoefficientsCall,
+    orders: &Orders,
+) -> Outcome<usize, CoefficientBuffers> {
+    match paper::coefficients_before_work(call) {
+        Some(refusal) => Outcome::untouched(refusal, call.buffers.clone()),
+        None => oracle::coefficients(call, orders),
+    }
+}

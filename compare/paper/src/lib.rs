@@ -1,0 +1,23 @@
+//! A plain model of what document 01 adds to the Rust: the checks before work, the cut and the
+//! likeness test. Written from the paper, not from the code under comparison; where the Rust has a
+//! call, the Rust answers.
+
+mod coefficients;
+mod contexts;
+mod layout;
+mod record;
+mod stores;
+
+pub use coefficients::{coefficients_before_work, ENTRIES_PER_CLUSTER};
+pub use contexts::{clusters_refused, is_fit};
+pub use layout::{column_count_before_work, grid_sides, layout_before_work};
+pub use record::{alike, cut, is_layout, kind_sides, Rectangles};
+pub use stores::{places_inside, store_fits};
+
+use calls::Refusal;
+
+/// The first refusal of a chain of checks: the number whose condition does not hold.
+pub fn first_refusal<const N: usize>(chain: [(u32, bool); N]) -> Option<Refusal> {
+    let refused = chain.into_iter().find(|&(_, holds)| !holds);
+    refused.map(|(number, _)| Refusal::plain(number))
+}

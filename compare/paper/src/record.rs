@@ -1,0 +1,161 @@
+//! Lent layouts and groups: the check of refusal 18, the cut, the likeness test.
+
+use calls::{AlikeCall, Answer, CutCall, GroupBuffers, Layout, Outcome};
+
+use crate::first_refusal;
+
+/// Width and height of the 27 transforms, in blocks.
+const SIDES: [(u8, u8); 27] = [
+    (1, 1),
+    (1, 1),
+    (1, 1),
+    (1, 1),
+    (2, 2),
+    (4, 4),
+    (1, 2),
+    (2, 1),
+    (1, 4),
+    (4, 1),
+    (2, 4),
+    (4, 2),
+    (1, 1),
+    (1, 1),
+    (1, 1),
+    (1, 1),
+    (1, 1),
+    (1, 1),
+    (8, 8),
+    (4, 8),
+    (8, 4),
+    (16, 16),
+    (8, 16),
+    (16, 8),
+    (32, 32),
+    (16, 32),
+    (32, 16),
+];
+
+const KIND_OCCUPIED: u8 = 1;
+const FIRST_CORNER_KIND: u8 = 2;
+const GROUP_SIDE: usize = 32;
+const LAYOUT_SIDE_MOST: u32 = 256;
+
+/// The sides of the rectangle that a kind is the corner of.
+pub fn kind_sides(kind: u8) -> Option<(usize, usize)> {
+    let transform = kind.checked_sub(FIRST_CORNER_KIND)?;
+    let &(wide, high) = SIDES.get(usize::from(transform))?;
+    Some((usize::from(wide), usize::from(high)))
+}
+
+/// The rectangles of a layout: x, y, width, height and hf_mul of each corner, row by row.
+pub type Rectangles = Vec<(usize, usize, usize, usize, i32)>;
+
+fn rectangles(layout: &Layout) -> Rectangles {
+    let wide = layout.wide as usize;
+    let corners = layout.kinds.iter().zip(&layout.hf_mul).enumerate();
+    corners
+        .filter_map(|(cell, (&kind, &hf_mul))| {
+            let (w, h) = kind_sides(kind)?;
+            Some((cell % wide, cell / wide, w, h, hf_mul))
+        })
+        .collect()
+}
+
+/// Whether kinds and hf_mul, of the lengths that the sides ask for, are what 18 lets pass.
+pub fn is_layout(layout: &Layout) -> bool {
+    let (wide, high) = (layout.wide as usize, layout.high as usize);
+    let cells = layout.kinds.iter().zip(&layout.hf_mul);
+    let kinds_fit = cells
+        .clone()
+        .all(|(&kind, &hf_mul)| match kind_sides(kind) {
+            Some(_) => hf_mul >= 1,
+            None => kind == KIND_OCCUPIED && hf_mul == 0,
+        });
+    let rectangles = rectangles(layout);
+    let placed = rectangles.iter().all(|&(x, y, w, h, _)| {
+        let in_square = x % GROUP_SIDE + w <= GROUP_SIDE && y % GROUP_SIDE + h <= GROUP_SIDE;
+        in_square && x + w <= wide && y + h <= high
+    });
+    kinds_fit && placed && covered_once(&rectangles, wide, high)
+}
+
+/// Whether every cell is in just one of the rectangles, which are all inside the grid.
+fn covered_once(rectangles: &Rectangles, wide: usize, high: usize) -> bool {
+    let mut covers = vec![0u32; wide * high];
+    for &(x, y, w, h, _) in rectangles {
+        for row in y..y + h {
+            for cover in &mut covers[row * wide + x..][..w] {
+                *cover += 1;
+            }
+        }
+    }
+    covers.iter().all(|&cover| cover == 1)
+}
+
+/// The cut; the answer is the group's sides.
+pub fn cut(call: &CutCall) -> Outcome<(u32, u32), GroupBuffers> {
+    let buffers = (call.kinds.clone(), call.hf_mul.clone());
+    match group_of(call) {
+        Err(refusal) => Outcome::untouched(refusal, buffers),
+        Ok(group) => Outcome {
+            answer: Ok((group.wide, group.high)),
+            buffers: (group.kinds, group.hf_mul),
+        },
+    }
+}
+
+fn group_of(call: &CutCall) -> Answer<Layout> {
+    let layout = &call.layout;
+    let (wide, high) = (layout.wide as usize, layout.high as usize);
+    let groups_wide = wide.div_ceil(GROUP_SIDE);
+    let groups = groups_wide * high.div_ceil(GROUP_SIDE);
+    refuse(first_refusal([
+        (2, sides_fit(layout)),
+        (2, call.group < groups),
+    ]))?;
+    let (x0, y0) = (
+        call.group % groups_wide * GROUP_SIDE,
+        call.group / groups_wide * GROUP_SIDE,
+    );
+    let (group_wide, group_high) = (GROUP_SIDE.min(wide - x0), GROUP_SIDE.min(high - y0));
+    let cells = group_wide * group_high;
+    let outs_fit = call.kinds.len() == cells && call.hf_mul.len() == cells;
+    refuse(first_refusal([(1, lengths_fit(layout) && outs_fit)]))?;
+    refuse(first_refusal([(18, is_layout(layout))]))?;
+    let sources = (0..group_high).flat_map(|y| {
+        let row = (y0 + y) * wide + x0;
+        row..row + group_wide
+    });
+    Ok(Layout {
+        wide: group_wide as u32,
+        high: group_high as u32,
+        kinds: sources.clone().map(|cell| layout.kinds[cell]).collect(),
+        hf_mul: sources.map(|cell| layout.hf_mul[cell]).collect(),
+    })
+}
+
+/// The likeness test.
+pub fn alike(call: &AlikeCall) -> Answer<bool> {
+    let both = |check: fn(&Layout) -> bool| check(&call.left) && check(&call.right);
+    refuse(first_refusal([(2, both(sides_fit))]))?;
+    refuse(first_refusal([(1, both(lengths_fit))]))?;
+    refuse(first_refusal([(18, both(is_layout))]))?;
+    let same_sides = (call.left.wide, call.left.high) == (call.right.wide, call.right.high);
+    Ok(same_sides && rectangles(&call.left) == rectangles(&call.right))
+}
+
+fn refuse(refusal: Option<calls::Refusal>) -> Answer<()> {
+    refusal.map_or(Ok(()), Err)
+}
+
+fn sides_fit(layout: &Layout) -> bool {
+    let sides = [layout.wide, layout.high];
+    sides
+        .iter()
+        .all(|side| (1..=LAYOUT_SIDE_MOST).contains(side))
+}
+
+fn lengths_fit(layout: &Layout) -> bool {
+    let cells = layout.blocks();
+    layout.kinds.len() == cells && layout.hf_mul.len() == cells
+}

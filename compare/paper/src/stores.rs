@@ -1,0 +1,16 @@
+use calls::{list_start, Store, ORDER_COUNT, ORDER_SIZES, STORE_LENGTH};
+
+pub fn store_fits(store: &Store) -> bool {
+    store.len() == STORE_LENGTH
+}
+
+/// Whether every place of each of the 39 lists is inside its order's size.
+pub fn places_inside(store: &Store) -> bool {
+    (0..ORDER_COUNT).all(|order| {
+        let (wide, high) = ORDER_SIZES[order];
+        let lists = &store[list_start(order, 0)..list_start(order + 1, 0)];
+        lists.chunks_exact(2).fold(true, |inside, place| {
+            inside & (usize::from(place[0]) < wide) & (usize::from(place[1]) < high)
+        })
+    })
+}
