@@ -1,2 +1,7 @@
 -- the store of the orders
 pub mod Store
+pub mod Offsets
+pub mod Powers
+pub mod LookedUp
+pub mod Checking
+pub mod Naturals

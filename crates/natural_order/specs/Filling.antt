@@ -43,3 +43,8 @@ module _ (list : List ℕ) (order : ℕ) where
         let n' : length list ≡ 2 * (widthOf order * heightOf order) = rw e at n in
         let f' : m ≡ flat (natural (widthOf order) (heightOf order)) = rw e at f in
         (rw (lt-ltb order 13 h, eq-eqb (length list) (2 * (widthOf order * heightOf order)) n'), rw (lt-ltb order 13 h, eq-eqb (length list) (2 * (widthOf order * heightOf order)) n') f')
+
+-- a list of just as many places is filled
+pub room-for : (list : List ℕ) (order : ℕ) → order < 13 → length list ≡ 2 * (widthOf order * heightOf order) → filled list order ≡ flat (natural (widthOf order) (heightOf order))
+unfolding roomFor filled
+room-for list order h n = rw (lt-ltb order 13 h, eq-eqb (length list) (2 * (widthOf order * heightOf order)) n)

@@ -181,7 +181,7 @@ natural-sum bw bh z =
       length-append (flat (rows (bw / 8) (bh / 8))) (flat (keep (bw / 8) (bw / bh) (square bw))),
     )
 
-sets-all : (l vs : List ℕ) → length vs ≡ length l → sets l 0 vs ≡ vs
+pub sets-all : (l vs : List ℕ) → length vs ≡ length l → sets l 0 vs ≡ vs
 sets-all l vs e =
     let z : length l ≤ 0 + length vs = omega arith in
     sets-eq vs l 0 (omega arith) ∙ ap (λ (r : List ℕ). vs ++ r) (drop-of-length-le l z) ∙ append-nil vs
