@@ -127,8 +127,8 @@ module _ (clusters : ℕ) (lengths qf map : List ℕ) where
       let m = 39 * bsizeOf lengths in
       let below : ℕ → Bool = λ (b : ℕ). ltb b clusters in
       let t =
-          nine (leb (len 0) 15) (leb (len 1) 15) (leb (len 2) 15) (leb (len 3) 15) (leb (bsizeOf lengths) 64) (leb 1 clusters)
-          (leb clusters 16) (every qfFit (take (len 3) qf)) (every below (take m map)) (subst T (sym e) tt)
+      nine (leb (len 0) 15) (leb (len 1) 15) (leb (len 2) 15) (leb (len 3) 15) (leb (bsizeOf lengths) 64) (leb 1 clusters)
+      (leb clusters 16) (every qfFit (take (len 3) qf)) (every below (take m map)) (subst T (sym e) tt)
       in
       let some : 1 ≤ clusters = leb→le 1 clusters (t .5) in
       record {

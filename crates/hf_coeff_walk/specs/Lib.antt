@@ -5,3 +5,5 @@ pub mod Places
 pub mod Item
 pub mod Outcome
 pub mod PlaceLaws
+pub mod Counts
+pub mod Items

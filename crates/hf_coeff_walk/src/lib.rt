@@ -5,6 +5,8 @@ use crate::place::cell;
 use refusal::Refusal;
 
 pub mod context;
+pub mod count;
+pub mod item;
 pub mod place;
 
 ghost use mathlib.Core.Path.{_≡_};

@@ -1,24 +1,14 @@
-use mathlib.Core.Path.{refl}
-use Prim.Native.Nat.{_^_}
-use Rattle.hf_coeff_walk.specs.Walk.{walk, coeffContext, flag}
+use mathlib.Core.Path.{refl, _≡_, _∙_, sym}
+use Prim.Native.Nat.{_^_, _≤_, _-_, _+_, _*_}
+use Rattle.hf_coeff_walk.specs.Walk.{walk}
 use Rattle.hf_coeff_walk.specs.Places.{paired, placesOf}
 use Rattle.hf_coeff_walk.specs.PlaceLaws.{places-count}
 use Rattle.hf_coeff_walk.specs.Outcome.{walk-used, walk-done, walk-17, walk-15, walk-turn, ends, less-le, flag-le}
 use borrow.Author.Needs.{needs}
 use native.Mathlib.Omega.{arith}
-use mathlib.Core.Path.{_≡_, _∙_, ap, sym}
-use mathlib.Core.List.{_++_}
-use Prim.Native.Nat.{ℕ, _≤_, _<_, _-_, _+_, _*_}
-use lib.ListN.{length, getD, take, drop, set, length-set}
+use lib.ListN.{length, getD, drop, length-set}
 use Rattle.hf_coeff_walk.proofs.coefficients.Statement.{statement}
 use Rattle.hf_coeff_walk.proofs.coefficients.Tie as tie
-use Rattle.hf_coeff_walk.proofs.coefficients.Reads as reads
-use Rattle.hf_coeff_walk.proofs.coefficients.Lts as lts
-use Rattle.hf_coeff_walk.proofs.context.coeff_context.Reads as coeff-context-reads
-use Rattle.hf_coeff_walk.proofs.flagged.Reads as flagged-reads
-use Rattle.hf_coeff_walk.proofs.gained.Reads as gained-reads
-use Rattle.hf_coeff_walk.proofs.less.Reads as less-reads
-use Rattle.hf_coeff_walk.proofs.place.cell.Reads as cell-reads
 
 abbrev Inv-loop : tie.InvT-loop
 Inv-loop order spot symbols start count first part shift log₀ grid₀ at₀ left₀ prev₀ k₀ end log grid at left prev k =
@@ -34,126 +24,98 @@ Inv-loop order spot symbols start count first part shift log₀ grid₀ at₀ le
 abbrev μ-loop : tie.MeasureT-loop
 μ-loop order spot symbols start count first part shift log₀ grid₀ at₀ left₀ prev₀ k₀ end log grid at left prev k = end - k
 
--- src/lib.rt:96:5
 loop-holds : tie.Need-loop-holds Inv-loop μ-loop
 loop-holds c = let a = c .before .before .before .before .before .args in (omega arith, omega arith, omega arith, refl, refl, sym (places-count (a .spot .turn) (a .spot .row) (a .spot .x) (a .spot .y) (a .order .now)), refl)
 
--- src/lib.rt:98:13
 same-length : tie.Need-same-length Inv-loop μ-loop
 same-length c = search needs
 
--- src/lib.rt:98:13
 same-length-2 : tie.Need-same-length-2 Inv-loop μ-loop
 same-length-2 c = search needs
 
--- src/lib.rt:98:13
 returns : tie.Need-returns Inv-loop μ-loop
-returns c = 
+returns c =
     let l = c .before .before .loop in
     let a = c .before .before .before .before .before .before .before .before .args in
     ends _ _ _ (walk-used (a .shift) (2 ^ (a .spot .log)) (a .part .now) (placesOf (a .spot .turn) (a .spot .row) (a .spot .x) (a .spot .y) (paired (a .order .now))) (a .symbols .now) (l .k) (l .prev) (l .left) (l .at) (l .log) (l .grid) (c .if1 .taken)) (l .inv .6)
 
--- src/lib.rt:100:47
 sub-coeff-context : tie.Need-sub-coeff-context Inv-loop μ-loop
 sub-coeff-context c = search needs
 
--- src/lib.rt:100:13
 coeff-context-requires : tie.Need-coeff-context-requires Inv-loop μ-loop
 coeff-context-requires c κs = search needs
 
--- src/lib.rt:102:13
 same-length-3 : tie.Need-same-length-3 Inv-loop μ-loop
 same-length-3 c = search needs
 
--- src/lib.rt:102:13
 same-length-4 : tie.Need-same-length-4 Inv-loop μ-loop
 same-length-4 c = search needs
 
--- src/lib.rt:102:13
 returns-2 : tie.Need-returns-2 Inv-loop μ-loop
-returns-2 c = 
+returns-2 c =
     let l = c .before .before .before .before .loop in
     let a = c .before .before .before .before .before .before .before .before .before .before .args in
     ends _ _ _ (walk-17 (a .shift) (2 ^ (a .spot .log)) (a .part .now) (placesOf (a .spot .turn) (a .spot .row) (a .spot .x) (a .spot .y) (paired (a .order .now))) (a .symbols .now) (l .k) (l .prev) (l .left) (l .at) (l .log) (l .grid) (omega arith) (omega arith) (omega arith)) (l .inv .6)
 
--- src/lib.rt:105:13
 same-length-5 : tie.Need-same-length-5 Inv-loop μ-loop
 same-length-5 c = search needs
 
--- src/lib.rt:105:13
 same-length-6 : tie.Need-same-length-6 Inv-loop μ-loop
 same-length-6 c = search needs
 
--- src/lib.rt:105:13
 returns-3 : tie.Need-returns-3 Inv-loop μ-loop
-returns-3 c = 
+returns-3 c =
     let l = c .before .before .before .before .before .loop in
     let a = c .before .before .before .before .before .before .before .before .before .before .before .args in
     ends _ _ _ (walk-15 (a .shift) (2 ^ (a .spot .log)) (a .part .now) (placesOf (a .spot .turn) (a .spot .row) (a .spot .x) (a .spot .y) (paired (a .order .now))) (a .symbols .now) (l .k) (l .prev) (l .left) (l .at) (l .log) (l .grid) (omega arith) (omega arith) (omega arith) (omega arith)) (l .inv .6)
 
--- src/lib.rt:107:17
 mul-u : tie.Need-mul-u Inv-loop μ-loop
 mul-u c = search needs
 
--- src/lib.rt:107:17
 shared-slice-read-u : tie.Need-shared-slice-read-u Inv-loop μ-loop
 shared-slice-read-u c = search needs
 
--- src/lib.rt:108:13
 cell-requires : tie.Need-cell-requires Inv-loop μ-loop
 cell-requires c κs = search needs
 
--- src/lib.rt:109:19
 shared-slice-read-log : tie.Need-shared-slice-read-log Inv-loop μ-loop
 shared-slice-read-log c = search needs
 
--- src/lib.rt:109:9
 slice-write-log : tie.Need-slice-write-log Inv-loop μ-loop
 slice-write-log c = search needs
 
--- src/lib.rt:110:24
 mul-gained : tie.Need-mul-gained Inv-loop μ-loop
 mul-gained c = omega (arith, c .before .cell .ensures, c .before .before .before .before .before .before .before .before .before .before .before .before .before .before .pre .inside (c .before .before .before .before .before .before .before .before .loop .k) (omega arith))
 
--- src/lib.rt:110:24
 slice-read-gained : tie.Need-slice-read-gained Inv-loop μ-loop
 slice-read-gained c = omega (arith, c .before .before .cell .ensures, c .before .before .before .before .before .before .before .before .before .before .before .before .before .before .before .pre .inside (c .before .before .before .before .before .before .before .before .before .loop .k) (omega arith))
 
--- src/lib.rt:110:13
 gained-requires : tie.Need-gained-requires Inv-loop μ-loop
 gained-requires c κs = search needs
 
--- src/lib.rt:111:9
 mul-grid : tie.Need-mul-grid Inv-loop μ-loop
 mul-grid c = omega (arith, c .before .before .before .cell .ensures, c .before .before .before .before .before .before .before .before .before .before .before .before .before .before .before .before .pre .inside (c .before .before .before .before .before .before .before .before .before .before .loop .k) (omega arith))
 
--- src/lib.rt:111:9
 slice-write-grid : tie.Need-slice-write-grid Inv-loop μ-loop
 slice-write-grid c = omega (arith, c .before .before .before .cell .ensures, c .before .before .before .before .before .before .before .before .before .before .before .before .before .before .before .before .pre .inside (c .before .before .before .before .before .before .before .before .before .before .loop .k) (omega arith))
 
--- src/lib.rt:112:9
 less-requires : tie.Need-less-requires Inv-loop μ-loop
 less-requires c κs = search needs
 
--- src/lib.rt:113:9
 flagged-requires : tie.Need-flagged-requires Inv-loop μ-loop
 flagged-requires c κs = search needs
 
--- src/lib.rt:114:9
 add-at : tie.Need-add-at Inv-loop μ-loop
 add-at c = search needs
 
--- src/lib.rt:115:9
 add-k : tie.Need-add-k Inv-loop μ-loop
 add-k c = search needs
 
--- src/lib.rt:96:5
 loop-less : tie.Need-loop-less Inv-loop μ-loop
 loop-less c = search needs
 
--- src/lib.rt:96:5
 loop-again : tie.Need-loop-again Inv-loop μ-loop
-loop-again c = 
+loop-again c =
     let l = c .before .before .before .before .before .before .before .before .before .before .before .before .loop in
     let a = c .before .before .before .before .before .before .before .before .before .before .before .before .before .before .before .before .before .before .args in (
       omega arith,
@@ -166,17 +128,14 @@ loop-again c =
           (sym (walk-turn (a .shift) (2 ^ (a .spot .log)) (a .part .now) (placesOf (a .spot .turn) (a .spot .row) (a .spot .x) (a .spot .y) (paired (a .order .now))) (a .symbols .now) (l .k) (l .prev) (l .left) (l .at) (l .log) (l .grid) (omega arith) (omega arith) (omega arith) (omega arith)) ∙ l .inv .6),
     )
 
--- src/lib.rt:76:1
 same-length-7 : tie.Need-same-length-7 Inv-loop μ-loop
 same-length-7 c = search needs
 
--- src/lib.rt:76:1
 same-length-8 : tie.Need-same-length-8 Inv-loop μ-loop
 same-length-8 c = search needs
 
--- src/lib.rt:76:1
 returns-4 : tie.Need-returns-4 Inv-loop μ-loop
-returns-4 c = 
+returns-4 c =
     let l = c .before .loop in
     let a = c .before .before .before .before .before .before .before .args in
     ends _ _ _ (walk-done (a .shift) (2 ^ (a .spot .log)) (a .part .now) (placesOf (a .spot .turn) (a .spot .row) (a .spot .x) (a .spot .y) (paired (a .order .now))) (a .symbols .now) (l .k) (l .prev) (l .left) (l .at) (l .log) (l .grid) (omega arith)) (l .inv .6)

@@ -1,24 +1,16 @@
 use Rattle.hf_coeff_walk.specs.SignedLaws.{unpack-even, unpack-odd}
 use borrow.Author.Needs.{needs}
 use native.Mathlib.Omega.{arith}
-use mathlib.Core.Path.{_≡_, _∙_, ap, sym}
-use mathlib.Core.List.{_++_}
-use Prim.Native.Nat.{ℕ, _≤_, _<_, _-_, _+_, _*_}
-use lib.ListN.{length, getD, take, drop, set, length-set}
+use mathlib.Core.Path.{sym}
 use Rattle.hf_coeff_walk.proofs.unpack_signed.Statement.{statement}
 use Rattle.hf_coeff_walk.proofs.unpack_signed.Tie as tie
-use Rattle.hf_coeff_walk.proofs.unpack_signed.Reads as reads
-use Rattle.hf_coeff_walk.proofs.unpack_signed.Lts as lts
 
--- src/lib.rt:53:9
 sub-result : tie.Need-sub-result
 sub-result c = search needs
 
--- src/lib.rt:47:1
 returns : tie.Need-returns
 returns c = sym (unpack-even (c .before .args .u) (c .if1 .taken))
 
--- src/lib.rt:47:1
 returns-2 : tie.Need-returns-2
 returns-2 c = let h = c .if1 .left in rw (unpack-odd (c .before .args .u) (c .if1 .left)) (omega arith)
 

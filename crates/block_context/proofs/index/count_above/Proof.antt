@@ -78,10 +78,12 @@ returns c =
     let e = c .before .before .used .result in
     let a = c .before .before .before .before .args in
     let whole : l .count ≡ above (take e (drop (a .first) (a .thresholds .now))) (a .q) =
-        omega (arith, above-end (a .thresholds .now) (a .first) e (a .q) (omega arith) (l .k) (omega arith))
-    in
-    (whole ∙ ap (λ (n : ℕ). above (take n (drop (a .first) (a .thresholds .now))) (a .q)) (c .before .before .used .ensures)
-     ∙ ap (λ (t : List ℕ). above t (a .q)) (take-min (a .n) 15 (drop (a .first) (a .thresholds .now))), omega arith)
+    omega (arith, above-end (a .thresholds .now) (a .first) e (a .q) (omega arith) (l .k) (omega arith))
+    in (
+      whole ∙ ap (λ (n : ℕ). above (take n (drop (a .first) (a .thresholds .now))) (a .q)) (c .before .before .used .ensures)
+          ∙ ap (λ (t : List ℕ). above t (a .q)) (take-min (a .n) 15 (drop (a .first) (a .thresholds .now))),
+      omega arith,
+    )
 
 pub count-above-spec : {M : Type 1} → statement M
 count-above-spec =

@@ -64,10 +64,11 @@ returns : tie.Need-returns
 returns c =
     let s0 = c .before .before .used .result + 1 in
     let s1 = c .before .used2 .result + 1 in
-    let s2 = c .used3 .result + 1 in
-    (rw (c .before .before .used .ensures, c .before .used2 .ensures, c .used3 .ensures),
-     sizes-pos {a = s0} {b = s1} {c = s2} (omega arith) (omega arith) (omega arith),
-     sizes-le {a = s0} {b = s1} {c = s2} (omega arith) (omega arith) (omega arith) .1)
+    let s2 = c .used3 .result + 1 in (
+      rw (c .before .before .used .ensures, c .before .used2 .ensures, c .used3 .ensures),
+      sizes-pos {a = s0} {b = s1} {c = s2} (omega arith) (omega arith) (omega arith),
+      sizes-le {a = s0} {b = s1} {c = s2} (omega arith) (omega arith) (omega arith) .1,
+    )
 
 pub lf-size-spec : {M : Type 1} → statement M
 lf-size-spec =

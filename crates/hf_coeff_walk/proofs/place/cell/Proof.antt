@@ -1,105 +1,81 @@
 use Rattle.hf_coeff_walk.specs.PlaceLaws.{place-turned, place-straight, cell-fits}
 use borrow.Author.Needs.{needs}
 use native.Mathlib.Omega.{arith}
-use mathlib.Core.Path.{_≡_, _∙_, ap, sym}
-use mathlib.Core.List.{_++_}
-use Prim.Native.Nat.{ℕ, _≤_, _<_, _-_, _+_, _*_}
-use lib.ListN.{length, getD, take, drop, set, length-set}
+use mathlib.Core.Path.{sym}
 use Rattle.hf_coeff_walk.proofs.place.cell.Statement.{statement}
 use Rattle.hf_coeff_walk.proofs.place.cell.Tie as tie
-use Rattle.hf_coeff_walk.proofs.place.cell.Reads as reads
-use Rattle.hf_coeff_walk.proofs.place.cell.Lts as lts
-use Rattle.hf_coeff_walk.proofs.place.wide.Reads as wide-reads
 
--- src/place.rt:27:13
 mul-i : tie.Need-mul-i
 mul-i c = search needs
 
--- src/place.rt:28:18
 mul-wide : tie.Need-mul-wide
 mul-wide c = search needs
 
--- src/place.rt:28:18
 shared-slice-read-wide : tie.Need-shared-slice-read-wide
 shared-slice-read-wide c = search needs
 
--- src/place.rt:28:9
 wide-requires : tie.Need-wide-requires
 wide-requires c κs = search needs
 
--- src/place.rt:29:13
 add-j : tie.Need-add-j
 add-j c = search needs
 
--- src/place.rt:30:18
 mul-wide-2 : tie.Need-mul-wide-2
 mul-wide-2 c = search needs
 
--- src/place.rt:30:18
 shared-slice-read-wide-2 : tie.Need-shared-slice-read-wide-2
 shared-slice-read-wide-2 c = search needs
 
--- src/place.rt:30:9
 wide-requires-2 : tie.Need-wide-requires-2
 wide-requires-2 c κs = search needs
 
--- src/place.rt:32:17
 add-result : tie.Need-add-result
 add-result c = search needs
 
--- src/place.rt:32:16
 mul-result : tie.Need-mul-result
-mul-result c = 
+mul-result c =
     let a = c .before .before .before .before .before .before .before .before .args in
     let v = c .before .before .before .before .before .wide in
     let w = c .before .before .before .wide2 in
     omega (arith, cell-fits (a .spot .y) (v .result) (a .spot .row) (a .spot .x) (w .result) (omega arith) (v .ensures .1) (omega arith) (omega arith) (w .ensures .1))
 
--- src/place.rt:32:43
 add-result-2 : tie.Need-add-result-2
 add-result-2 c = search needs
 
--- src/place.rt:32:16
 add-result-3 : tie.Need-add-result-3
-add-result-3 c = 
+add-result-3 c =
     let a = c .before .before .before .before .before .before .before .before .before .args in
     let v = c .before .before .before .before .before .before .wide in
     let w = c .before .before .before .before .wide2 in
     omega (arith, cell-fits (a .spot .y) (v .result) (a .spot .row) (a .spot .x) (w .result) (omega arith) (v .ensures .1) (omega arith) (omega arith) (w .ensures .1))
 
--- src/place.rt:32:9
 returns : tie.Need-returns
-returns c = 
+returns c =
     let a = c .before .before .before .before .before .before .before .before .before .args in
     rw (c .before .before .before .if1 .taken, c .before .before .before .before .before .before .wide .ensures .0, c .before .before .before .before .wide2 .ensures .0) (sym (place-turned (a .spot .row) (a .spot .x) (a .spot .y) (a .order .now) (a .k) (omega arith)))
 
--- src/place.rt:34:6
 add-result-4 : tie.Need-add-result-4
 add-result-4 c = search needs
 
--- src/place.rt:34:5
 mul-result-2 : tie.Need-mul-result-2
-mul-result-2 c = 
+mul-result-2 c =
     let a = c .before .before .before .before .before .before .before .before .args in
     let v = c .before .before .before .before .before .wide in
     let w = c .before .before .before .wide2 in
     omega (arith, cell-fits (a .spot .y) (w .result) (a .spot .row) (a .spot .x) (v .result) (omega arith) (w .ensures .1) (omega arith) (omega arith) (v .ensures .1))
 
--- src/place.rt:34:32
 add-result-5 : tie.Need-add-result-5
 add-result-5 c = search needs
 
--- src/place.rt:34:5
 add-result-6 : tie.Need-add-result-6
-add-result-6 c = 
+add-result-6 c =
     let a = c .before .before .before .before .before .before .before .before .before .args in
     let v = c .before .before .before .before .before .before .wide in
     let w = c .before .before .before .before .wide2 in
     omega (arith, cell-fits (a .spot .y) (w .result) (a .spot .row) (a .spot .x) (v .result) (omega arith) (w .ensures .1) (omega arith) (omega arith) (v .ensures .1))
 
--- src/place.rt:23:1
 returns-2 : tie.Need-returns-2
-returns-2 c = 
+returns-2 c =
     let a = c .before .before .before .before .before .before .before .before .before .args in
     rw (c .before .before .before .if1 .left, c .before .before .before .before .before .before .wide .ensures .0, c .before .before .before .before .wide2 .ensures .0) (sym (place-straight (a .spot .row) (a .spot .x) (a .spot .y) (a .order .now) (a .k) (omega arith)))
 
