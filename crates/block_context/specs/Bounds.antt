@@ -16,12 +16,13 @@ use lib.Signed.{ltZ}
 use mir.Syntax.{w32}
 use mir.Val.{toZ}
 use mir.ValLaws.{toZ-pos}
-use borrow.Author.Tests.{lt-ltb, le-ltb}
+use borrow.Author.Tests.{lt-ltb, le-ltb, le-leb}
 use Rattle.laws.specs.Cases.{le-or-lt}
-use Rattle.laws.specs.Tables.{every, at-each}
+use Rattle.laws.specs.Tables.{every}
+use Rattle.block_context.specs.Every.{each-getD}
 use Rattle.block_context.specs.declared.HfBlockContext.{HfBlockContext}
 use Rattle.block_context.specs.Contexts.{Contexts, sizeOf, lfSize, bsize, greater, above, qfIndex, lfIndexIn, lfIndex, lfIndexOf, placeOf, contextIndex, blockContext}
-use Rattle.block_context.specs.Record.{used, bsizeOf, qfFit, fitOf, fit}
+use Rattle.block_context.specs.Record.{used, bsizeOf, qfFit, bytesBelow, fitOf, fit}
 
 more : (b : Bool) {m n : ℕ} → m ≤ n → cond b 1 0 + m ≤ suc n
 more true h = omega arith
@@ -101,47 +102,63 @@ pub record Fit (clusters : ℕ) (lengths qf map : List ℕ) : Type 0 where
   pub size : bsizeOf lengths ≤ 64
   pub some : 1 ≤ clusters
   pub few : clusters ≤ 16
-  pub values : (k : ℕ) → k < length (take (getD lengths 3 0) qf) → (1 ≤ getD qf k 0) × (getD qf k 0 ≤ 300)
-  pub bytes : (k : ℕ) → k < 39 * bsizeOf lengths → getD map k 0 < clusters
-
--- a rule that the default passes holds at every place of a list
-pub each-getD : (rule : ℕ → Bool) (xs : List ℕ) (d : ℕ) → T (rule d) → T (every rule xs) → (k : ℕ) → T (rule (getD xs k d))
-each-getD rule [] d t e k = t
-each-getD rule (x ∷ xs) d t e zero = and-l (rule x) (every rule xs) e
-each-getD rule (x ∷ xs) d t e (suc k) = each-getD rule xs d t (and-r (rule x) (every rule xs) e) k
+  pub values : T (every qfFit (take (getD lengths 3 0) qf))
+  pub bytes : T (bytesBelow clusters (take (39 * bsizeOf lengths) map))
 
 nine : (a b c d e f g h i : Bool) → T (a && b && c && d && e && f && g && h && i) → T a × T b × T c × T d × T e × T f × T g × T h × T i
 nine true true true true true true true true true t = (tt, tt, tt, tt, tt, tt, tt, tt, tt)
-
-value : (v : ℕ) → T (qfFit v) → (1 ≤ v) × (v ≤ 300)
-value v t = (leb→le 1 v (and-l (leb 1 v) (leb v 300) t), leb→le v 300 (and-r (leb 1 v) (leb v 300) t))
-
-shorter : (n : ℕ) (xs : List ℕ) (k : ℕ) → k < length (take n xs) → k < n
-shorter n xs k h = omega (arith, length-take n xs)
 
 module _ (clusters : ℕ) (lengths qf map : List ℕ) where
   pub fits : fitOf clusters lengths qf map ≡ true → Fit clusters lengths qf map
   unfolding fitOf
   fits e =
       let len : ℕ → ℕ = λ (k : ℕ). getD lengths k 0 in
-      let m = 39 * bsizeOf lengths in
-      let below : ℕ → Bool = λ (b : ℕ). ltb b clusters in
       let t =
-      nine (leb (len 0) 15) (leb (len 1) 15) (leb (len 2) 15) (leb (len 3) 15) (leb (bsizeOf lengths) 64) (leb 1 clusters)
-      (leb clusters 16) (every qfFit (take (len 3) qf)) (every below (take m map)) (subst T (sym e) tt)
+          nine (leb (len 0) 15) (leb (len 1) 15) (leb (len 2) 15) (leb (len 3) 15) (leb (bsizeOf lengths) 64) (leb 1 clusters) (leb clusters 16)
+          (every qfFit (take (len 3) qf)) (bytesBelow clusters (take (39 * bsizeOf lengths) map)) (subst T (sym e) tt)
       in
-      let some : 1 ≤ clusters = leb→le 1 clusters (t .5) in
       record {
         short0 = leb→le (len 0) 15 (t .0);
         short1 = leb→le (len 1) 15 (t .1);
         short2 = leb→le (len 2) 15 (t .2);
         short3 = leb→le (len 3) 15 (t .3);
         size = leb→le (bsizeOf lengths) 64 (t .4);
-        some = some;
+        some = leb→le 1 clusters (t .5);
         few = leb→le clusters 16 (t .6);
-        values = λ k h. value (getD qf k 0) (rw (getD-take (len 3) qf k 0 (shorter (len 3) qf k h)) at (at-each qfFit (take (len 3) qf) (t .7) 0 k h));
-        bytes = λ k h. rw (← getD-take m map k 0 h) (ltb→lt (getD (take m map) k 0) clusters (each-getD below (take m map) 0 (lt→ltb 0 clusters some) (t .8) k));
+        values = t .7;
+        bytes = t .8;
       }
+
+  -- what is left to test once all else is fit
+  pub fit-last : getD lengths 0 0 ≤ 15 → getD lengths 1 0 ≤ 15 → getD lengths 2 0 ≤ 15 → getD lengths 3 0 ≤ 15 → bsizeOf lengths ≤ 64
+      → 1 ≤ clusters → clusters ≤ 16 → every qfFit (take (getD lengths 3 0) qf) ≡ true
+      → fitOf clusters lengths qf map ≡ bytesBelow clusters (take (39 * bsizeOf lengths) map)
+  unfolding fitOf
+  fit-last h0 h1 h2 h3 s m f v =
+      rw
+      (le-leb (getD lengths 0 0) 15 h0, le-leb (getD lengths 1 0) 15 h1, le-leb (getD lengths 2 0) 15 h2, le-leb (getD lengths 3 0) 15 h3,
+       le-leb (bsizeOf lengths) 64 s, le-leb 1 clusters m, le-leb clusters 16 f, v)
+
+  -- a byte of the used part of the map
+  pub fit-byte : Fit clusters lengths qf map → (k : ℕ) → k < 39 * bsizeOf lengths → getD map k 0 < clusters
+  fit-byte f k h =
+      let m = 39 * bsizeOf lengths in
+      rw (← getD-take m map k 0 h)
+      (ltb→lt (getD (take m map) k 0) clusters
+      (each-getD (λ (b : ℕ). ltb b clusters) (take m map) 0 (lt→ltb 0 clusters (f .some)) (f .bytes) k))
+
+abbrev pub IsFit : HfBlockContext → Type 0
+IsFit R = Fit (R .«num_block_clusters») (R .lengths) (R .«qf_thresholds») (R .«block_ctx_map»)
+
+pub is-fit : (R : HfBlockContext) → fit R ≡ true → IsFit R
+is-fit R = fits (R .«num_block_clusters») (R .lengths) (R .«qf_thresholds») (R .«block_ctx_map»)
+
+pub refuted : (b : Bool) → (b ≡ true → ⊥) → false ≡ b
+refuted true h = absurd (h refl)
+refuted false h = refl
+
+pub false-true : (b : Bool) → b ≡ false → T b → ⊥
+false-true b e t = subst T e t
 
 take-le : (n : ℕ) (xs : List ℕ) → length (take n xs) + 1 ≤ n + 1
 take-le n xs = omega (arith, length-take n xs)
@@ -157,5 +174,5 @@ used-size-le R =
 pub context-lt : (R : HfBlockContext) (n order mul : ℕ) (there : Bool) (q0 q1 q2 : ℕ) → fit R ≡ true → n < 3 → order < 13
     → blockContext (used R) n order mul there q0 q1 q2 < R .«num_block_clusters»
 context-lt R n order mul there q0 q1 q2 e hn ho =
-    let f = fits (R .«num_block_clusters») (R .lengths) (R .«qf_thresholds») (R .«block_ctx_map») e in
-    f .bytes _ (omega (arith, block-index-lt (used R) n order mul there q0 q1 q2 hn ho, used-size-le R))
+    let f = is-fit R e in
+    fit-byte (R .«num_block_clusters») (R .lengths) (R .«qf_thresholds») (R .«block_ctx_map») f _ (omega (arith, block-index-lt (used R) n order mul there q0 q1 q2 hn ho, used-size-le R))

@@ -11,7 +11,7 @@ use mathlib.Core.Logic.{⊎-elim}
 use Rattle.laws.specs.Cases.{le-or-lt}
 use lib.Seq.{take-all, take-take, drop-cons, getD-take, getD-drop}
 use Rattle.block_context.specs.Contexts.{Contexts, greater, above, lfIndexIn, sizeOf, lfSize, qfIndex, lfIndexOf, placeOf, blockContexts}
-use Rattle.block_context.specs.Record.{lfList}
+use Rattle.block_context.specs.Record.{lfList, bsizeOf, cappedBsize}
 
 cons : (t : ℕ) (ts : List ℕ) (q : ℕ) → above (t ∷ ts) q ≡ cond (greater q t) 1 0 + above ts q
 unfolding above
@@ -96,3 +96,14 @@ module _ (C : Contexts) (order mul : ℕ) (there : Bool) (q0 q1 q2 : ℕ) (qfs l
       → c ≡ getD (C .map) (placeOf qfs lfs 2 order qf lf) 0
       → a ∷ b ∷ c ∷ [] ≡ blockContexts C order mul there q0 q1 q2
   contexts-are e f g h x y z = rw (x, y, z, e, f, g, h)
+
+-- lengths up to 15 count as they are
+pub capped : (lengths : List ℕ) → getD lengths 0 0 ≤ 15 → getD lengths 1 0 ≤ 15 → getD lengths 2 0 ≤ 15 → getD lengths 3 0 ≤ 15
+    → cappedBsize lengths ≡ bsizeOf lengths
+unfolding cappedBsize bsizeOf
+capped l h0 h1 h2 h3 =
+    let e0 : min (getD l 0 0) 15 ≡ getD l 0 0 = omega arith in
+    let e1 : min (getD l 1 0) 15 ≡ getD l 1 0 = omega arith in
+    let e2 : min (getD l 2 0) 15 ≡ getD l 2 0 = omega arith in
+    let e3 : min (getD l 3 0) 15 ≡ getD l 3 0 = omega arith in
+    rw (e0, e1, e2, e3)

@@ -1,5 +1,6 @@
 -- what a block context is, the lent record, and laws on both
 pub mod Contexts
 pub mod Record
+pub mod Every
 pub mod Bounds
 pub mod Laws

@@ -1,7 +1,7 @@
 -- A context record as it is lent and handed back: lists in arrays, with their lengths (document 01, Block contexts).
 use mathlib.Core.Bool.{Bool, _&&_}
 use mathlib.Core.List.{List}
-use Prim.Native.Nat.{ℕ, _+_, _*_}
+use Prim.Native.Nat.{ℕ, min, _+_, _*_}
 use lib.Dec.{leb, ltb}
 use lib.ListN.{getD, take, drop}
 use Rattle.laws.specs.Tables.{every}
@@ -32,9 +32,20 @@ unfoldable pub bsizeOf : List ℕ → ℕ
 bsizeOf lengths =
     (getD lengths 0 0 + 1) * (getD lengths 1 0 + 1) * (getD lengths 2 0 + 1) * (getD lengths 3 0 + 1)
 
+-- a length above 15 counting as 15
+unfoldable pub cappedBsize : List ℕ → ℕ
+cappedBsize lengths =
+    (min (getD lengths 0 0) 15 + 1)
+    * (min (getD lengths 1 0) 15 + 1)
+    * (min (getD lengths 2 0) 15 + 1)
+    * (min (getD lengths 3 0) 15 + 1)
+
 -- a qf value: 1 to 300
 abbrev pub qfFit : ℕ → Bool
 qfFit v = leb 1 v && leb v 300
+
+abbrev pub bytesBelow : ℕ → List ℕ → Bool
+bytesBelow clusters = every (λ (b : ℕ). ltb b clusters)
 
 -- Not refused with 12. Places behind a list's length, and map bytes from 39 × bsize on, are not looked at.
 unfoldable pub fitOf : ℕ → List ℕ → List ℕ → List ℕ → Bool
@@ -47,7 +58,7 @@ fitOf clusters lengths qf map =
     && leb 1 clusters
     && leb clusters 16
     && every qfFit (take (getD lengths 3 0) qf)
-    && every (λ (b : ℕ). ltb b clusters) (take (39 * bsizeOf lengths) map)
+    && bytesBelow clusters (take (39 * bsizeOf lengths) map)
 
 abbrev pub fit : HfBlockContext → Bool
 fit R = fitOf (R .«num_block_clusters») (R .lengths) (R .«qf_thresholds») (R .«block_ctx_map»)

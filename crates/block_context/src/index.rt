@@ -1,4 +1,6 @@
 // The block contexts of a varblock (`write_hf_coeff` of `hf_coeff.rs`).
+use super::sizes::lf_size;
+use super::sizes::used;
 ghost use mathlib.Core.Path.{_≡_};
 ghost use mathlib.Core.Bool.{cond};
 ghost use Prim.Native.Nat.{min, _+_, _*_, _≤_, _<_};
@@ -14,16 +16,6 @@ fn one_if_greater(a: u32, b: u32) -> usize
         return 1;
     }
     0
-}
-
-// Places in use of 15.
-fn used(n: u32) -> usize
-    ensures { λ r. ⌜ r ≡ min n 15 ⌝ }
-{
-    if n < 15 {
-        return n as usize;
-    }
-    15
 }
 
 // How many of the first n of the 15 thresholds from first on q is greater than.
@@ -61,16 +53,6 @@ fn lf_index(lf_thresholds: &[u32], lengths: [u32; 4], q0: u32, q1: u32, q2: u32)
     (i0 * size2 + i2) * size1 + i1
 }
 
-// The number of LF indices.
-fn lf_size(lengths: [u32; 4]) -> usize
-    ensures { λ r. ⌜ (r ≡ (min (getD lengths 0 0) 15 + 1) * (min (getD lengths 1 0) 15 + 1) * (min (getD lengths 2 0) 15 + 1)) × (1 ≤ r) × (r ≤ 4096) ⌝ }
-{
-    let size0 = used(lengths[0]) + 1;
-    let size1 = used(lengths[1]) + 1;
-    let size2 = used(lengths[2]) + 1;
-    size0 * size1 * size2
-}
-
 fn wide(x: u8) -> usize
     ensures { λ r. ⌜ r ≡ x ⌝ }
 {
@@ -78,15 +60,7 @@ fn wide(x: u8) -> usize
 }
 
 // The map's number for the n-th channel walked, 0 outside the map.
-fn context_at(
-    block_ctx_map: &[u8],
-    qf_size: usize,
-    lf_size: usize,
-    n: usize,
-    order: usize,
-    qf: usize,
-    lf: usize,
-) -> usize
+fn context_at(block_ctx_map: &[u8], qf_size: usize, lf_size: usize, n: usize, order: usize, qf: usize, lf: usize) -> usize
     requires { ⌜ (length (now «block_ctx_map») ≤ 2496) × (1 ≤ «qf_size») × («qf_size» ≤ 16) × (1 ≤ «lf_size») × («lf_size» ≤ 4096) × (n < 3) × (qf ≤ 15) × (lf ≤ 4095) ⌝ }
     ensures { λ r. ⌜ r ≡ getD (now («block_ctx_map» .entry)) (placeOf «qf_size» «lf_size» n order qf lf) 0 ⌝ }
 {
@@ -101,14 +75,7 @@ fn context_at(
 }
 
 // LF index, 0 without LF grids.
-fn lf_index_of(
-    lf_thresholds: &[u32],
-    lengths: [u32; 4],
-    lf_there: bool,
-    q0: u32,
-    q1: u32,
-    q2: u32,
-) -> usize
+fn lf_index_of(lf_thresholds: &[u32], lengths: [u32; 4], lf_there: bool, q0: u32, q1: u32, q2: u32) -> usize
     requires { ⌜ length (now «lf_thresholds») ≡ 45 ⌝ }
     ensures { λ r. ⌜ (r ≡ cond «lf_there» (lfIndexIn (lfList (now («lf_thresholds» .entry)) 0 (getD lengths 0 0)) (lfList (now («lf_thresholds» .entry)) 1 (getD lengths 1 0)) (lfList (now («lf_thresholds» .entry)) 2 (getD lengths 2 0)) q0 q1 q2) 0) × (r ≤ 4095) ⌝ }
 {

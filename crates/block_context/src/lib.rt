@@ -1,6 +1,8 @@
-// Block contexts: the record, its limits, and the index of a block context (`HfBlockContext` of `lf.rs`).
+// Block contexts: the record, its limits, and the block contexts of a varblock (`HfBlockContext` of
+// `lf.rs`).
 pub mod fit;
 pub mod index;
+mod sizes;
 
 // Signed numbers are 32-bit patterns. Places behind a list's length are not looked at.
 pub struct HfBlockContext {

@@ -13,9 +13,9 @@ use Rattle.block_context.proofs.index.block_contexts.Reads as reads
 use Rattle.block_context.proofs.index.block_contexts.Lts as lts
 use Rattle.block_context.proofs.index.context_at.Reads as context-at-reads
 use Rattle.block_context.proofs.index.lf_index_of.Reads as lf-index-of-reads
-use Rattle.block_context.proofs.index.lf_size.Reads as lf-size-reads
+use Rattle.block_context.proofs.sizes.lf_size.Reads as lf-size-reads
 use Rattle.block_context.proofs.index.qf_index.Reads as qf-index-reads
-use Rattle.block_context.proofs.index.used.Reads as used-reads
+use Rattle.block_context.proofs.sizes.used.Reads as used-reads
 
 -- src/index.rt:122:9
 qf-index-requires : tie.Need-qf-index-requires

@@ -13,7 +13,7 @@ use Rattle.block_context.proofs.index.count_above.Tie as tie
 use Rattle.block_context.proofs.index.count_above.Reads as reads
 use Rattle.block_context.proofs.index.count_above.Lts as lts
 use Rattle.block_context.proofs.index.one_if_greater.Reads as one-if-greater-reads
-use Rattle.block_context.proofs.index.used.Reads as used-reads
+use Rattle.block_context.proofs.sizes.used.Reads as used-reads
 
 abbrev Inv-loop : tie.InvT-loop
 Inv-loop thresholds first n q end count₀ k₀ count k =
@@ -78,12 +78,10 @@ returns c =
     let e = c .before .before .used .result in
     let a = c .before .before .before .before .args in
     let whole : l .count ≡ above (take e (drop (a .first) (a .thresholds .now))) (a .q) =
-    omega (arith, above-end (a .thresholds .now) (a .first) e (a .q) (omega arith) (l .k) (omega arith))
-    in (
-      whole ∙ ap (λ (n : ℕ). above (take n (drop (a .first) (a .thresholds .now))) (a .q)) (c .before .before .used .ensures)
-          ∙ ap (λ (t : List ℕ). above t (a .q)) (take-min (a .n) 15 (drop (a .first) (a .thresholds .now))),
-      omega arith,
-    )
+        omega (arith, above-end (a .thresholds .now) (a .first) e (a .q) (omega arith) (l .k) (omega arith))
+    in
+    (whole ∙ ap (λ (n : ℕ). above (take n (drop (a .first) (a .thresholds .now))) (a .q)) (c .before .before .used .ensures)
+     ∙ ap (λ (t : List ℕ). above t (a .q)) (take-min (a .n) 15 (drop (a .first) (a .thresholds .now))), omega arith)
 
 pub count-above-spec : {M : Type 1} → statement M
 count-above-spec =

@@ -10,7 +10,7 @@ use Rattle.block_context.proofs.index.lf_index.Tie as tie
 use Rattle.block_context.proofs.index.lf_index.Reads as reads
 use Rattle.block_context.proofs.index.lf_index.Lts as lts
 use Rattle.block_context.proofs.index.count_above.Reads as count-above-reads
-use Rattle.block_context.proofs.index.used.Reads as used-reads
+use Rattle.block_context.proofs.sizes.used.Reads as used-reads
 
 -- src/index.rt:54:49
 array-read-count-above : tie.Need-array-read-count-above
@@ -100,11 +100,10 @@ returns c =
     let r0 = c .before .before .before .before .count-above in
     let r2 = c .before .before .before .count-above2 in
     let r1 = c .before .before .count-above3 in
-    let d = digits-le {a = r0 .result} {b = r2 .result} {s = c .before .used .result + 1} {t = c .used2 .result + 1} (omega arith) (omega arith) (omega arith) (omega arith) in (
-      lf-index-is (a .lf-thresholds .now) (getD t 0 0) (getD t 1 0) (getD t 2 0) (a .q0) (a .q1) (a .q2) (r0 .result) (r1 .result) (r2 .result)
-          (c .used2 .result) (c .before .used .result) (omega arith) (r0 .ensures .0) (r1 .ensures .0) (r2 .ensures .0) (c .used2 .ensures) (c .before .used .ensures),
-      omega (arith, d),
-    )
+    let d = digits-le {a = r0 .result} {b = r2 .result} {s = c .before .used .result + 1} {t = c .used2 .result + 1} (omega arith) (omega arith) (omega arith) (omega arith) in
+    (lf-index-is (a .lf-thresholds .now) (getD t 0 0) (getD t 1 0) (getD t 2 0) (a .q0) (a .q1) (a .q2) (r0 .result) (r1 .result) (r2 .result)
+     (c .used2 .result) (c .before .used .result) (omega arith) (r0 .ensures .0) (r1 .ensures .0) (r2 .ensures .0) (c .used2 .ensures) (c .before .used .ensures),
+     omega (arith, d))
 
 pub lf-index-spec : {M : Type 1} → statement M
 lf-index-spec =

@@ -24,11 +24,9 @@ count-above-requires c κs = search needs
 -- src/index.rt:44:1
 returns : tie.Need-returns
 returns c =
-    let a = c .before .before .args in (
-      c .count-above .ensures .0
-          ∙ ap (λ (l : List ℕ). above (take (getD (a .t2) 3 0) l) (a .hf-mul)) (take-all 15 (a .qf-thresholds .now) (omega arith)),
-      c .count-above .ensures .1,
-    )
+    let a = c .before .before .args in
+    (c .count-above .ensures .0
+     ∙ ap (λ (l : List ℕ). above (take (getD (a .t2) 3 0) l) (a .hf-mul)) (take-all 15 (a .qf-thresholds .now) (omega arith)), c .count-above .ensures .1)
 
 pub qf-index-spec : {M : Type 1} → statement M
 qf-index-spec = tie.close (tie.spec array-read-count-above count-above-requires returns)

@@ -1,3 +1,4 @@
+use mathlib.Core.List.{[]}
 use Rattle.hf_coeff_walk.specs.Item.{rowOf}
 use Rattle.hf_coeff_walk.specs.Counts.{row-start, row-step, row-end}
 use borrow.Author.Needs.{needs}
