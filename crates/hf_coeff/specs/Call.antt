@@ -7,14 +7,15 @@ use lib.ListN.{length, getD, take, drop, replicate}
 use Rattle.refusal.specs.declared.Refusal.{Refusal}
 use Rattle.refusal.specs.declared.Refusal.the-variants.{Size, Parameter, Context, Length, Layout, StoredPlace, BitsEnd, Preset}
 use Rattle.bits.specs.Bits.{Read, Value, Ended, readBits}
-use Rattle.layout.specs.Check.{check}
+use Rattle.layout.specs.Check.{isLayout}
+use Rattle.block_record.specs.Calls.{inLimits}
 use Rattle.hf_pass_store.specs.Store.{PLACES, placesFit}
 use Rattle.block_context.specs.declared.HfBlockContext.{HfBlockContext}
 use Rattle.block_context.specs.Record.{fit}
 use Rattle.hf_coeff.specs.declared.CoeffAnswer.{CoeffAnswer}
 use Rattle.hf_coeff.specs.declared.CoeffAnswer.the-variants.{Accepted, Refused}
-use Rattle.hf_coeff.specs.Pass.{Pass, varblocks}
-use Rattle.hf_coeff.specs.Group.{Grids, Reading, going, refused, group, leftOf}
+use Rattle.hf_coeff_group.specs.Pass.{Pass, varblocks}
+use Rattle.hf_coeff_group.specs.Group.{Grids, Reading, going, refused, group, leftOf}
 use Rattle.hf_coeff.specs.Exponent.{exponent}
 
 -- what is lent
@@ -42,11 +43,8 @@ abbrev pub clustersOf : Pass → ℕ
 clustersOf P = P .contexts .«num_block_clusters»
 
 -- Checks before work.
-abbrev pub sideFits : ℕ → Bool
-sideFits n = leb 1 n && leb n 32
-
 abbrev pub sidesFit : Pass → Bool
-sidesFit P = sideFits (P .width) && sideFits (P .height)
+sidesFit P = inLimits 32 (P .width) (P .height)
 
 abbrev pub parametersFit : ℕ → ℕ → Bool
 parametersFit shift presets = leb shift 3 && leb presets 256
@@ -75,9 +73,9 @@ lengthsFit L =
     && gridsFit (L .pass) (L .grids)
     && leb (192 * blocks (L .pass)) (length (L .log))
 
--- 18: the group is no layout (layout, Theorems, check-iff)
+-- 18: what passes is a layout (crate layout, Theorems, check-iff)
 abbrev pub layoutFits : Pass → Bool
-layoutFits P = check 32 (P .width) (P .height) (P .kinds) (P .muls)
+layoutFits P = isLayout (P .width) (P .height) (P .kinds) (P .muls)
 
 -- The work.
 -- three rows of counts, each as wide as the group

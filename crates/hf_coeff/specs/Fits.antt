@@ -6,9 +6,10 @@ use Prim.Native.Nat.{ℕ, zero, suc, _+_, _*_, _<_, _≤_}
 use native.Mathlib.Omega.{arith}
 use lib.Dec.{T, leb, eqb, leb→le, eqb→eq}
 use lib.ListN.{length, getD}
+use Rattle.block_record.specs.Calls.{inLimits}
 use Rattle.hf_pass_store.specs.Store.{PLACES}
-use Rattle.hf_coeff.specs.Pass.{Pass}
-use Rattle.hf_coeff.specs.Call.{Lent, blocks, clustersOf, sideFits, sidesFit, parametersFit, lfFits, passFits, gridsFit, lengthsFit}
+use Rattle.hf_coeff_group.specs.Pass.{Pass}
+use Rattle.hf_coeff.specs.Call.{Lent, blocks, clustersOf, sidesFit, parametersFit, lfFits, passFits, gridsFit, lengthsFit}
 
 two : (a b : Bool) → T (a && b) → T a × T b
 two true true t = (tt, tt)
@@ -29,8 +30,9 @@ pub record Sides (P : Pass) : Type 0 where
   pub high : P .height ≤ 32
 
 pub sides-fit : (P : Pass) → sidesFit P ≡ true → Sides P
+unfolding inLimits
 sides-fit P e =
-    let t = two (sideFits (P .width)) (sideFits (P .height)) (truth (sidesFit P) e) in
+    let t = two (leb 1 (P .width) && leb (P .width) 32) (leb 1 (P .height) && leb (P .height) 32) (truth (sidesFit P) e) in
     let w = two (leb 1 (P .width)) (leb (P .width) 32) (t .0) in
     let h = two (leb 1 (P .height)) (leb (P .height) 32) (t .1) in
     record { someWide = leb→le 1 (P .width) (w .0); wide = leb→le (P .width) 32 (w .1); someHigh = leb→le 1 (P .height) (h .0); high = leb→le (P .height) 32 (h .1) }

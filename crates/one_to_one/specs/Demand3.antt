@@ -25,11 +25,11 @@ use Rattle.hf_coeff_walk.specs.Places.{paired}
 use Rattle.hf_coeff_walk.specs.PlaceLaws.{paired-flat}
 use Rattle.hf_coeff_walk.specs.Item.{Item}
 use Rattle.hf_coeff.specs.declared.CoeffAnswer.the-variants.{Accepted}
-use Rattle.hf_coeff.specs.Pass.{Pass, varblocks, itemsOf}
-use Rattle.hf_coeff.specs.Group.{Grids, Reading, going, read, leftOf, group-items}
+use Rattle.hf_coeff_group.specs.Pass.{Pass, varblocks, itemsOf}
+use Rattle.hf_coeff_group.specs.Group.{Grids, Reading, going, read, leftOf, group-items}
 use Rattle.hf_coeff.specs.Call.{Lent, Outcome, clustersOf, sidesFit, parametersFit, lengthsFit, rowsOf, presetMap, reading, outcome, readPreset, leftoverAt, leftover, call}
 use Rattle.hf_coeff.specs.CallLaws.{call-reads}
-use Rattle.hf_coeff.specs.Fits.{sides-fit, lengths-fit}
+use Rattle.hf_coeff.specs.Fits.{lengths-fit}
 use Rattle.one_to_one.specs.Sequence.{sequence}
 use Rattle.one_to_one.specs.Places.{Words}
 use Rattle.one_to_one.specs.Premises.{cell, Shape, Holds}
@@ -132,10 +132,9 @@ module _ (L : Lent) (fixed : Fixed L) where
   -- the call reads the group
   reads : (s : List ℕ) → call (withSymbols L s) ≡ outcome (reading (withSymbols L s) (fixed .preset))
   reads s =
-      let w = sides-fit P (fixed .sides) .wide in
       let e : L .shift ≡ 0 = fixed .shift in
       call-reads (withSymbols L s) (fixed .sides) (parameters (L .shift) (L .presets) (omega arith) (fixed .few)) (fixed .contexts) (fixed .lengths)
-      (layout-check (P .width) (P .height) (P .kinds) (P .muls) 32 w (fixed .layout)) (written-fits (P .store) (fixed .orders)) (fixed .preset) (fixed .bits) (fixed .readWhole) (fixed .below)
+      (layout-check (P .width) (P .height) (P .kinds) (P .muls) (P .width) (omega arith) (fixed .layout)) (written-fits (P .store) (fixed .orders)) (fixed .preset) (fixed .bits) (fixed .readWhole) (fixed .below)
     where
       parameters : (shift presets : ℕ) → shift ≤ 3 → presets ≤ 256 → parametersFit shift presets ≡ true
       parameters shift presets a b = rw (le-leb shift 3 a, le-leb presets 256 b)

@@ -12,7 +12,7 @@ use Rattle.one_to_one.specs.Symbols.{symbol, symbol-lt}
 use Rattle.one_to_one.specs.Sequence.{differing, coeffs, sequence}
 use Rattle.hf_coeff_walk.specs.Walk.{less}
 use Rattle.hf_coeff_walk.specs.Item.{Item, rowOf, countOver, counted, newRow, coeffPart, countCluster}
-use Rattle.hf_coeff.specs.Group.{Grids, going, item, read}
+use Rattle.hf_coeff_group.specs.Group.{Grids, going, item, read}
 use Rattle.one_to_one.specs.Places.{In, Words, Cells, words-both, differing-le, fill, length-fill, fill-on, fill-off}
 use Rattle.one_to_one.specs.Channel.{fills}
 use Rattle.one_to_one.specs.Premises.{cell, Fit, Fits, Holds, Disjoint, Small, Shape, Off, On, fits-shape, same-shape, put-here, put-shape, put-off, same-sequence, at-item, apart}

@@ -21,8 +21,8 @@ use Rattle.hf_pass_store.specs.Store.{stretch}
 use Rattle.hf_coeff_walk.specs.Places.{across, down, cellOf, paired}
 use Rattle.hf_coeff_walk.specs.PlaceLaws.{length-places}
 use Rattle.hf_coeff_walk.specs.Item.{Item}
-use Rattle.hf_coeff.specs.Pass.{Pass, varblocks, blocksOf, placesAt, itemOf, channels, itemsOf}
-use Rattle.hf_coeff.specs.Group.{Grids}
+use Rattle.hf_coeff_group.specs.Pass.{Pass, varblocks, blocksOf, placesAt, itemOf, channels, itemsOf}
+use Rattle.hf_coeff_group.specs.Group.{Grids}
 use Rattle.one_to_one.specs.Places.{In, Distinct}
 use Rattle.one_to_one.specs.Premises.{cell, Fit, Fits, Holds, Disjoint, Off}
 use Rattle.one_to_one.specs.Spread.{InP, Spread, order-lt, spread-of, place-in, in-place, cell-row, cell-column, distinct-places}

@@ -6,7 +6,7 @@ use Prim.Native.Nat.{ℕ, _+_}
 use native.Mathlib.Omega.{arith}
 use lib.ListN.{length}
 use Rattle.hf_coeff_walk.specs.Item.{Item}
-use Rattle.hf_coeff.specs.Group.{leftOf, Grids, Reading, going, refused, read}
+use Rattle.hf_coeff_group.specs.Group.{leftOf, Grids, Reading, going, refused, read}
 use Rattle.hf_coeff.specs.declared.CoeffAnswer.the-variants.{Accepted}
 use Rattle.hf_coeff.specs.Call.{outcome}
 use Rattle.one_to_one.specs.Sequence.{sequence}

@@ -9,7 +9,7 @@ use lib.ListN.{length, getD, set, length-set}
 use lib.Seq.{getD-set-same, getD-set-other, ext-getD}
 use Rattle.one_to_one.specs.Sequence.{differing, sequence}
 use Rattle.hf_coeff_walk.specs.Item.{Item}
-use Rattle.hf_coeff.specs.Group.{Grids}
+use Rattle.hf_coeff_group.specs.Group.{Grids}
 use Rattle.one_to_one.specs.Places.{In, Distinct, Same, same-differing, same-coeffs, find}
 
 abbrev pub cell : Grids → ℕ → ℕ → ℕ

@@ -4,7 +4,7 @@ use Prim.Native.Nat.{ℕ, zero, suc}
 use lib.ListN.{getD}
 use Rattle.hf_coeff_walk.specs.Walk.{less}
 use Rattle.hf_coeff_walk.specs.Item.{Item}
-use Rattle.hf_coeff.specs.Group.{Grids}
+use Rattle.hf_coeff_group.specs.Group.{Grids}
 use Rattle.one_to_one.specs.Symbols.{symbol}
 
 abbrev pub more : ℕ → ℕ → ℕ

@@ -12,7 +12,7 @@ use Rattle.refusal.specs.declared.Refusal.the-variants.{SymbolsEnd, Count}
 use Rattle.hf_coeff_walk.specs.Walk.{Walked, ended, stopped, walk}
 use Rattle.one_to_one.specs.Sequence.{differing, coeffs, sequence}
 use Rattle.hf_coeff_walk.specs.Item.{Item, counted, newRow, coeffPart, countCluster}
-use Rattle.hf_coeff.specs.Group.{Grids, Reading, going, refused, after, item, read}
+use Rattle.hf_coeff_group.specs.Group.{Grids, Reading, going, refused, after, item, read}
 use Rattle.one_to_one.specs.Places.{In, Words, Same, same-differing, same-coeffs}
 use Rattle.one_to_one.specs.Channel.{Kept, kept, only}
 use Rattle.one_to_one.specs.Premises.{cell, Fits, Holds, Disjoint, Small, Off, On, fits-shape, put-here, put-shape, put-off, same-sequence, apart}

@@ -7,7 +7,7 @@ use Rattle.refusal.specs.declared.Refusal.{Refusal}
 use Rattle.layout.specs.Varblocks.{Varblock}
 use Rattle.hf_coeff_walk.specs.Walk.{Walked, ended, stopped}
 use Rattle.hf_coeff_walk.specs.Item.{Item, newRow, counted}
-use Rattle.hf_coeff.specs.Pass.{Pass, channels, itemsOf}
+use Rattle.hf_coeff_group.specs.Pass.{Pass, channels, itemsOf}
 
 -- a list for each of the channels 0, 1, 2
 abbrev pub Grids : Type 0

@@ -1,0 +1,3 @@
+-- a pass group's reading
+pub mod Pass
+pub mod Group
