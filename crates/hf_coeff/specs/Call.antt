@@ -7,6 +7,7 @@ use lib.ListN.{length, getD, take, drop, replicate}
 use Rattle.refusal.specs.declared.Refusal.{Refusal}
 use Rattle.refusal.specs.declared.Refusal.the-variants.{Size, Parameter, Context, Length, Layout, StoredPlace, BitsEnd, Preset}
 use Rattle.bits.specs.Bits.{Read, Value, Ended, readBits}
+use Rattle.bits.specs.Exponent.{exponent}
 use Rattle.layout.specs.Check.{isLayout}
 use Rattle.block_record.specs.Calls.{inLimits}
 use Rattle.hf_pass_store.specs.Store.{PLACES, placesFit}
@@ -16,7 +17,6 @@ use Rattle.hf_coeff.specs.declared.CoeffAnswer.{CoeffAnswer}
 use Rattle.hf_coeff.specs.declared.CoeffAnswer.the-variants.{Accepted, Refused}
 use Rattle.hf_coeff_group.specs.Pass.{Pass, varblocks}
 use Rattle.hf_coeff_group.specs.Group.{Grids, Reading, going, refused, group, leftOf}
-use Rattle.hf_coeff.specs.Exponent.{exponent}
 
 -- what is lent
 pub record Lent : Type 0 where
@@ -30,11 +30,42 @@ pub record Lent : Type 0 where
   pub log : List ℕ
   pub grids : Grids
 
+abbrev pub passWith : (width height : ℕ) (kinds muls : List ℕ) (contexts : HfBlockContext) (lfThere : Bool) (lf0 lf1 lf2 store : List ℕ) → Pass
+passWith width height kinds muls contexts lfThere lf0 lf1 lf2 store =
+    record {
+      width = width;
+      height = height;
+      kinds = kinds;
+      muls = muls;
+      contexts = contexts;
+      lfThere = lfThere;
+      lf0 = lf0;
+      lf1 = lf1;
+      lf2 = lf2;
+      store = store;
+    }
+
+abbrev pub lent : Pass → (presets : ℕ) (clusterMap : List ℕ) (shift : ℕ) (bytes symbols log g0 g1 g2 : List ℕ) → Lent
+lent pass presets clusterMap shift bytes symbols log g0 g1 g2 =
+    record {
+      pass = pass;
+      presets = presets;
+      clusterMap = clusterMap;
+      shift = shift;
+      bytes = bytes;
+      symbols = symbols;
+      log = log;
+      grids = g0 ∷ g1 ∷ g2 ∷ [];
+    }
+
 -- the answer, and what is left in the log and in the grids
 pub record Outcome : Type 0 where
   pub answer : CoeffAnswer
   pub log : List ℕ
   pub grids : Grids
+
+abbrev pub leaves : CoeffAnswer → (log g0 g1 g2 : List ℕ) → Outcome
+leaves r log g0 g1 g2 = record { answer = r; log = log; grids = g0 ∷ g1 ∷ g2 ∷ [] }
 
 abbrev pub blocks : Pass → ℕ
 blocks P = P .height * P .width

@@ -1,0 +1,35 @@
+use borrow.Author.Needs.{needs}
+use native.Mathlib.Omega.{arith}
+use mathlib.Core.Path.{_≡_, _∙_, ap, sym}
+use mathlib.Core.List.{_++_}
+use Prim.Native.Nat.{ℕ, _≤_, _<_, _-_, _+_, _*_}
+use lib.ListN.{length, getD, take, drop, set, length-set}
+use Rattle.hf_coeff.proofs.checks.layout_fits.Statement.{statement}
+use Rattle.hf_coeff.proofs.checks.layout_fits.Tie as tie
+use Rattle.hf_coeff.proofs.checks.layout_fits.Reads as reads
+use Rattle.hf_coeff.proofs.checks.layout_fits.Lts as lts
+use Rattle.block_record.proofs.check.check_group.Reads as check-group-reads
+
+-- src/checks.rt:121:9
+check-group-requires : tie.Need-check-group-requires
+check-group-requires c κs = search needs
+
+-- src/checks.rt:123:26
+enum-told : tie.Need-enum-told
+enum-told c = search needs
+
+-- src/checks.rt:124:32
+enum-told-2 : tie.Need-enum-told-2
+enum-told-2 c = search needs
+
+-- src/checks.rt:117:1
+returns : tie.Need-returns
+returns c = search needs
+
+-- src/checks.rt:117:1
+returns-2 : tie.Need-returns-2
+returns-2 c = search needs
+
+pub layout-fits-spec : {M : Type 1} → statement M
+layout-fits-spec =
+    tie.close (tie.spec check-group-requires enum-told enum-told-2 returns returns-2)

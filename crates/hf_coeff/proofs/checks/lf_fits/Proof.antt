@@ -1,0 +1,26 @@
+use borrow.Author.Needs.{needs}
+use native.Mathlib.Omega.{arith}
+use mathlib.Core.Path.{_≡_, _∙_, ap, sym}
+use mathlib.Core.List.{_++_}
+use Prim.Native.Nat.{ℕ, _≤_, _<_, _-_, _+_, _*_}
+use lib.ListN.{length, getD, take, drop, set, length-set}
+use Rattle.hf_coeff.proofs.checks.lf_fits.Statement.{statement}
+use Rattle.hf_coeff.proofs.checks.lf_fits.Tie as tie
+use Rattle.hf_coeff.proofs.checks.lf_fits.Reads as reads
+use Rattle.hf_coeff.proofs.checks.lf_fits.Lts as lts
+use Rattle.hf_coeff.proofs.checks.three_fit.Reads as three-fit-reads
+
+-- src/checks.rt:58:9
+returns : tie.Need-returns
+returns c = search needs
+
+-- src/checks.rt:60:5
+three-fit-requires : tie.Need-three-fit-requires
+three-fit-requires c κs = search needs
+
+-- src/checks.rt:54:1
+returns-2 : tie.Need-returns-2
+returns-2 c = search needs
+
+pub lf-fits-spec : {M : Type 1} → statement M
+lf-fits-spec = tie.close (tie.spec returns three-fit-requires returns-2)
