@@ -52,6 +52,9 @@ readFit kinds muls there lf0 lf1 lf2 store n = eqb kinds n && eqb muls n && lfLe
 abbrev pub writtenFit : (clusters presets map g0 g1 g2 log n : ℕ) → Bool → Bool
 writtenFit clusters presets map g0 g1 g2 log n first = first && eqb map (495 * clusters * presets) && threeFit g0 g1 g2 (64 * n) && leb (192 * n) log
 
+pub map-most : (clusters presets : ℕ) → clusters ≤ 16 → presets ≤ 256 → 495 * clusters * presets ≤ 2027520
+map-most clusters presets a b = mul-le-mul (let c : 495 * clusters ≤ 7920 = omega arith in c) b
+
 -- 18, once sides and lengths fit
 module _ (w h : ℕ) (kinds muls : List ℕ) (a : inLimits 32 w h ≡ true) (k : length kinds ≡ h * w) (m : length muls ≡ h * w) (r : Checked) (e : saidCheck r ≡ checkOf 32 w h kinds muls) where
   cells : cellsFit w h (length kinds) (length muls) ≡ true

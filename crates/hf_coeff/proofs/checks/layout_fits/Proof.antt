@@ -1,3 +1,4 @@
+use Rattle.hf_coeff.specs.CallSteps.{group-fine, group-fault}
 use borrow.Author.Needs.{needs}
 use native.Mathlib.Omega.{arith}
 use mathlib.Core.Path.{_≡_, _∙_, ap, sym}
@@ -10,25 +11,28 @@ use Rattle.hf_coeff.proofs.checks.layout_fits.Reads as reads
 use Rattle.hf_coeff.proofs.checks.layout_fits.Lts as lts
 use Rattle.block_record.proofs.check.check_group.Reads as check-group-reads
 
--- src/checks.rt:121:9
 check-group-requires : tie.Need-check-group-requires
 check-group-requires c κs = search needs
 
--- src/checks.rt:123:26
 enum-told : tie.Need-enum-told
 enum-told c = search needs
 
--- src/checks.rt:124:32
 enum-told-2 : tie.Need-enum-told-2
 enum-told-2 c = search needs
 
--- src/checks.rt:117:1
 returns : tie.Need-returns
-returns c = search needs
+returns c =
+    let a = c .before .before .before .before .before .args in
+    let p = c .before .before .before .before .before .pre in
+    let k = c .before .before .check-group in
+    group-fine (a .wide) (a .high) (a .kinds .now) (a .muls .now) (p .0) (p .1) (p .2) (k .result) (k .ensures) (c .enum-told .given .1)
 
--- src/checks.rt:117:1
 returns-2 : tie.Need-returns-2
-returns-2 c = search needs
+returns-2 c =
+    let a = c .before .before .before .before .before .args in
+    let p = c .before .before .before .before .before .pre in
+    let k = c .before .before .check-group in
+    group-fault (a .wide) (a .high) (a .kinds .now) (a .muls .now) (p .0) (p .1) (p .2) (k .result) (k .ensures) _ (c .enum-told2 .given .1)
 
 pub layout-fits-spec : {M : Type 1} → statement M
 layout-fits-spec =

@@ -1,3 +1,4 @@
+use borrow.Author.Tests.{le-leb, lt-leb, eq-eqb, ne-eqb, not-true, not-false}
 use borrow.Author.Needs.{needs}
 use native.Mathlib.Omega.{arith}
 use mathlib.Core.Path.{_≡_, _∙_, ap, sym}
@@ -10,17 +11,18 @@ use Rattle.hf_coeff.proofs.checks.lf_fits.Reads as reads
 use Rattle.hf_coeff.proofs.checks.lf_fits.Lts as lts
 use Rattle.hf_coeff.proofs.checks.three_fit.Reads as three-fit-reads
 
--- src/checks.rt:58:9
 returns : tie.Need-returns
-returns c = search needs
+returns c =
+    let a = c .before .args in
+    rw (not-true (a .there) (c .if1 .taken))
 
--- src/checks.rt:60:5
 three-fit-requires : tie.Need-three-fit-requires
 three-fit-requires c κs = search needs
 
--- src/checks.rt:54:1
 returns-2 : tie.Need-returns-2
-returns-2 c = search needs
+returns-2 c =
+    let a = c .before .before .args in
+    rw (not-false (a .there) (c .before .if1 .left)) (c .three-fit .ensures)
 
 pub lf-fits-spec : {M : Type 1} → statement M
 lf-fits-spec = tie.close (tie.spec returns three-fit-requires returns-2)

@@ -1,3 +1,4 @@
+use borrow.Author.Tests.{le-leb, lt-leb, eq-eqb, ne-eqb, not-true, not-false}
 use borrow.Author.Needs.{needs}
 use native.Mathlib.Omega.{arith}
 use mathlib.Core.Path.{_≡_, _∙_, ap, sym}
@@ -9,13 +10,15 @@ use Rattle.hf_coeff.proofs.checks.parameters_fit.Tie as tie
 use Rattle.hf_coeff.proofs.checks.parameters_fit.Reads as reads
 use Rattle.hf_coeff.proofs.checks.parameters_fit.Lts as lts
 
--- src/checks.rt:35:9
 returns : tie.Need-returns
-returns c = search needs
+returns c =
+    let a = c .before .args in
+    rw (lt-leb (a .shift) 3 (omega arith))
 
--- src/checks.rt:31:1
 returns-2 : tie.Need-returns-2
-returns-2 c = search needs
+returns-2 c =
+    let a = c .before .args in
+    rw (le-leb (a .shift) 3 (omega arith))
 
 pub parameters-fit-spec : {M : Type 1} → statement M
 parameters-fit-spec = tie.close (tie.spec returns returns-2)

@@ -1,3 +1,5 @@
+use borrow.Author.Tests.{le-leb, lt-leb, eq-eqb, ne-eqb, not-true, not-false}
+use Rattle.hf_pass_store.specs.Store.{PLACES}
 use borrow.Author.Needs.{needs}
 use native.Mathlib.Omega.{arith}
 use mathlib.Core.Path.{_≡_, _∙_, ap, sym}
@@ -10,25 +12,31 @@ use Rattle.hf_coeff.proofs.checks.read_fit.Reads as reads
 use Rattle.hf_coeff.proofs.checks.read_fit.Lts as lts
 use Rattle.hf_coeff.proofs.checks.lf_fits.Reads as lf-fits-reads
 
--- src/checks.rt:77:9
 returns : tie.Need-returns
-returns c = search needs
+returns c =
+    let a = c .before .args in
+    rw (ne-eqb (a .kinds) (a .n) (c .if1 .taken))
 
--- src/checks.rt:80:9
 returns-2 : tie.Need-returns-2
-returns-2 c = search needs
+returns-2 c =
+    let a = c .before .before .args in
+    rw (eq-eqb (a .kinds) (a .n) (c .before .if1 .left), ne-eqb (a .muls) (a .n) (c .if2 .taken))
 
--- src/checks.rt:82:9
 lf-fits-requires : tie.Need-lf-fits-requires
 lf-fits-requires c κs = search needs
 
--- src/checks.rt:83:9
 returns-3 : tie.Need-returns-3
-returns-3 c = search needs
+returns-3 c =
+    let a = c .before .before .before .before .args in
+    let f = sym (c .before .lf-fits .ensures) ∙ not-true (c .before .lf-fits .result) (c .if3 .taken) in
+    rw (eq-eqb (a .kinds) (a .n) (c .before .before .before .if1 .left), eq-eqb (a .muls) (a .n) (c .before .before .if2 .left), f)
 
--- src/checks.rt:64:1
 returns-4 : tie.Need-returns-4
-returns-4 c = search needs
+unfolding PLACES
+returns-4 c =
+    let a = c .before .before .before .before .args in
+    let f = sym (c .before .lf-fits .ensures) ∙ not-false (c .before .lf-fits .result) (c .if3 .left) in
+    rw (eq-eqb (a .kinds) (a .n) (c .before .before .before .if1 .left), eq-eqb (a .muls) (a .n) (c .before .before .if2 .left), f)
 
 pub read-fit-spec : {M : Type 1} → statement M
 read-fit-spec = tie.close (tie.spec returns returns-2 lf-fits-requires returns-3 returns-4)

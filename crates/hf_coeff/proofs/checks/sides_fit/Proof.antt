@@ -1,3 +1,5 @@
+use Rattle.block_record.specs.Calls.{inLimits}
+use borrow.Author.Tests.{le-leb, lt-leb, eq-eqb, ne-eqb, not-true, not-false}
 use borrow.Author.Needs.{needs}
 use native.Mathlib.Omega.{arith}
 use mathlib.Core.Path.{_≡_, _∙_, ap, sym}
@@ -9,21 +11,29 @@ use Rattle.hf_coeff.proofs.checks.sides_fit.Tie as tie
 use Rattle.hf_coeff.proofs.checks.sides_fit.Reads as reads
 use Rattle.hf_coeff.proofs.checks.sides_fit.Lts as lts
 
--- src/checks.rt:20:9
 returns : tie.Need-returns
-returns c = search needs
+unfolding inLimits
+returns c =
+    let a = c .before .args in
+    rw (lt-leb 1 (a .wide) (omega arith))
 
--- src/checks.rt:23:9
 returns-2 : tie.Need-returns-2
-returns-2 c = search needs
+unfolding inLimits
+returns-2 c =
+    let a = c .before .before .args in
+    rw (le-leb 1 (a .wide) (omega arith), lt-leb (a .wide) 32 (omega arith))
 
--- src/checks.rt:26:9
 returns-3 : tie.Need-returns-3
-returns-3 c = search needs
+unfolding inLimits
+returns-3 c =
+    let a = c .before .before .before .args in
+    rw (le-leb 1 (a .wide) (omega arith), le-leb (a .wide) 32 (omega arith), lt-leb 1 (a .high) (omega arith))
 
--- src/checks.rt:16:1
 returns-4 : tie.Need-returns-4
-returns-4 c = search needs
+unfolding inLimits
+returns-4 c =
+    let a = c .before .before .before .args in
+    rw (le-leb 1 (a .wide) (omega arith), le-leb (a .wide) 32 (omega arith), le-leb 1 (a .high) (omega arith))
 
 pub sides-fit-spec : {M : Type 1} → statement M
 sides-fit-spec = tie.close (tie.spec returns returns-2 returns-3 returns-4)

@@ -1,3 +1,4 @@
+use borrow.Author.Tests.{le-leb, lt-leb, eq-eqb, ne-eqb, not-true, not-false}
 use borrow.Author.Needs.{needs}
 use native.Mathlib.Omega.{arith}
 use mathlib.Core.Path.{_≡_, _∙_, ap, sym}
@@ -9,17 +10,20 @@ use Rattle.hf_coeff.proofs.checks.three_fit.Tie as tie
 use Rattle.hf_coeff.proofs.checks.three_fit.Reads as reads
 use Rattle.hf_coeff.proofs.checks.three_fit.Lts as lts
 
--- src/checks.rt:45:9
 returns : tie.Need-returns
-returns c = search needs
+returns c =
+    let t = c .before .args in
+    rw (ne-eqb (t .a) (t .n) (c .if1 .taken))
 
--- src/checks.rt:48:9
 returns-2 : tie.Need-returns-2
-returns-2 c = search needs
+returns-2 c =
+    let t = c .before .before .args in
+    rw (eq-eqb (t .a) (t .n) (c .before .if1 .left), ne-eqb (t .b) (t .n) (c .if2 .taken))
 
--- src/checks.rt:41:1
 returns-3 : tie.Need-returns-3
-returns-3 c = search needs
+returns-3 c =
+    let t = c .before .before .args in
+    rw (eq-eqb (t .a) (t .n) (c .before .if1 .left), eq-eqb (t .b) (t .n) (c .if2 .left))
 
 pub three-fit-spec : {M : Type 1} → statement M
 three-fit-spec = tie.close (tie.spec returns returns-2 returns-3)

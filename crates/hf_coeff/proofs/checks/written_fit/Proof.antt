@@ -1,3 +1,5 @@
+use borrow.Author.Tests.{le-leb, lt-leb, eq-eqb, ne-eqb, not-true, not-false}
+use Rattle.hf_coeff.specs.CallSteps.{map-most}
 use borrow.Author.Needs.{needs}
 use native.Mathlib.Omega.{arith}
 use mathlib.Core.Path.{_≡_, _∙_, ap, sym}
@@ -10,41 +12,44 @@ use Rattle.hf_coeff.proofs.checks.written_fit.Reads as reads
 use Rattle.hf_coeff.proofs.checks.written_fit.Lts as lts
 use Rattle.hf_coeff.proofs.checks.three_fit.Reads as three-fit-reads
 
--- src/checks.rt:104:9
 returns : tie.Need-returns
-returns c = search needs
+returns c =
+    let a = c .before .args in
+    rw (not-true (a .first) (c .if1 .taken))
 
--- src/checks.rt:106:17
 mul-bytes : tie.Need-mul-bytes
 mul-bytes c = search needs
 
--- src/checks.rt:106:17
 mul-bytes-2 : tie.Need-mul-bytes-2
-mul-bytes-2 c = search needs
+mul-bytes-2 c =
+    let a = c .before .args in
+    omega (arith, map-most (a .clusters) (a .presets) (omega arith) (omega arith))
 
--- src/checks.rt:108:9
 returns-2 : tie.Need-returns-2
-returns-2 c = search needs
+returns-2 c =
+    let a = c .before .before .args in
+    rw (not-false (a .first) (c .before .if1 .left), ne-eqb (a .map) (495 * a .clusters * a .presets) (c .if2 .taken))
 
--- src/checks.rt:110:31
 mul-three-fit : tie.Need-mul-three-fit
 mul-three-fit c = search needs
 
--- src/checks.rt:110:9
 three-fit-requires : tie.Need-three-fit-requires
 three-fit-requires c κs = search needs
 
--- src/checks.rt:111:9
 returns-3 : tie.Need-returns-3
-returns-3 c = search needs
+returns-3 c =
+    let a = c .before .before .before .before .args in
+    let f = sym (c .before .three-fit .ensures) ∙ not-true (c .before .three-fit .result) (c .if3 .taken) in
+    rw (not-false (a .first) (c .before .before .before .if1 .left), eq-eqb (a .map) (495 * a .clusters * a .presets) (c .before .before .if2 .left), f)
 
--- src/checks.rt:113:5
 mul-result : tie.Need-mul-result
 mul-result c = search needs
 
--- src/checks.rt:89:1
 returns-4 : tie.Need-returns-4
-returns-4 c = search needs
+returns-4 c =
+    let a = c .before .before .before .before .args in
+    let f = sym (c .before .three-fit .ensures) ∙ not-false (c .before .three-fit .result) (c .if3 .left) in
+    rw (not-false (a .first) (c .before .before .before .if1 .left), eq-eqb (a .map) (495 * a .clusters * a .presets) (c .before .before .if2 .left), f)
 
 pub written-fit-spec : {M : Type 1} → statement M
 written-fit-spec =

@@ -1,3 +1,4 @@
+use Rattle.hf_coeff.specs.CallSteps.{preset-end, preset-above, preset-below}
 use borrow.Author.Needs.{needs}
 use native.Mathlib.Omega.{arith}
 use mathlib.Core.Path.{_≡_, _∙_, ap, sym}
@@ -12,41 +13,47 @@ use Rattle.bits.proofs.Place.start.Reads as start-reads
 use Rattle.bits.proofs.exponent.Reads as exponent-reads
 use Rattle.bits.proofs.read_bits.Reads as read-bits-reads
 
--- src/preset.rt:18:9
 exponent-requires : tie.Need-exponent-requires
 exponent-requires c κs = search needs
 
--- src/preset.rt:19:51
 start-requires : tie.Need-start-requires
 start-requires c κs = search needs
 
--- src/preset.rt:19:28
 read-bits-requires : tie.Need-read-bits-requires
 read-bits-requires c κs = search needs
 
--- src/preset.rt:19:20
 enum-known-v : tie.Need-enum-known-v
 enum-known-v c = search needs
 
--- src/preset.rt:20:38
 enum-told : tie.Need-enum-told
 enum-told c = search needs
 
--- src/preset.rt:20:9
 returns : tie.Need-returns
-returns c = search needs
+returns c =
+    let a = c .before .before .before .before .before .before .args in
+    let e = c .before .before .before .before .exponent in
+    let s = c .before .before .before .start in
+    let k = c .before .before .read-bits in
+    preset-end (a .bytes .now) (a .presets) (e .result) (s .result) (k .result) (omega arith) (e .ensures) (s .ensures) (k .ensures) _ (c .enum-told .given .1)
 
--- src/preset.rt:23:54
 cast-t9 : tie.Need-cast-t9
 cast-t9 c = search needs
 
--- src/preset.rt:23:9
 returns-2 : tie.Need-returns-2
-returns-2 c = search needs
+returns-2 c =
+    let a = c .before .before .before .before .before .before .before .before .args in
+    let e = c .before .before .before .before .before .before .exponent in
+    let s = c .before .before .before .before .before .start in
+    let k = c .before .before .before .before .read-bits in
+    preset-above (a .bytes .now) (a .presets) (e .result) (s .result) (k .result) (omega arith) (e .ensures) (s .ensures) (k .ensures) _ _ (c .before .before .v .given .1) (c .if1 .taken)
 
--- src/preset.rt:15:1
 returns-3 : tie.Need-returns-3
-returns-3 c = search needs
+returns-3 c =
+    let a = c .before .before .before .before .before .before .before .before .args in
+    let e = c .before .before .before .before .before .before .exponent in
+    let s = c .before .before .before .before .before .start in
+    let k = c .before .before .before .before .read-bits in
+    preset-below (a .bytes .now) (a .presets) (e .result) (s .result) (k .result) (omega arith) (e .ensures) (s .ensures) (k .ensures) _ _ (c .before .before .v .given .1) (omega arith)
 
 pub read-preset-spec : {M : Type 1} → statement M
 read-preset-spec =
