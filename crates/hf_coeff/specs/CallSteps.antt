@@ -2,11 +2,12 @@
 use mathlib.Core.Path.{_≡_, refl, ap, sym, _∙_}
 use mathlib.Core.Bool.{Bool, true, false, cond, _&&_}
 use mathlib.Core.List.{List, [], _∷_}
-use Prim.Native.Nat.{ℕ, _+_, _*_, _^_, _<_, _≤_, min}
-use native.Mathlib.Nat.{mul-le-mul, mul-comm}
+use Prim.Native.Nat.{ℕ, _+_, _*_, _-_, _^_, _<_, _≤_, min}
+use native.Mathlib.Nat.{mul-le-mul, mul-comm, mul-add}
 use native.Mathlib.Omega.{arith}
 use lib.Dec.{ltb, leb, eqb}
-use lib.ListN.{length, getD, take, drop}
+use lib.ListN.{length, getD, take, drop, length-drop}
+use lib.Seq.{length-take-le}
 use borrow.Author.Tests.{lt-ltb, le-ltb, eq-eqb, ltb-true}
 use Rattle.refusal.specs.declared.Refusal.{Refusal}
 use Rattle.refusal.specs.declared.Refusal.the-variants.{BitsEnd, Preset}
@@ -18,11 +19,12 @@ use Rattle.bits.specs.Reads.{gotOf, placeAt, passed}
 use Rattle.bits.specs.Laws.{was-value, was-end, value-at, ended-at}
 use Rattle.bits.specs.Exponent.{exponent, exponent-least}
 use Rattle.layout.specs.Check.{isLayout}
-use Rattle.layout.specs.Theorems.{check-iff}
+use Rattle.layout.specs.Theorems.{layout-iff}
 use Rattle.block_record.specs.declared.Checked.{Checked}
 use Rattle.block_record.specs.declared.Checked.the-variants as checked
 use Rattle.block_record.specs.Calls.{Answer, gives, refuses, inLimits, lengthsFit as cellsFit, saidCheck, checkOf}
 use Rattle.block_record.specs.Laws.{check-fault, check-fine}
+use Rattle.block_context.specs.declared.HfBlockContext.{HfBlockContext}
 use Rattle.block_context.specs.Record.{fit}
 use Rattle.block_context.specs.Bounds.{is-fit}
 use Rattle.hf_pass_store.specs.Store.{PLACES, placesFit}
@@ -35,8 +37,7 @@ use Rattle.hf_coeff.specs.declared.CoeffAnswer.{CoeffAnswer}
 use Rattle.hf_coeff.specs.declared.CoeffAnswer.the-variants.{Accepted, Refused}
 use Rattle.hf_coeff.specs.declared.preset.PresetAnswer.{PresetAnswer}
 use Rattle.hf_coeff.specs.declared.preset.PresetAnswer.the-variants as preset
-use Rattle.hf_coeff.specs.Call.{Lent, Outcome, blocks, clustersOf, sidesFit, parametersFit, lengthsFit, layoutFits, rowsOf, reading, outcome, refuse, readPreset, withPreset, call}
-use Rattle.hf_coeff.specs.CallLaws.{call-bits}
+use Rattle.hf_coeff.specs.Call.{Lent, Outcome, blocks, clustersOf, sidesFit, parametersFit, lengthsFit, layoutFits, rowsOf, reading, outcome, leaves, refuse, readPreset, withPreset, call}
 use Rattle.hf_coeff.specs.Fits.{sides-fit, parameters-fit, lengths-fit, Lengths}
 
 -- Lengths, by their numbers.
@@ -54,6 +55,19 @@ writtenFit clusters presets map g0 g1 g2 log n first = first && eqb map (495 * c
 
 pub map-most : (clusters presets : ℕ) → clusters ≤ 16 → presets ≤ 256 → 495 * clusters * presets ≤ 2027520
 map-most clusters presets a b = mul-le-mul (let c : 495 * clusters ≤ 7920 = omega arith in c) b
+
+pub lengths-are : (L : Lent) (first r : Bool)
+    → first ≡ readFit (length (L .pass .kinds)) (length (L .pass .muls)) (L .pass .lfThere) (length (L .pass .lf0)) (length (L .pass .lf1)) (length (L .pass .lf2)) (length (L .pass .store)) (blocks (L .pass))
+    → r ≡ writtenFit (clustersOf (L .pass)) (L .presets) (length (L .clusterMap)) (length (getD (L .grids) 0 [])) (length (getD (L .grids) 1 [])) (length (getD (L .grids) 2 [])) (length (L .log)) (blocks (L .pass)) first
+    → lengthsFit L ≡ r
+lengths-are L first r e f =
+    sym (f ∙ ap (writtenFit (clustersOf (L .pass)) (L .presets) (length (L .clusterMap)) (length (getD (L .grids) 0 [])) (length (getD (L .grids) 1 [])) (length (getD (L .grids) 2 [])) (length (L .log)) (blocks (L .pass))) e)
+
+pub most-blocks : (P : Pass) → sidesFit P ≡ true → blocks P ≤ 1024
+most-blocks P e = let s = sides-fit P e in mul-le-mul (s .high) (s .wide)
+
+pub few-clusters : (R : HfBlockContext) → fit R ≡ true → R .«num_block_clusters» ≤ 16
+few-clusters R e = is-fit R e .few
 
 -- 18, once sides and lengths fit
 module _ (w h : ℕ) (kinds muls : List ℕ) (a : inLimits 32 w h ≡ true) (k : length kinds ≡ h * w) (m : length muls ≡ h * w) (r : Checked) (e : saidCheck r ≡ checkOf 32 w h kinds muls) where
@@ -165,11 +179,73 @@ pub outcome-by : (r : Walk) (log : List ℕ) (G : Grids) (R : Reading) → ReadO
 outcome-by r log G (going us at log₁ G₁ rows left) d = rw (d .answer, d .logged, d .cells)
 outcome-by r log G (refused why at log₁ G₁) d = rw (d .answer, d .logged, d .cells)
 
+module _ (s : List ℕ) (w n : ℕ) where
+  all-of : w * n + w - w * n ≡ w
+  all-of = omega arith
+
+  part-is : take (w * n + w - w * n) (drop (w * n) s) ≡ take w (drop (w * n) s)
+  part-is = ap (λ (k : ℕ). take k (drop (w * n) s)) all-of
+
+  pub part-long : w * n + w ≤ length s → length (take (w * n + w - w * n) (drop (w * n) s)) ≡ w
+  part-long h = ap length part-is ∙ length-take-le w (drop (w * n) s) (let l = length-drop (w * n) s in omega arith)
+
+-- the stretch as it is handed on
+pub part-reading : (P : Pass) (map : List ℕ) (shift : ℕ) (symbols log : List ℕ) (G : Grids) (n : ℕ)
+    → group shift (clustersOf P) (take (495 * clustersOf P * n + 495 * clustersOf P - 495 * clustersOf P * n) (drop (495 * clustersOf P * n) map)) P (varblocks P) (going symbols 0 log G (rowsOf P) 0)
+    ≡ readingBy P map shift symbols log G n
+part-reading P map shift symbols log G n =
+    ap (λ (l : List ℕ). group shift (clustersOf P) l P (varblocks P) (going symbols 0 log G (rowsOf P) 0)) (part-is map (495 * clustersOf P) n)
+
+-- the reading ended
+pub work-ended : (r : Walk) (log g0 g1 g2 : List ℕ) (R S : Reading) (at : ℕ) → R ≡ S → r ≡ walk.Ended at → ReadOf r log (g0 ∷ g1 ∷ g2 ∷ []) R → leaves (Accepted at) log g0 g1 g2 ≡ outcome S
+work-ended r log g0 g1 g2 R S at e f d =
+    ap (λ (w : Walk). leaves (answerBy w) log g0 g1 g2) (sym f) ∙ outcome-by r log (g0 ∷ g1 ∷ g2 ∷ []) R d ∙ ap outcome e
+
+pub work-stopped : (r : Walk) (log g0 g1 g2 : List ℕ) (R S : Reading) (why : Refusal) → R ≡ S → r ≡ walk.Stopped why → ReadOf r log (g0 ∷ g1 ∷ g2 ∷ []) R → leaves (Refused why) log g0 g1 g2 ≡ outcome S
+work-stopped r log g0 g1 g2 R S why e f d =
+    ap (λ (w : Walk). leaves (answerBy w) log g0 g1 g2) (sym f) ∙ outcome-by r log (g0 ∷ g1 ∷ g2 ∷ []) R d ∙ ap outcome e
+
 -- what the work asks for
 pub record WorkReady (P : Pass) (map shift log g0 g1 g2 n : ℕ) : Type 0 where
   pub clusters : clustersOf P ≤ 16
   pub stretch : 495 * clustersOf P * n + 495 * clustersOf P ≤ map
   pub number : n < 256
-  pub ready : GroupReady P (clustersOf P) (495 * clustersOf P) shift log g0
+  pub ready : (m : ℕ) → m ≡ 495 * clustersOf P → GroupReady P (clustersOf P) m shift log g0
   pub same1 : g1 ≡ g0
   pub same2 : g2 ≡ g0
+
+pub work-ready : (L : Lent) → Passed L → (n : ℕ) → n < L .presets
+    → WorkReady (L .pass) (length (L .clusterMap)) (L .shift) (length (L .log)) (length (getD (L .grids) 0 [])) (length (getD (L .grids) 1 [])) (length (getD (L .grids) 2 [])) n
+work-ready L p n h =
+    let P = L .pass in
+    let s = sides-fit P (p .sides) in
+    let t = parameters-fit (L .shift) (L .presets) (p .parameters) in
+    let l = lengths-fit L (p .lengths) in
+    let k = few-clusters (P .contexts) (p .contexts) in
+    let g0 = l .grids 0 (omega arith) in
+    let g1 = l .grids 1 (omega arith) in
+    let g2 = l .grids 2 (omega arith) in
+    record {
+      clusters = k;
+      stretch = within (495 * clustersOf P) n (L .presets) (length (L .clusterMap)) h (l .map);
+      number = omega (arith, t .1);
+      ready = λ m e. record {
+        across = s .wide;
+        below = s .high;
+        layout = layout-iff (P .width) (P .height) (P .kinds) (P .muls) (l .kinds) (l .muls) .0 (p .layout);
+        contexts = p .contexts;
+        clustered = refl;
+        few = k;
+        whole = l .store;
+        stored = p .places;
+        entries = e;
+        shifts = t .0;
+        room = rw (mul-comm (P .width) (P .height)) (l .log);
+        sized = g0;
+      };
+      same1 = g1 ∙ sym g0;
+      same2 = g2 ∙ sym g0;
+    }
+  where
+    within : (w n m k : ℕ) → n < m → k ≡ w * m → w * n + w ≤ k
+    within w n m k h e = let a : w * (n + 1) ≤ w * m = mul-le-mul (let b : w ≤ w = omega arith in b) (let d : n + 1 ≤ m = omega arith in d) in omega (arith, mul-add w n 1)

@@ -1,15 +1,7 @@
 use Rattle.hf_coeff.specs.CallSteps.{group-fine, group-fault}
 use borrow.Author.Needs.{needs}
-use native.Mathlib.Omega.{arith}
-use mathlib.Core.Path.{_≡_, _∙_, ap, sym}
-use mathlib.Core.List.{_++_}
-use Prim.Native.Nat.{ℕ, _≤_, _<_, _-_, _+_, _*_}
-use lib.ListN.{length, getD, take, drop, set, length-set}
 use Rattle.hf_coeff.proofs.checks.layout_fits.Statement.{statement}
 use Rattle.hf_coeff.proofs.checks.layout_fits.Tie as tie
-use Rattle.hf_coeff.proofs.checks.layout_fits.Reads as reads
-use Rattle.hf_coeff.proofs.checks.layout_fits.Lts as lts
-use Rattle.block_record.proofs.check.check_group.Reads as check-group-reads
 
 check-group-requires : tie.Need-check-group-requires
 check-group-requires c κs = search needs

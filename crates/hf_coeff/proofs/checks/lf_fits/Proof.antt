@@ -1,15 +1,7 @@
-use borrow.Author.Tests.{le-leb, lt-leb, eq-eqb, ne-eqb, not-true, not-false}
+use borrow.Author.Tests.{not-true, not-false}
 use borrow.Author.Needs.{needs}
-use native.Mathlib.Omega.{arith}
-use mathlib.Core.Path.{_≡_, _∙_, ap, sym}
-use mathlib.Core.List.{_++_}
-use Prim.Native.Nat.{ℕ, _≤_, _<_, _-_, _+_, _*_}
-use lib.ListN.{length, getD, take, drop, set, length-set}
 use Rattle.hf_coeff.proofs.checks.lf_fits.Statement.{statement}
 use Rattle.hf_coeff.proofs.checks.lf_fits.Tie as tie
-use Rattle.hf_coeff.proofs.checks.lf_fits.Reads as reads
-use Rattle.hf_coeff.proofs.checks.lf_fits.Lts as lts
-use Rattle.hf_coeff.proofs.checks.three_fit.Reads as three-fit-reads
 
 returns : tie.Need-returns
 returns c =

@@ -1,16 +1,9 @@
-use borrow.Author.Tests.{le-leb, lt-leb, eq-eqb, ne-eqb, not-true, not-false}
+use borrow.Author.Tests.{eq-eqb, ne-eqb, not-true, not-false}
 use Rattle.hf_pass_store.specs.Store.{PLACES}
 use borrow.Author.Needs.{needs}
-use native.Mathlib.Omega.{arith}
-use mathlib.Core.Path.{_≡_, _∙_, ap, sym}
-use mathlib.Core.List.{_++_}
-use Prim.Native.Nat.{ℕ, _≤_, _<_, _-_, _+_, _*_}
-use lib.ListN.{length, getD, take, drop, set, length-set}
+use mathlib.Core.Path.{_∙_, sym}
 use Rattle.hf_coeff.proofs.checks.read_fit.Statement.{statement}
 use Rattle.hf_coeff.proofs.checks.read_fit.Tie as tie
-use Rattle.hf_coeff.proofs.checks.read_fit.Reads as reads
-use Rattle.hf_coeff.proofs.checks.read_fit.Lts as lts
-use Rattle.hf_coeff.proofs.checks.lf_fits.Reads as lf-fits-reads
 
 returns : tie.Need-returns
 returns c =

@@ -1,15 +1,8 @@
 use Rattle.block_record.specs.Calls.{inLimits}
-use borrow.Author.Tests.{le-leb, lt-leb, eq-eqb, ne-eqb, not-true, not-false}
-use borrow.Author.Needs.{needs}
+use borrow.Author.Tests.{le-leb, lt-leb}
 use native.Mathlib.Omega.{arith}
-use mathlib.Core.Path.{_≡_, _∙_, ap, sym}
-use mathlib.Core.List.{_++_}
-use Prim.Native.Nat.{ℕ, _≤_, _<_, _-_, _+_, _*_}
-use lib.ListN.{length, getD, take, drop, set, length-set}
 use Rattle.hf_coeff.proofs.checks.sides_fit.Statement.{statement}
 use Rattle.hf_coeff.proofs.checks.sides_fit.Tie as tie
-use Rattle.hf_coeff.proofs.checks.sides_fit.Reads as reads
-use Rattle.hf_coeff.proofs.checks.sides_fit.Lts as lts
 
 returns : tie.Need-returns
 unfolding inLimits

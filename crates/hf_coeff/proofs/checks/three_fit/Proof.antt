@@ -1,14 +1,6 @@
-use borrow.Author.Tests.{le-leb, lt-leb, eq-eqb, ne-eqb, not-true, not-false}
-use borrow.Author.Needs.{needs}
-use native.Mathlib.Omega.{arith}
-use mathlib.Core.Path.{_≡_, _∙_, ap, sym}
-use mathlib.Core.List.{_++_}
-use Prim.Native.Nat.{ℕ, _≤_, _<_, _-_, _+_, _*_}
-use lib.ListN.{length, getD, take, drop, set, length-set}
+use borrow.Author.Tests.{eq-eqb, ne-eqb}
 use Rattle.hf_coeff.proofs.checks.three_fit.Statement.{statement}
 use Rattle.hf_coeff.proofs.checks.three_fit.Tie as tie
-use Rattle.hf_coeff.proofs.checks.three_fit.Reads as reads
-use Rattle.hf_coeff.proofs.checks.three_fit.Lts as lts
 
 returns : tie.Need-returns
 returns c =

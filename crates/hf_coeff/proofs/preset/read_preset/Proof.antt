@@ -1,17 +1,8 @@
 use Rattle.hf_coeff.specs.CallSteps.{preset-end, preset-above, preset-below}
 use borrow.Author.Needs.{needs}
 use native.Mathlib.Omega.{arith}
-use mathlib.Core.Path.{_≡_, _∙_, ap, sym}
-use mathlib.Core.List.{_++_}
-use Prim.Native.Nat.{ℕ, _≤_, _<_, _-_, _+_, _*_}
-use lib.ListN.{length, getD, take, drop, set, length-set}
 use Rattle.hf_coeff.proofs.preset.read_preset.Statement.{statement}
 use Rattle.hf_coeff.proofs.preset.read_preset.Tie as tie
-use Rattle.hf_coeff.proofs.preset.read_preset.Reads as reads
-use Rattle.hf_coeff.proofs.preset.read_preset.Lts as lts
-use Rattle.bits.proofs.Place.start.Reads as start-reads
-use Rattle.bits.proofs.exponent.Reads as exponent-reads
-use Rattle.bits.proofs.read_bits.Reads as read-bits-reads
 
 exponent-requires : tie.Need-exponent-requires
 exponent-requires c κs = search needs
