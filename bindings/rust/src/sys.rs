@@ -36,4 +36,109 @@ extern "C" {
     ) -> u32;
 
     pub fn netbuff_unpack_signed(u: u32) -> i32;
+
+    pub fn netbuff_column_count(
+        bytes: *const u8,
+        bytes_length: usize,
+        width: u32,
+        height: u32,
+        mode0: u32,
+        mode1: u32,
+        mode2: u32,
+        count: &mut u32,
+        bits: &mut usize,
+        x: &mut usize,
+        y: &mut usize,
+    ) -> u32;
+
+    pub fn netbuff_layout(
+        width: u32,
+        height: u32,
+        mode0: u32,
+        mode1: u32,
+        mode2: u32,
+        types: *const i32,
+        types_length: usize,
+        muls: *const i32,
+        muls_length: usize,
+        sharpness: *const i32,
+        sharpness_length: usize,
+        filter_on: bool,
+        multiplier: f32,
+        lookup: &[f32; 8],
+        scale: u32,
+        kinds: *mut u8,
+        kinds_length: usize,
+        hf_mul: *mut i32,
+        hf_mul_length: usize,
+        sigma: *mut f32,
+        sigma_length: usize,
+        used: &mut usize,
+        x: &mut usize,
+        y: &mut usize,
+    ) -> u32;
+
+    pub fn netbuff_orders(
+        bytes: *const u8,
+        bytes_length: usize,
+        symbols: *const u32,
+        symbols_length: usize,
+        store: *mut u16,
+        store_length: usize,
+        symbols_read: &mut usize,
+        x: &mut usize,
+        y: &mut usize,
+    ) -> u32;
+
+    pub fn netbuff_cut(
+        bw: usize,
+        bh: usize,
+        kinds: *const u8,
+        kinds_length: usize,
+        hf_mul: *const i32,
+        hf_mul_length: usize,
+        index: usize,
+        out_kinds: *mut u8,
+        out_kinds_length: usize,
+        out_hf_mul: *mut i32,
+        out_hf_mul_length: usize,
+        wide: &mut usize,
+        high: &mut usize,
+        x: &mut usize,
+        y: &mut usize,
+    ) -> u32;
+
+    pub fn netbuff_alike(
+        bw: usize,
+        bh: usize,
+        kinds: *const u8,
+        kinds_length: usize,
+        hf_mul: *const i32,
+        hf_mul_length: usize,
+        bw2: usize,
+        bh2: usize,
+        kinds2: *const u8,
+        kinds2_length: usize,
+        hf_mul2: *const i32,
+        hf_mul2_length: usize,
+        alike: &mut bool,
+        x: &mut usize,
+        y: &mut usize,
+    ) -> u32;
+
+    pub fn netbuff_block_context(
+        bytes: *const u8,
+        bytes_length: usize,
+        num_clusters: u32,
+        map: *const u8,
+        map_length: usize,
+        num_block_clusters: &mut u32,
+        lengths: &mut [u32; 4],
+        lf_thresholds: &mut [i32; 45],
+        qf_thresholds: &mut [u32; 15],
+        block_ctx_map: &mut [u8; 2496],
+        bits_read: &mut usize,
+        x: &mut usize,
+        y: &mut usize,
+    ) -> u32;
 }

@@ -7,6 +7,7 @@ mod contexts;
 mod groups;
 mod layout;
 mod orders;
+mod reads;
 
 pub use coefficients::{CoefficientBuffers, CoefficientsCall};
 pub use columns::{ColumnCount, ColumnCountCall};
@@ -16,6 +17,8 @@ pub use layout::{LayoutBuffers, LayoutCall};
 pub use orders::{
     list_length, list_start, OrdersCall, Store, LIST_COUNT, ORDER_COUNT, ORDER_SIZES, STORE_LENGTH,
 };
+
+pub use reads::{ReadCall, ReadKind};
 
 /// A refusal's number and position.
 #[derive(Debug, Copy, Clone, PartialEq, Eq)]

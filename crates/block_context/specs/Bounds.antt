@@ -3,13 +3,12 @@ use mathlib.Core.Path.{_≡_, refl, ap, sym, subst, _∙_}
 use mathlib.Core.Bool.{Bool, true, false, _&&_, cond}
 use mathlib.Core.List.{List, [], _∷_}
 use mathlib.Core.Logic.{⊎-elim}
-use Prim.Native.Nat.{ℕ, zero, suc, _+_, _*_, _-_, _≤_, _<_, _%_, _^_}
+use Prim.Native.Nat.{ℕ, suc, _+_, _*_, _-_, _≤_, _<_, _%_, _^_}
 use native.Mathlib.Nat.{mul-comm, mul-assoc, mul-le-mul}
 use native.Mathlib.Omega.{arith}
 use lib.Arith.{digits-lt}
 use lib.Dec.{T, leb, ltb, leb→le, ltb→lt, lt→ltb}
-use lib.Ieee.Fits.{and-l, and-r}
-use lib.ListN.{length, getD, take, drop, length-take, List·getD-eq-default}
+use lib.ListN.{length, getD, take, drop, length-take}
 use lib.Seq.{getD-take}
 use lib.IntN.{negsuc}
 use lib.Signed.{ltZ}
@@ -114,8 +113,8 @@ module _ (clusters : ℕ) (lengths qf map : List ℕ) where
   fits e =
       let len : ℕ → ℕ = λ (k : ℕ). getD lengths k 0 in
       let t =
-          nine (leb (len 0) 15) (leb (len 1) 15) (leb (len 2) 15) (leb (len 3) 15) (leb (bsizeOf lengths) 64) (leb 1 clusters) (leb clusters 16)
-          (every qfFit (take (len 3) qf)) (bytesBelow clusters (take (39 * bsizeOf lengths) map)) (subst T (sym e) tt)
+      nine (leb (len 0) 15) (leb (len 1) 15) (leb (len 2) 15) (leb (len 3) 15) (leb (bsizeOf lengths) 64) (leb 1 clusters) (leb clusters 16)
+      (every qfFit (take (len 3) qf)) (bytesBelow clusters (take (39 * bsizeOf lengths) map)) (subst T (sym e) tt)
       in
       record {
         short0 = leb→le (len 0) 15 (t .0);
@@ -135,9 +134,16 @@ module _ (clusters : ℕ) (lengths qf map : List ℕ) where
       → fitOf clusters lengths qf map ≡ bytesBelow clusters (take (39 * bsizeOf lengths) map)
   unfolding fitOf
   fit-last h0 h1 h2 h3 s m f v =
-      rw
-      (le-leb (getD lengths 0 0) 15 h0, le-leb (getD lengths 1 0) 15 h1, le-leb (getD lengths 2 0) 15 h2, le-leb (getD lengths 3 0) 15 h3,
-       le-leb (bsizeOf lengths) 64 s, le-leb 1 clusters m, le-leb clusters 16 f, v)
+      rw (
+        le-leb (getD lengths 0 0) 15 h0,
+        le-leb (getD lengths 1 0) 15 h1,
+        le-leb (getD lengths 2 0) 15 h2,
+        le-leb (getD lengths 3 0) 15 h3,
+        le-leb (bsizeOf lengths) 64 s,
+        le-leb 1 clusters m,
+        le-leb clusters 16 f,
+        v,
+      )
 
   -- a byte of the used part of the map
   pub fit-byte : Fit clusters lengths qf map → (k : ℕ) → k < 39 * bsizeOf lengths → getD map k 0 < clusters

@@ -1,5 +1,5 @@
 -- Laws on counting thresholds, as a loop over indices uses them.
-use mathlib.Core.Path.{_≡_, refl, ap, sym, _∙_}
+use mathlib.Core.Path.{_≡_, refl, sym}
 use mathlib.Core.Bool.{Bool, true, false, cond}
 use mathlib.Core.List.{List, [], _∷_}
 use Prim.Native.Nat.{ℕ, suc, min, _+_, _*_, _-_, _≤_, _<_}
@@ -84,9 +84,11 @@ module _ (xs : List ℕ) (n0 n1 n2 q0 q1 q2 i0 i1 i2 s1 s2 : ℕ) (long : 45 ≤
   lf-index-is e0 e1 e2 f1 f2 =
       rw (part-length xs 15 n1 (omega arith), part-length xs 30 n2 (omega arith), e0, e1, e2, f1, f2)
 
-  pub lf-size-is : sizeOf (lfList xs 0 n0) (lfList xs 1 n1) (lfList xs 2 n2) ≡ (min n0 15 + 1) * (min n1 15 + 1) * (min n2 15 + 1)
-  unfolding sizeOf
-  lf-size-is = rw (part-length xs 0 n0 (omega arith), part-length xs 15 n1 (omega arith), part-length xs 30 n2 (omega arith))
+pub lf-size-is : (xs : List ℕ) (n0 n1 n2 : ℕ) → 45 ≤ length xs
+    → sizeOf (lfList xs 0 n0) (lfList xs 1 n1) (lfList xs 2 n2) ≡ (min n0 15 + 1) * (min n1 15 + 1) * (min n2 15 + 1)
+unfolding sizeOf
+lf-size-is xs n0 n1 n2 long =
+    rw (part-length xs 0 n0 (omega arith), part-length xs 15 n1 (omega arith), part-length xs 30 n2 (omega arith))
 
 -- the three block contexts of a varblock, by the sizes that the code computes
 module _ (C : Contexts) (order mul : ℕ) (there : Bool) (q0 q1 q2 : ℕ) (qfs lfs qf lf a b c : ℕ) where

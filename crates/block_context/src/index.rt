@@ -60,7 +60,15 @@ fn wide(x: u8) -> usize
 }
 
 // The map's number for the n-th channel walked, 0 outside the map.
-fn context_at(block_ctx_map: &[u8], qf_size: usize, lf_size: usize, n: usize, order: usize, qf: usize, lf: usize) -> usize
+fn context_at(
+    block_ctx_map: &[u8],
+    qf_size: usize,
+    lf_size: usize,
+    n: usize,
+    order: usize,
+    qf: usize,
+    lf: usize,
+) -> usize
     requires { ⌜ (length (now «block_ctx_map») ≤ 2496) × (1 ≤ «qf_size») × («qf_size» ≤ 16) × (1 ≤ «lf_size») × («lf_size» ≤ 4096) × (n < 3) × (qf ≤ 15) × (lf ≤ 4095) ⌝ }
     ensures { λ r. ⌜ r ≡ getD (now («block_ctx_map» .entry)) (placeOf «qf_size» «lf_size» n order qf lf) 0 ⌝ }
 {
@@ -75,7 +83,14 @@ fn context_at(block_ctx_map: &[u8], qf_size: usize, lf_size: usize, n: usize, or
 }
 
 // LF index, 0 without LF grids.
-fn lf_index_of(lf_thresholds: &[u32], lengths: [u32; 4], lf_there: bool, q0: u32, q1: u32, q2: u32) -> usize
+fn lf_index_of(
+    lf_thresholds: &[u32],
+    lengths: [u32; 4],
+    lf_there: bool,
+    q0: u32,
+    q1: u32,
+    q2: u32,
+) -> usize
     requires { ⌜ length (now «lf_thresholds») ≡ 45 ⌝ }
     ensures { λ r. ⌜ (r ≡ cond «lf_there» (lfIndexIn (lfList (now («lf_thresholds» .entry)) 0 (getD lengths 0 0)) (lfList (now («lf_thresholds» .entry)) 1 (getD lengths 1 0)) (lfList (now («lf_thresholds» .entry)) 2 (getD lengths 2 0)) q0 q1 q2) 0) × (r ≤ 4095) ⌝ }
 {

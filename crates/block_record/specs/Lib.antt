@@ -3,3 +3,6 @@ pub mod Calls
 pub mod Laws
 pub mod Sizes
 pub mod Loops
+pub mod CutSteps
+pub mod LikeSteps
+pub mod Theorems

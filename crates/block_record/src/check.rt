@@ -118,7 +118,7 @@ fn visit_cell(
 }
 
 // The cells are a layout of bw x bh blocks.
-fn is_layout(bw: usize, bh: usize, kinds: &[u8], muls: &[u32]) -> bool
+pub(crate) fn is_layout(bw: usize, bh: usize, kinds: &[u8], muls: &[u32]) -> bool
     requires { ⌜ (bw ≤ 256) × (bh ≤ 256) × (length (now kinds) ≡ bh * bw) × (length (now muls) ≡ bh * bw) ⌝ }
     ensures { λ r. ⌜ r ≡ isLayout bw bh (now (kinds .entry)) (now (muls .entry)) ⌝ }
 {
@@ -141,7 +141,7 @@ fn is_layout(bw: usize, bh: usize, kinds: &[u8], muls: &[u32]) -> bool
 }
 
 // Both sides are 1 to limit.
-pub fn in_limits(limit: usize, wide: usize, high: usize) -> bool
+pub(crate) fn in_limits(limit: usize, wide: usize, high: usize) -> bool
     ensures { λ r. ⌜ r ≡ inLimits limit wide high ⌝ }
 {
     if wide < 1 {
@@ -156,16 +156,16 @@ pub fn in_limits(limit: usize, wide: usize, high: usize) -> bool
     high <= limit
 }
 
-// A kind and an hf_mul are lent for each of wide x high cells.
-fn lengths_fit(wide: usize, high: usize, kinds: &[u8], muls: &[u32]) -> bool
+// As many kinds and as many hf_mul as wide x high cells.
+pub(crate) fn lengths_fit(wide: usize, high: usize, kinds: usize, muls: usize) -> bool
     requires { ⌜ (wide ≤ 256) × (high ≤ 256) ⌝ }
-    ensures { λ r. ⌜ r ≡ lengthsFit wide high (now (kinds .entry)) (now (muls .entry)) ⌝ }
+    ensures { λ r. ⌜ r ≡ lengthsFit wide high kinds muls ⌝ }
 {
     let cells = high * wide;
-    if kinds.len() != cells {
+    if kinds != cells {
         return false;
     }
-    muls.len() == cells
+    muls == cells
 }
 
 // A lent record of sides up to a limit.
@@ -176,7 +176,7 @@ fn check_within(limit: usize, wide: usize, high: usize, kinds: &[u8], muls: &[u3
     if !in_limits(limit, wide, high) {
         return Checked::Refused(Refusal::Size);
     }
-    if !lengths_fit(wide, high, kinds, muls) {
+    if !lengths_fit(wide, high, kinds.len(), muls.len()) {
         return Checked::Refused(Refusal::Length);
     }
     if !is_layout(wide, high, kinds, muls) {

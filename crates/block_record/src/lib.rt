@@ -2,6 +2,8 @@
 use refusal::Refusal;
 
 pub mod check;
+pub mod cut;
+pub mod likeness;
 
 // The sides of a pass group in blocks. Its kinds and hf_mul are lent beside it.
 pub struct Group {

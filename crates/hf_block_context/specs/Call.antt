@@ -1,5 +1,5 @@
 -- The context call (document 01, Block contexts and Refused).
-use mathlib.Core.Bool.{Bool, cond, _&&_}
+use mathlib.Core.Bool.{Bool, cond}
 use mathlib.Core.List.{List, [], _∷_, _++_}
 use Prim.Native.Nat.{ℕ, _*_, _-_}
 use lib.Dec.{eqb, leb}
@@ -9,7 +9,6 @@ use Rattle.refusal.specs.declared.Refusal.the-variants.{Length, BitsEnd, Contex
 use Rattle.bits.specs.Bits.{readBits}
 use Rattle.block_context.specs.declared.HfBlockContext.{HfBlockContext}
 use Rattle.block_context.specs.Record.{bsizeOf, bytesBelow}
-use Rattle.hf_block_context.specs.declared.ContextAnswer.{ContextAnswer}
 use Rattle.hf_block_context.specs.declared.ContextAnswer.the-variants.{Accepted, Refused}
 use Rattle.hf_block_context.specs.declared.ContextResult.{ContextResult}
 use Rattle.hf_block_context.specs.Reading.{Reading, Is, Short, reading, Lists, listsOf, readLists}
@@ -21,16 +20,20 @@ pad n l = l ++ replicate (n - length l) 0
 abbrev pub lengthsOf : Lists → List ℕ
 lengthsOf l = length (l .lf0) ∷ length (l .lf1) ∷ length (l .lf2) ∷ length (l .qf) ∷ []
 
+abbrev pub recordOf : ℕ → List ℕ → List ℕ → List ℕ → List ℕ → HfBlockContext
+recordOf count lengths lf qf map =
+    record {
+      «num_block_clusters» = count;
+      lengths = lengths;
+      «lf_thresholds» = lf;
+      «qf_thresholds» = qf;
+      «block_ctx_map» = map;
+    }
+
 -- the record of a count, lists and a map
 unfoldable pub stored : ℕ → Lists → List ℕ → HfBlockContext
 stored count l map =
-    record {
-      «num_block_clusters» = count;
-      lengths = lengthsOf l;
-      «lf_thresholds» = pad 15 (l .lf0) ++ (pad 15 (l .lf1) ++ pad 15 (l .lf2));
-      «qf_thresholds» = pad 15 (l .qf);
-      «block_ctx_map» = pad 2496 map;
-    }
+    recordOf count (lengthsOf l) (pad 15 (l .lf0) ++ (pad 15 (l .lf1) ++ pad 15 (l .lf2))) (pad 15 (l .qf)) (pad 2496 map)
 
 abbrev pub noLists : Lists
 noLists = listsOf [] [] [] []
@@ -51,14 +54,18 @@ refused r = record { answer = Refused r; contexts = stored 0 noLists [] }
 abbrev pub unless : Bool → Refusal → ContextResult → ContextResult
 unless test r next = cond test next (refused r)
 
--- bits were read: bsize (12), map length (1), count (12), map bytes (12)
-unfoldable pub judged : ℕ → List ℕ → Lists → ℕ → ContextResult
-judged count map l at =
-    unless (leb (bsizeOf (lengthsOf l)) 64) Context
-    (unless (eqb (length map) (39 * bsizeOf (lengthsOf l))) Length
-    (unless (leb 1 count && leb count 16) Context
+-- all bits are read: bsize (12), map length (1), count (12), map bytes (12)
+unfoldable pub judged : ℕ → List ℕ → List ℕ → HfBlockContext → ℕ → ContextResult
+judged count map lengths contexts at =
+    unless (leb (bsizeOf lengths) 64) Context
+    (unless (eqb (length map) (39 * bsizeOf lengths)) Length
+    (unless (leb 1 count) Context
+    (unless (leb count 16) Context
     (unless (bytesBelow count map) Context
-    (accepted at (stored count l map)))))
+    (accepted at contexts)))))
+
+abbrev pub judgedLists : ℕ → List ℕ → Lists → ℕ → ContextResult
+judgedLists count map l at = judged count map (lengthsOf l) (stored count l map) at
 
 abbrev pub orEnded : Reading Lists → (Lists → ℕ → ContextResult) → ContextResult
 orEnded (Is l at) k = k l at
@@ -68,7 +75,7 @@ orEnded (Short at) k = refused (BitsEnd at)
 abbrev pub byFirst : Reading ℕ → List ℕ → ℕ → List ℕ → ContextResult
 byFirst (Short at) bytes count map = refused (BitsEnd at)
 byFirst (Is first at) bytes count map =
-    cond (eqb first 1) (accepted at (stored 15 noLists DEFAULT-MAP)) (orEnded (readLists bytes at) (judged count map))
+    cond (eqb first 1) (accepted at (stored 15 noLists DEFAULT-MAP)) (orEnded (readLists bytes at) (judgedLists count map))
 
 unfoldable pub parsed : List ℕ → ℕ → List ℕ → ContextResult
 parsed bytes count map = byFirst (reading (readBits bytes 0 1)) bytes count map

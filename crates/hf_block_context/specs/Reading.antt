@@ -1,19 +1,24 @@
 -- What the bits of block contexts say (document 01, Block contexts; `HfBlockContext::parse` of `lf.rs`).
-use mathlib.Core.Bool.{cond}
 use mathlib.Core.List.{List, [], _∷_}
 use Prim.Native.Nat.{ℕ, zero, suc, _+_}
-use lib.Dec.{eqb}
 use Rattle.bits.specs.Bits.{Read, Value, Ended, then, Offset, readBits, readU32}
 use Rattle.bits.specs.Signed.{unpackSigned}
 
--- an LF value behind p bits: signed of U32(4 bits, 16 + 8 bits, 272 + 16, 65808 + 32)
-unfoldable pub lfValue : List ℕ → ℕ → Read
-lfValue s p =
-    then (readU32 s p (Offset 0 4) (Offset 16 8) (Offset 272 16) (Offset 65808 32)) (λ u at. Value (unpackSigned u) at)
+-- U32(4 bits, 16 + 8 bits, 272 + 16, 65808 + 32)
+abbrev pub lfU32 : List ℕ → ℕ → Read
+lfU32 s p = readU32 s p (Offset 0 4) (Offset 16 8) (Offset 272 16) (Offset 65808 32)
 
--- a qf value: 1 + U32(2 bits, 4 + 3, 12 + 5, 44 + 8)
+-- an LF value behind p bits: signed of that
+unfoldable pub lfValue : List ℕ → ℕ → Read
+lfValue s p = then (lfU32 s p) (λ u at. Value (unpackSigned u) at)
+
+-- U32(2 bits, 4 + 3, 12 + 5, 44 + 8)
+abbrev pub qfU32 : List ℕ → ℕ → Read
+qfU32 s p = readU32 s p (Offset 0 2) (Offset 4 3) (Offset 12 5) (Offset 44 8)
+
+-- a qf value: 1 + that
 unfoldable pub qfValue : List ℕ → ℕ → Read
-qfValue s p = then (readU32 s p (Offset 0 2) (Offset 4 3) (Offset 12 5) (Offset 44 8)) (λ u at. Value (1 + u) at)
+qfValue s p = then (qfU32 s p) (λ u at. Value (1 + u) at)
 
 -- something read, with the bits read so far; or that the bits ended, with the bits read so far
 pub data Reading (A : Type 0) : Type 0 where

@@ -1,15 +1,20 @@
 -- Laws of the reads of block contexts: how far they go, and how large qf values are.
-use mathlib.Core.Path.{_≡_, refl, ap, sym, _∙_, subst}
-use mathlib.Core.List.{List, [], _∷_, _++_}
-use Prim.Native.Nat.{ℕ, zero, suc, _+_, _*_, _-_, _/_, _%_, _^_, _≤_, _<_}
+use mathlib.Core.Path.{_≡_, refl, sym, _∙_, subst}
+use mathlib.Core.Bool.{Bool, true, false, cond}
+use mathlib.Core.List.{List}
+use Prim.Native.Nat.{ℕ, zero, suc, _+_, _-_, _/_, _%_, _^_, _≤_, _<_}
 use native.Mathlib.Nat.{mod-lt}
 use native.Mathlib.Omega.{arith}
+use lib.Dec.{eqb}
 use lib.Pow.{pow-pos}
-use lib.ListN.{length}
 use Rattle.bits.specs.Bits.{Read, Value, Ended, then, Choice, Constant, Offset, readBits, readChoice, chosen, readU32}
 use Rattle.bits.specs.Numbers.{Bytes, number}
 use Rattle.bits.specs.Laws.{value-at, ended-at, read-whole}
-use Rattle.hf_block_context.specs.Reading.{lfValue, qfValue}
+use Rattle.bits.specs.Signed.{unpackSigned}
+use Rattle.hf_block_context.specs.declared.thresholds.Kind.{Kind}
+use Rattle.hf_block_context.specs.declared.thresholds.Kind.the-variants.{Lf, Qf}
+use Rattle.hf_block_context.specs.Reading.{lfU32, lfValue, qfU32, qfValue}
+use Rattle.hf_block_context.specs.Steps.{readValue}
 
 -- a field is below its power of two
 pub field-lt : (s : List ℕ) (p n v at : ℕ) → Bytes s → readBits s p n ≡ Value v at → v < 2 ^ n
@@ -93,8 +98,16 @@ mapped (Ended q) f p m top new up n =
       end = λ at e. let t : q ≡ at = cc in let k = n .end q refl in (omega (arith, k .0), omega (arith, k .1));
     }
 
+unpack-le : (u : ℕ) → u ≤ 4295033103 → unpackSigned u ≤ 4294967296
+unfolding unpackSigned
+unpack-le u h = go (eqb (u % 2) 0)
+  where
+    go : (b : Bool) → cond b (u / 2) (2 ^ 32 - (u + 1) / 2) ≤ 4294967296
+    go true = omega arith
+    go false = omega arith
+
 module _ (s : List ℕ) (h : Bytes s) where
-  qf-u32 : (p : ℕ) → Near (readU32 s p (Offset 0 2) (Offset 4 3) (Offset 12 5) (Offset 44 8)) p 34 299
+  pub qf-u32 : (p : ℕ) → Near (qfU32 s p) p 34 299
   qf-u32 =
       u32-near s 299 (Offset 0 2) (Offset 4 3) (Offset 12 5) (Offset 44 8) (offset-small s 0 2 299 h (omega arith) (omega arith))
       (offset-small s 4 3 299 h (omega arith) (omega arith))
@@ -103,11 +116,31 @@ module _ (s : List ℕ) (h : Bytes s) where
 
   pub qf-near : (p : ℕ) → Near (qfValue s p) p 34 300
   unfolding qfValue
-  qf-near p = mapped (readU32 s p (Offset 0 2) (Offset 4 3) (Offset 12 5) (Offset 44 8)) (λ (u : ℕ). 1 + u) p 34 299 300 (λ v l. omega arith) (qf-u32 p)
+  qf-near p = mapped (qfU32 s p) (λ (u : ℕ). 1 + u) p 34 299 300 (λ v l. omega arith) (qf-u32 p)
 
-  lf-u32 : (p : ℕ) → Near (readU32 s p (Offset 0 4) (Offset 16 8) (Offset 272 16) (Offset 65808 32)) p 34 4295033103
+  pub lf-u32 : (p : ℕ) → Near (lfU32 s p) p 34 4295033103
   lf-u32 =
       u32-near s 4295033103 (Offset 0 4) (Offset 16 8) (Offset 272 16) (Offset 65808 32) (offset-small s 0 4 4295033103 h (omega arith) (omega arith))
       (offset-small s 16 8 4295033103 h (omega arith) (omega arith))
       (offset-small s 272 16 4295033103 h (omega arith) (omega arith))
       (offset-small s 65808 32 4295033103 h (omega arith) (omega arith))
+
+  pub lf-near : (p : ℕ) → Near (lfValue s p) p 34 4294967296
+  unfolding lfValue
+  lf-near p =
+      mapped (lfU32 s p) unpackSigned p 34 4295033103 4294967296 unpack-le (lf-u32 p)
+
+  pub value-near : (k : Kind) (p : ℕ) → Near (readValue k s p) p 34 4294967296
+  value-near Lf p = lf-near p
+  value-near Qf p =
+      let n = qf-near p in
+      record { value = λ v at e. let t = n .value v at e in (t .0, omega (arith, t .1)); end = n .end }
+
+-- a qf value is at least 1
+pub qf-some : (s : List ℕ) (p v at : ℕ) → qfValue s p ≡ Value v at → 1 ≤ v
+unfolding qfValue
+qf-some s p v at e = go (qfU32 s p) refl
+  where
+    go : (r : Read) → qfU32 s p ≡ r → 1 ≤ v
+    go (Value u q) f = let w : 1 + u ≡ v = cc (rw f at e) in omega arith
+    go (Ended q) f = absurd (let z : _≡_ {A = ℕ} 0 1 = cc (rw f at e) in omega arith)

@@ -32,6 +32,16 @@ pub fit-end : (store : List ℕ) (i : ℕ) → 39 ≤ i → fitFrom store i ≡ 
 unfolding fitFrom
 fit-end store i h = let k : length (thrice BLOCK-SIZES) ≤ i = omega (arith, lists-39) in rw (drop-of-length-le (thrice BLOCK-SIZES) k)
 
+-- list i, and those behind it
+pub fit-next : (store : List ℕ) (i : ℕ) → i < 39
+    → fitFrom store i ≡ (insideAll (widthOf (i / 3)) (heightOf (i / 3)) (take (2 * (widthOf (i / 3) * heightOf (i / 3))) (drop (from i) store)) && fitFrom store (i + 1))
+unfolding fitFrom widthOf heightOf
+fit-next store i h =
+    let m = 2 * (widthOf (i / 3) * heightOf (i / 3)) in
+    let p : drop i (thrice BLOCK-SIZES) ≡ getD BLOCK-SIZES (i / 3) (0, 0) ∷ drop (suc i) (thrice BLOCK-SIZES) = drop-cons (thrice BLOCK-SIZES) i (0, 0) (omega (arith, lists-39)) ∙ rw (list-size i h) in
+    let q : drop (from (i + 1)) store ≡ drop m (drop (from i) store) = rw (from-step i h) (sym (drop-drop m (from i) store)) in
+    rw (p, q, add-one i)
+
 module _ (store : List ℕ) (i : ℕ) (h : i < 39) (s : Sides) (e : s ≡ blockSize (i / 3)) (start : ℕ) (b : start ≡ from i) where
   -- what the code knows of list i
   pub record ListAt : Type 0 where
@@ -49,15 +59,9 @@ module _ (store : List ℕ) (i : ℕ) (h : i < 39) (s : Sides) (e : s ≡ blockS
   part = take (start + 2 * (s .wide * s .high) - start) (drop start store)
 
   pub fit-turn : fitFrom store i ≡ (insideAll (s .wide) (s .high) part && fitFrom store (i + 1))
-  unfolding fitFrom widthOf heightOf
   fit-turn =
       let z : start + 2 * (s .wide * s .high) - start ≡ 2 * (s .wide * s .high) = omega arith in
-      let p : drop i (thrice BLOCK-SIZES) ≡ getD BLOCK-SIZES (i / 3) (0, 0) ∷ drop (suc i) (thrice BLOCK-SIZES) = drop-cons (thrice BLOCK-SIZES) i (0, 0) (omega (arith, lists-39)) ∙ rw (list-size i h) in
-      let q : drop (from (i + 1)) store ≡ drop (2 * (widthOf (i / 3) * heightOf (i / 3))) (drop (from i) store) = rw (from-step i h) (sym (dropped (from i) (2 * (widthOf (i / 3) * heightOf (i / 3))))) in
-      rw (z, b, e, p, q, add-one i)
-    where
-      dropped : (a n : ℕ) → drop n (drop a store) ≡ drop (a + n) store
-      dropped a n = drop-drop n a store
+      rw (z, b, e) (fit-next store i h)
 
   pub fit-stop : insideAll (s .wide) (s .high) part ≡ false → fitFrom store i ≡ false
   fit-stop f = fit-turn ∙ rw f

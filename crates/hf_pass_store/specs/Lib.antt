@@ -4,4 +4,5 @@ pub mod Offsets
 pub mod Powers
 pub mod LookedUp
 pub mod Checking
+pub mod Places
 pub mod Naturals

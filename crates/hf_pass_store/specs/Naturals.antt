@@ -162,3 +162,7 @@ copy-start l to = paste-zero l to l
 
 pub part-length : (s : List ℕ) (a n : ℕ) → a + n ≤ length s → length (take (a + n - a) (drop a s)) ≡ n
 part-length s a n h = let e : a + n - a ≡ n = omega arith in rw e (length-take-le n (drop a s) (omega (arith, length-drop a s)))
+
+pub natural-store : (store : List ℕ) → length store ≡ 787968 → naturalStore store ≡ stored (naturals BLOCK-SIZES)
+unfolding wholeStore naturalStore
+natural-store store n = rw (eq-eqb (length store) (2 * PLACES) (n ∙ sym places-by))

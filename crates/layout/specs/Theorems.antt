@@ -17,7 +17,7 @@ use Rattle.layout.specs.Cut.{groupWide, groupHigh, cut}
 use Rattle.layout.specs.CutLaws.{cut-layout}
 
 module _ (bw bh : ℕ) (kinds muls : List ℕ) where
-  -- 18 is refused exactly where it should be
+  -- the walk ends without a fault exactly over layouts
   pub check-iff : (room : ℕ) → bw ≤ room → length kinds ≡ bh * bw → length muls ≡ bh * bw → (check room bw bh kinds muls ≡ true) ↔ Layout bw bh kinds muls
   check-iff room h k m = (
     λ e. record { kindsLength = k; mulsLength = m; valid = check-valid bw bh (at kinds bw) (at muls bw) room h e },
@@ -26,6 +26,10 @@ module _ (bw bh : ℕ) (kinds muls : List ℕ) where
 
   pub layout-check : (room : ℕ) → bw ≤ room → Layout bw bh kinds muls → check room bw bh kinds muls ≡ true
   layout-check room h ok = valid-check bw bh (at kinds bw) (at muls bw) (ok .valid) room h
+
+  -- what 18 lets pass is a layout, and every layout
+  pub layout-iff : length kinds ≡ bh * bw → length muls ≡ bh * bw → (isLayout bw bh kinds muls ≡ true) ↔ Layout bw bh kinds muls
+  layout-iff k m = check-iff bw (omega arith) k m
 
   -- the room for columns does not matter
   pub check-room : (room : ℕ) → bw ≤ room → check room bw bh kinds muls ≡ isLayout bw bh kinds muls

@@ -1,3 +1,5 @@
 -- what the exported calls hand out
 pub mod Transform
 pub mod Reader
+pub mod Record
+pub mod Contexts

@@ -101,7 +101,8 @@ impl Case for CoefficientsCase {
         let group = group(rng);
         let mut input = self.input(rng.below(self.orders.len()), group, contexts);
         let call = &mut input.call;
-        call.symbols = symbol_stream(rng, &call.group);
+        let sparseness = rng.pick(&[1, 2, 8, 64]);
+        call.symbols = symbol_stream(rng, &call.group, sparseness);
         call.shift = rng.below(4) as u32;
         presets(rng, call, &input.orders.cluster_map);
         if rng.once_in(2) {
@@ -234,23 +235,23 @@ fn buffers(rng: &mut Rng, blocks: usize) -> CoefficientBuffers {
     }
 }
 
-/// Symbols that read a group to its end: for each varblock and channel a count and its places.
-fn symbol_stream(rng: &mut Rng, group: &Layout) -> Vec<u32> {
+/// Symbols that read a group to its end: for each varblock and channel a count and its places, of
+/// which at most one in `sparseness` is filled.
+pub fn symbol_stream(rng: &mut Rng, group: &Layout, sparseness: usize) -> Vec<u32> {
     let mut symbols = Vec::new();
-    let density = rng.pick(&[1, 2, 8, 64]);
     for &kind in &group.kinds {
         let Some((wide, high)) = paper::kind_sides(kind) else {
             continue;
         };
         for _ in 0..3 {
-            places(rng, 63 * wide * high, density, &mut symbols);
+            places(rng, 63 * wide * high, sparseness, &mut symbols);
         }
     }
     symbols
 }
 
-fn places(rng: &mut Rng, places: usize, density: usize, symbols: &mut Vec<u32>) {
-    let most = (places / density).max(1);
+fn places(rng: &mut Rng, places: usize, sparseness: usize, symbols: &mut Vec<u32>) {
+    let most = (places / sparseness).max(1);
     let count = match rng.below(8) {
         0 | 1 => 0,
         2 => most,
@@ -289,8 +290,8 @@ fn damage_symbols(rng: &mut Rng, symbols: &mut Vec<u32>) {
 fn damage_call(rng: &mut Rng, call: &mut CoefficientsCall) {
     let channel = rng.below(3);
     match rng.below(16) {
-        0 => call.group.wide = rng.pick(&[0, 33, u32::MAX]),
-        1 => call.group.high = rng.pick(&[0, 33, u32::MAX]),
+        0 => call.group.wide = rng.pick(&[0, 33, usize::MAX]),
+        1 => call.group.high = rng.pick(&[0, 33, usize::MAX]),
         2 => call.shift = rng.pick(&[4, u32::MAX]),
         3 => call.presets = rng.pick(&[257, u32::MAX]),
         4 => call.contexts.count = rng.pick(&[0, 17, u32::MAX, 1]),

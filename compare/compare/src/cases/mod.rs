@@ -20,13 +20,14 @@ use calls::Outcome;
 use crate::rng::Rng;
 
 pub use alike::AlikeCase;
-pub use coefficients::{CoefficientsCase, CoefficientsInput, MAP_MOST};
+pub use coefficients::{symbol_stream, CoefficientsCase, CoefficientsInput, MAP_MOST};
 pub use column_count::ColumnCountCase;
 pub use contexts::ContextsCase;
 pub use cut::CutCase;
 pub use layout::LayoutCase;
 pub use orders::OrdersCase;
-pub use reader::{ReadKind, ReaderCase, ReaderInput};
+pub use placing::fill;
+pub use reader::ReaderCase;
 pub use signed::SignedCase;
 pub use transform::TransformCase;
 

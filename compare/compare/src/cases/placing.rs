@@ -45,8 +45,8 @@ pub fn fill(rng: &mut Rng, wide: usize, high: usize, favoured: Option<u8>) -> Fi
     Filled {
         columns,
         layout: Layout {
-            wide: wide as u32,
-            high: high as u32,
+            wide,
+            high,
             kinds,
             hf_mul,
         },

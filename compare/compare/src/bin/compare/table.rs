@@ -3,7 +3,6 @@
 use compare::cases::{Case, ReaderCase, SignedCase, TransformCase};
 
 use crate::options::Options;
-use crate::ours;
 
 /// Compares one call, and tells whether it agrees.
 type Compare = fn(&Options) -> bool;

@@ -1,112 +1,86 @@
 use borrow.Author.Tests.{not-true, not-false}
 use Rattle.laws.specs.Tables.{every}
-use mathlib.Core.Bool.{true, false}
 use Rattle.block_context.specs.Record.{fit, qfFit, bytesBelow}
 use Rattle.block_context.specs.Bounds.{is-fit, refuted, false-true, fit-last}
 use Rattle.block_context.specs.Laws.{capped}
 use borrow.Author.Needs.{needs}
 use native.Mathlib.Omega.{arith}
-use mathlib.Core.Path.{_≡_, _∙_, ap, sym}
-use mathlib.Core.List.{_++_}
-use Prim.Native.Nat.{ℕ, _≤_, _<_, _-_, _+_, _*_}
-use lib.ListN.{length, getD, take, drop, set, length-set}
+use mathlib.Core.Path.{_∙_, ap, sym}
+use Prim.Native.Nat.{ℕ, _-_, _*_}
+use lib.ListN.{getD, take}
 use Rattle.block_context.proofs.fit.is_fit.Statement.{statement}
 use Rattle.block_context.proofs.fit.is_fit.Tie as tie
-use Rattle.block_context.proofs.fit.is_fit.Reads as reads
-use Rattle.block_context.proofs.fit.is_fit.Lts as lts
-use Rattle.block_context.proofs.fit.bsize.Reads as bsize-reads
-use Rattle.block_context.proofs.fit.map_fit.Reads as map-fit-reads
-use Rattle.block_context.proofs.fit.qf_fit.Reads as qf-fit-reads
 
--- src/fit.rt:77:13
 array-read-if1 : tie.Need-array-read-if1
 array-read-if1 c = search needs
 
--- src/fit.rt:78:9
 returns : tie.Need-returns
 returns c =
     let R = c .before .before .args .t1 in
     refuted (fit R) (λ e. let f = is-fit R e in omega (arith, f .short0))
 
--- src/fit.rt:80:13
 array-read-if2 : tie.Need-array-read-if2
 array-read-if2 c = search needs
 
--- src/fit.rt:81:9
 returns-2 : tie.Need-returns-2
 returns-2 c =
     let R = c .before .before .before .args .t1 in
     refuted (fit R) (λ e. let f = is-fit R e in omega (arith, f .short1))
 
--- src/fit.rt:83:13
 array-read-if3 : tie.Need-array-read-if3
 array-read-if3 c = search needs
 
--- src/fit.rt:84:9
 returns-3 : tie.Need-returns-3
 returns-3 c =
     let R = c .before .before .before .before .args .t1 in
     refuted (fit R) (λ e. let f = is-fit R e in omega (arith, f .short2))
 
--- src/fit.rt:86:13
 array-read-if4 : tie.Need-array-read-if4
 array-read-if4 c = search needs
 
--- src/fit.rt:87:9
 returns-4 : tie.Need-returns-4
 returns-4 c =
     let R = c .before .before .before .before .before .args .t1 in
     refuted (fit R) (λ e. let f = is-fit R e in omega (arith, f .short3))
 
--- src/fit.rt:89:9
 bsize-requires : tie.Need-bsize-requires
 bsize-requires c κs = search needs
 
--- src/fit.rt:91:9
 returns-5 : tie.Need-returns-5
 returns-5 c =
     let R = c .before .before .before .before .before .before .before .args .t1 in
     refuted (fit R) (λ e. let f = is-fit R e in omega (arith, f .size, capped (R .lengths) (f .short0) (f .short1) (f .short2) (f .short3)))
 
--- src/fit.rt:95:9
 returns-6 : tie.Need-returns-6
 returns-6 c =
     let R = c .before .before .before .before .before .before .before .before .args .t1 in
     refuted (fit R) (λ e. let f = is-fit R e in omega (arith, f .some))
 
--- src/fit.rt:98:9
 returns-7 : tie.Need-returns-7
 returns-7 c =
     let R = c .before .before .before .before .before .before .before .before .before .args .t1 in
     refuted (fit R) (λ e. let f = is-fit R e in omega (arith, f .few))
 
--- src/fit.rt:100:13
 array-read-n : tie.Need-array-read-n
 array-read-n c = search needs
 
--- src/fit.rt:100:13
 cast-n : tie.Need-cast-n
 cast-n c = search needs
 
--- src/fit.rt:101:9
 qf-fit-requires : tie.Need-qf-fit-requires
 qf-fit-requires c κs = search needs
 
--- src/fit.rt:102:9
 returns-8 : tie.Need-returns-8
 returns-8 c =
     let R = c .before .before .before .before .before .before .before .before .before .before .before .before .before .args .t1 in
     refuted (fit R) (λ e. false-true (every qfFit (take (getD (R .lengths) 3 0) (R .«qf_thresholds»))) (sym (c .before .qf-fit .ensures) ∙ not-true _ (c .if8 .taken)) (is-fit R e .values))
 
--- src/fit.rt:104:33
 mul-map-fit : tie.Need-mul-map-fit
 mul-map-fit c = search needs
 
--- src/fit.rt:104:5
 map-fit-requires : tie.Need-map-fit-requires
 map-fit-requires c κs = search needs
 
--- src/fit.rt:73:1
 returns-9 : tie.Need-returns-9
 returns-9 c =
     let R = c .before .before .before .before .before .before .before .before .before .before .before .before .before .before .before .before .args .t1 in

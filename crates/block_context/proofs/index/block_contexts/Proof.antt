@@ -1,59 +1,40 @@
-use lib.ListN.{length-take}
+use lib.ListN.{length-take, getD}
 use Rattle.block_context.specs.Record.{lists}
 use Rattle.block_context.specs.Laws.{lf-size-is, contexts-are}
 use borrow.Author.Needs.{needs}
 use native.Mathlib.Omega.{arith}
-use mathlib.Core.Path.{_≡_, _∙_, ap, sym}
-use mathlib.Core.List.{_++_}
-use Prim.Native.Nat.{ℕ, _≤_, _<_, _-_, _+_, _*_}
-use lib.ListN.{length, getD, take, drop, set, length-set}
+use mathlib.Core.Path.{_∙_, sym}
+use Prim.Native.Nat.{_-_, _+_}
 use Rattle.block_context.proofs.index.block_contexts.Statement.{statement}
 use Rattle.block_context.proofs.index.block_contexts.Tie as tie
-use Rattle.block_context.proofs.index.block_contexts.Reads as reads
-use Rattle.block_context.proofs.index.block_contexts.Lts as lts
-use Rattle.block_context.proofs.index.context_at.Reads as context-at-reads
-use Rattle.block_context.proofs.index.lf_index_of.Reads as lf-index-of-reads
-use Rattle.block_context.proofs.sizes.lf_size.Reads as lf-size-reads
-use Rattle.block_context.proofs.index.qf_index.Reads as qf-index-reads
-use Rattle.block_context.proofs.sizes.used.Reads as used-reads
 
--- src/index.rt:122:9
 qf-index-requires : tie.Need-qf-index-requires
 qf-index-requires c κs = search needs
 
--- src/index.rt:123:9
 lf-index-of-requires : tie.Need-lf-index-of-requires
 lf-index-of-requires c κs = search needs
 
--- src/index.rt:124:20
 array-read-used : tie.Need-array-read-used
 array-read-used c = search needs
 
--- src/index.rt:124:15
 used-requires : tie.Need-used-requires
 used-requires c κs = search needs
 
--- src/index.rt:124:15
 add-qfs : tie.Need-add-qfs
 add-qfs c = search needs
 
--- src/index.rt:125:9
 lf-size-requires : tie.Need-lf-size-requires
 lf-size-requires c κs = search needs
 
--- src/index.rt:126:9
 context-at-requires : tie.Need-context-at-requires
 context-at-requires c κs = search needs
 
--- src/index.rt:127:9
 context-at-requires-2 : tie.Need-context-at-requires-2
 context-at-requires-2 c κs = search needs
 
--- src/index.rt:128:9
 context-at-requires-3 : tie.Need-context-at-requires-3
 context-at-requires-3 c κs = search needs
 
--- src/index.rt:108:1
 returns : tie.Need-returns
 returns c =
     let sizes = c .before .before .before .before .before .before in
@@ -61,7 +42,7 @@ returns c =
     let a = index .before .before .before .before .args in
     let C = lists 0 (a .t1) (a .lf-thresholds .now) (a .qf-thresholds .now) (a .block-ctx-map .now) in
     let n = getD (a .t1) in
-    let size = lf-size-is (a .lf-thresholds .now) (n 0 0) (n 1 0) (n 2 0) (a .q0) (a .q1) (a .q2) 0 0 0 0 0 (omega arith) in
+    let size = lf-size-is (a .lf-thresholds .now) (n 0 0) (n 1 0) (n 2 0) (omega arith) in
     contexts-are C (a .order) (a .hf-mul) (a .lf-there) (a .q0) (a .q1) (a .q2)
     (sizes .before .used .result + 1) (sizes .lf-size .result) (index .before .before .qf-index .result) (index .lf-index-of .result)
     (c .before .before .before .before .context-at .result) (c .before .before .context-at2 .result) (c .context-at3 .result)

@@ -3,75 +3,59 @@ use Rattle.block_context.specs.Contexts.{placeOf}
 use Rattle.block_context.specs.Laws.{place-le, place-ge}
 use borrow.Author.Needs.{needs}
 use native.Mathlib.Omega.{arith}
-use mathlib.Core.Path.{_≡_, _∙_, ap, sym}
-use mathlib.Core.List.{_++_}
-use Prim.Native.Nat.{ℕ, _≤_, _<_, _-_, _+_, _*_}
-use lib.ListN.{length, getD, take, drop, set, length-set}
+use mathlib.Core.Path.{sym}
+use Prim.Native.Nat.{_-_, _+_, _*_}
 use Rattle.block_context.proofs.index.context_at.Statement.{statement}
 use Rattle.block_context.proofs.index.context_at.Tie as tie
-use Rattle.block_context.proofs.index.context_at.Reads as reads
-use Rattle.block_context.proofs.index.context_at.Lts as lts
-use Rattle.block_context.proofs.index.wide.Reads as wide-reads
 
--- src/index.rt:86:9
 returns : tie.Need-returns
 returns c =
     let a = c .before .before .args in
     let k = place-ge (a .qf-size) (a .lf-size) (a .n) (a .order) (a .qf) (a .lf) (omega arith) (omega arith) in
     sym (List·getD-eq-default (a .block-ctx-map .now) 0 {n = placeOf (a .qf-size) (a .lf-size) (a .n) (a .order) (a .qf) (a .lf)} (omega arith))
 
--- src/index.rt:88:19
 mul-index : tie.Need-mul-index
 mul-index c = search needs
 
--- src/index.rt:88:19
 add-index : tie.Need-add-index
 add-index c = search needs
 
--- src/index.rt:88:18
 mul-index-2 : tie.Need-mul-index-2
 mul-index-2 c =
     let a = c .before .before .args in
     omega
     (arith, place-le {qfs = a .qf-size} {lfs = a .lf-size} {n = a .n} {order = a .order} {qf = a .qf} (omega arith) (omega arith) (omega arith) (omega arith) (omega arith))
 
--- src/index.rt:88:18
 add-index-2 : tie.Need-add-index-2
 add-index-2 c =
     let a = c .before .before .args in
     omega
     (arith, place-le {qfs = a .qf-size} {lfs = a .lf-size} {n = a .n} {order = a .order} {qf = a .qf} (omega arith) (omega arith) (omega arith) (omega arith) (omega arith))
 
--- src/index.rt:88:17
 mul-index-3 : tie.Need-mul-index-3
 mul-index-3 c =
     let a = c .before .before .args in
     omega
     (arith, place-le {qfs = a .qf-size} {lfs = a .lf-size} {n = a .n} {order = a .order} {qf = a .qf} (omega arith) (omega arith) (omega arith) (omega arith) (omega arith))
 
--- src/index.rt:88:17
 add-index-3 : tie.Need-add-index-3
 add-index-3 c =
     let a = c .before .before .args in
     omega
     (arith, place-le {qfs = a .qf-size} {lfs = a .lf-size} {n = a .n} {order = a .order} {qf = a .qf} (omega arith) (omega arith) (omega arith) (omega arith) (omega arith))
 
--- src/index.rt:90:9
 returns-2 : tie.Need-returns-2
 unfolding placeOf
 returns-2 c =
     let a = c .before .before .before .args in
     sym (List·getD-eq-default (a .block-ctx-map .now) 0 {n = ((a .n * 13 + a .order) * a .qf-size + a .qf) * a .lf-size + a .lf} (omega arith))
 
--- src/index.rt:92:10
 shared-slice-read-wide : tie.Need-shared-slice-read-wide
 shared-slice-read-wide c = search needs
 
--- src/index.rt:92:5
 wide-requires : tie.Need-wide-requires
 wide-requires c κs = search needs
 
--- src/index.rt:81:1
 returns-3 : tie.Need-returns-3
 unfolding placeOf
 returns-3 c = c .wide .ensures

@@ -1,32 +1,21 @@
 use borrow.Author.Tests.{lt-ltb, le-ltb}
-use Prim.Native.Nat.{_%_, _^_}
+use Prim.Native.Nat.{_%_, _^_, _-_, _+_}
 use borrow.Author.Needs.{needs}
 use native.Mathlib.Omega.{arith}
-use mathlib.Core.Path.{_≡_, _∙_, ap, sym}
-use mathlib.Core.List.{_++_}
-use Prim.Native.Nat.{ℕ, _≤_, _<_, _-_, _+_, _*_}
-use lib.ListN.{length, getD, take, drop, set, length-set}
 use Rattle.block_context.proofs.index.one_if_greater.Statement.{statement}
 use Rattle.block_context.proofs.index.one_if_greater.Tie as tie
-use Rattle.block_context.proofs.index.one_if_greater.Reads as reads
-use Rattle.block_context.proofs.index.one_if_greater.Lts as lts
-use Rattle.std.proofs.num.wrapping_add_u32.Reads as wrapping-add-u32-reads
 
--- src/index.rt:13:8
 wrapping-add-u32-requires : tie.Need-wrapping-add-u32-requires
 wrapping-add-u32-requires c κs = search needs
 
--- src/index.rt:13:52
 wrapping-add-u32-requires-2 : tie.Need-wrapping-add-u32-requires-2
 wrapping-add-u32-requires-2 c κs = search needs
 
--- src/index.rt:14:9
 returns : tie.Need-returns
 returns c =
     let a = c .before .before .before .args in
     rw (lt-ltb ((a .b + 2 ^ 31) % 2 ^ 32) ((a .a + 2 ^ 31) % 2 ^ 32) (omega arith))
 
--- src/index.rt:10:1
 returns-2 : tie.Need-returns-2
 returns-2 c =
     let a = c .before .before .before .args in

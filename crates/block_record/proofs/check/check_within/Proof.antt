@@ -1,12 +1,11 @@
-use mathlib.Core.Path.{_≡_, _∙_, sym}
+use lib.ListN.{length}
+use mathlib.Core.Path.{_∙_, sym}
 use borrow.Author.Tests.{not-true, not-false}
 use Rattle.block_record.specs.Laws.{in-limits, lengths-fit, check-size, check-length, check-fault, check-fine}
 use borrow.Author.Needs.{needs}
 use native.Mathlib.Omega.{arith}
 use Rattle.block_record.proofs.check.check_within.Statement.{statement}
 use Rattle.block_record.proofs.check.check_within.Tie as tie
-use Rattle.block_record.proofs.check.check_within.Reads as reads
-use Rattle.block_record.proofs.check.check_within.Lts as lts
 
 in-limits-requires : tie.Need-in-limits-requires
 in-limits-requires c κs = search needs
@@ -32,7 +31,7 @@ is-layout-requires : tie.Need-is-layout-requires
 is-layout-requires c κs =
     let a = c .before .before .before .before .before .before .args in
     let s = in-limits (a .limit) (a .wide) (a .high) (sym (c .before .before .before .in-limits .ensures) ∙ not-false (c .before .before .before .in-limits .result) (c .before .before .if1 .left)) in
-    let l = lengths-fit (a .wide) (a .high) (a .kinds .now) (a .muls .now) (sym (c .before .lengths-fit .ensures) ∙ not-false (c .before .lengths-fit .result) (c .if2 .left)) in
+    let l = lengths-fit (a .wide) (a .high) (length (a .kinds .now)) (length (a .muls .now)) (sym (c .before .lengths-fit .ensures) ∙ not-false (c .before .lengths-fit .result) (c .if2 .left)) in
     (omega arith, omega arith, l .0, l .1)
 
 returns-3 : tie.Need-returns-3

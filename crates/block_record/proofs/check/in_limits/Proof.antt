@@ -1,11 +1,6 @@
 use Rattle.block_record.specs.Calls.{inLimits}
 use borrow.Author.Tests.{le-leb, lt-leb}
-use borrow.Author.Needs.{needs}
 use native.Mathlib.Omega.{arith}
-use mathlib.Core.Path.{_≡_, _∙_, ap, sym}
-use mathlib.Core.List.{_++_}
-use Prim.Native.Nat.{ℕ, _≤_, _<_, _-_, _+_, _*_}
-use lib.ListN.{length, getD, take, drop, set, length-set}
 use Rattle.block_record.proofs.check.in_limits.Statement.{statement}
 use Rattle.block_record.proofs.check.in_limits.Tie as tie
 

@@ -3,10 +3,9 @@ use Rattle.layout.specs.WalkSteps.{clear-start, clear-step, clear-end}
 use borrow.Author.Tests.{le-leb, lt-leb}
 use borrow.Author.Needs.{needs}
 use native.Mathlib.Omega.{arith}
-use mathlib.Core.Path.{_≡_, _∙_, ap, sym}
-use mathlib.Core.List.{_++_}
-use Prim.Native.Nat.{ℕ, _≤_, _<_, _-_, _+_, _*_}
-use lib.ListN.{length, getD, take, drop, set, length-set}
+use mathlib.Core.Path.{_≡_, _∙_, sym}
+use Prim.Native.Nat.{_≤_, _-_, _+_}
+use lib.ListN.{getD}
 use Rattle.block_record.proofs.check.is_clear.Statement.{statement}
 use Rattle.block_record.proofs.check.is_clear.Tie as tie
 

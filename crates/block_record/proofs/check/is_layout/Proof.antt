@@ -1,4 +1,4 @@
-use mathlib.Core.Path.{_≡_, _∙_, sym, refl}
+use mathlib.Core.Path.{_≡_, _∙_, sym}
 use Prim.Native.Nat.{_-_, _≤_}
 use lib.Arith.{digits-lt}
 use borrow.Author.Tests.{not-true, not-false}
@@ -9,8 +9,6 @@ use borrow.Author.Needs.{needs}
 use native.Mathlib.Omega.{arith}
 use Rattle.block_record.proofs.check.is_layout.Statement.{statement}
 use Rattle.block_record.proofs.check.is_layout.Tie as tie
-use Rattle.block_record.proofs.check.is_layout.Reads as reads
-use Rattle.block_record.proofs.check.is_layout.Lts as lts
 
 abbrev Inv-loop2 : tie.InvT-loop2
 Inv-loop2 bw bh kinds muls until₀ y x₀ until x = (x ≤ bw) × (isLayout bw bh kinds muls ≡ cellsLeft kinds muls bw bh y x until)

@@ -2,10 +2,8 @@ use Rattle.layout.specs.Grid.{paint}
 use Rattle.layout.specs.WalkSteps.{paint-start, paint-step, paint-end}
 use borrow.Author.Needs.{needs}
 use native.Mathlib.Omega.{arith}
-use mathlib.Core.Path.{_≡_, _∙_, ap, sym}
-use mathlib.Core.List.{_++_}
-use Prim.Native.Nat.{ℕ, _≤_, _<_, _-_, _+_, _*_}
-use lib.ListN.{length, getD, take, drop, set, length-set}
+use mathlib.Core.Path.{_≡_, _∙_, sym}
+use Prim.Native.Nat.{_≤_, _-_, _+_}
 use Rattle.block_record.proofs.check.raise.Statement.{statement}
 use Rattle.block_record.proofs.check.raise.Tie as tie
 

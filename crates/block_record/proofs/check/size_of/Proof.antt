@@ -1,11 +1,9 @@
-use mathlib.Core.Path.{_≡_, _∙_, ap, sym}
+use mathlib.Core.Path.{_∙_, ap, sym}
 use Prim.Native.Nat.{_-_}
 use Rattle.block_record.specs.Sizes.{sizeBy, size-at}
 use borrow.Author.Needs.{needs}
 use Rattle.block_record.proofs.check.size_of.Statement.{statement}
 use Rattle.block_record.proofs.check.size_of.Tie as tie
-use Rattle.block_record.proofs.check.size_of.Reads as reads
-use Rattle.block_record.proofs.check.size_of.Lts as lts
 
 sub-from-number : tie.Need-sub-from-number
 sub-from-number c = search needs

@@ -1,18 +1,15 @@
 use mathlib.Core.Path.{_≡_, _∙_, ap, sym}
-use mathlib.Core.Bool.{true}
-use Prim.Native.Nat.{ℕ, _+_, _-_, _≤_}
+use Prim.Native.Nat.{ℕ, _+_}
 use borrow.Author.Tests.{not-true, not-false}
 use Rattle.dct_select.specs.declared.Sides.{Sides}
 use Rattle.layout.specs.Kinds.{wideOf, highOf}
 use Rattle.layout.specs.Grid.{paint}
-use Rattle.layout.specs.Check.{Until, clear, fitting}
+use Rattle.layout.specs.Check.{Until, clear}
 use Rattle.layout.specs.CheckLaws.{fitting-fits, visit-not-one, visit-one, visit-small, visit-unfit, visit-unclear, visit-raised}
 use borrow.Author.Needs.{needs}
 use native.Mathlib.Omega.{arith}
 use Rattle.block_record.proofs.check.visit_cell.Statement.{statement}
 use Rattle.block_record.proofs.check.visit_cell.Tie as tie
-use Rattle.block_record.proofs.check.visit_cell.Reads as reads
-use Rattle.block_record.proofs.check.visit_cell.Lts as lts
 
 mul-if1 : tie.Need-mul-if1
 mul-if1 c = search needs

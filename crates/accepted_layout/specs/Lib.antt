@@ -1,0 +1,5 @@
+-- theorems over the layout call's definition
+pub mod Took
+pub mod Puts
+pub mod Accepted
+pub mod Theorems

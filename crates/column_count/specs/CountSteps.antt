@@ -1,0 +1,56 @@
+-- The column count call as the code goes: one law for each way out.
+use mathlib.Core.Path.{_≡_, refl, ap, sym, _∙_}
+use mathlib.Core.Bool.{Bool, true, false}
+use mathlib.Core.List.{List}
+use Prim.Native.Nat.{ℕ, _+_, _*_, _≤_, min}
+use native.Mathlib.Nat.{mul-le-mul}
+use native.Mathlib.Omega.{arith}
+use Rattle.refusal.specs.Said.{at}
+use Rattle.bits.specs.declared.Got.{Got}
+use Rattle.bits.specs.declared.Got.the-variants as got
+use Rattle.bits.specs.declared.Place.{Place}
+use Rattle.bits.specs.Bits.{Read, Value, Ended, readBits}
+use Rattle.bits.specs.Reads.{gotOf, placeAt, passed}
+use Rattle.bits.specs.Laws.{WasValue, was-value, WasEnd, was-end, value-at, ended-at}
+use Rattle.bits.specs.Exponent.{exponent, exponent-least}
+use Rattle.lf_group.specs.Blocks.{sizeFits, modesFit, wideIn, highIn}
+use Rattle.lf_group.specs.Bounds.{wide-most, high-most}
+use Rattle.column_count.specs.Count.{Counted, count, refused, plusOne, fieldBits, countOf}
+
+module _ (width height : ℕ) (modes bytes : List ℕ) where
+  pub count-size : sizeFits width height ≡ false → refused (at 2 0 0) ≡ countOf width height modes bytes
+  unfolding countOf
+  count-size a = rw a
+
+  pub count-modes : sizeFits width height ≡ true → modesFit modes ≡ false → refused (at 11 0 0) ≡ countOf width height modes bytes
+  unfolding countOf
+  count-modes a b = rw (a, b)
+
+  module _ (a : sizeFits width height ≡ true) (b : modesFit modes ≡ true) where
+    pub most-blocks : highIn height modes * wideIn width modes ≤ 65536
+    most-blocks = mul-le-mul (high-most width height a modes) (wide-most width height a modes)
+
+    few-bits : fieldBits width height modes ≤ 16
+    few-bits = exponent-least (highIn height modes * wideIn width modes) 16 most-blocks
+
+    -- the field was read from the first bit on
+    module _ (n : ℕ) (p : Place) (g : Got) (c : n ≡ fieldBits width height modes) (d : p ≡ placeAt 0) (e : g ≡ gotOf (passed p) (readBits bytes (passed p) (min n 32))) where
+      whole : g ≡ gotOf 0 (readBits bytes 0 n)
+      whole = let f = few-bits in let m : min n 32 ≡ n = omega arith in e ∙ rw (d, m)
+
+      read : countOf width height modes bytes ≡ plusOne (readBits bytes 0 n)
+      unfolding countOf
+      read = rw (a, b, c)
+
+      pub count-value : (v : ℕ) (q : Place) → g ≡ got.Value v q → count (1 + v) n ≡ countOf width height modes bytes
+      count-value v q f =
+          let w = was-value 0 (readBits bytes 0 n) v q (sym whole ∙ f) in
+          let l = value-at bytes 0 n v (w .at) (w .is) in
+          let k : n ≡ w .at = omega arith in
+          ap (λ (i : ℕ). count (1 + v) i) k ∙ sym (read ∙ ap plusOne (w .is))
+
+      pub count-end : (k : ℕ) → g ≡ got.End k → refused (at 3 0 0) ≡ countOf width height modes bytes
+      count-end k f =
+          let w = was-end 0 (readBits bytes 0 n) k (sym whole ∙ f) in
+          let l : 0 ≡ w .at = sym (ended-at bytes 0 n (w .at) (w .is)) in
+          ap (λ (i : ℕ). refused (at 3 i 0)) l ∙ sym (read ∙ ap plusOne (w .is))

@@ -1,0 +1,63 @@
+-- Filter strength of a block (document 01, Layout and filter strength): in f32, each step rounded once,
+-- multiplier × 65536, / scale, / hf_mul, × look-up[sharpness].
+use mathlib.Core.Path.{_≡_, refl}
+use mathlib.Core.Bool.{Bool, true, false}
+use mathlib.Core.List.{List, [], _∷_}
+use Prim.Native.Nat.{ℕ}
+use lib.IntN.{ℤ, pos, negsuc}
+use lib.ListN.{getD}
+use lib.Ieee.{Float, fin, nan, binary32, mul, div, ofInt, round, size, span, climb, units, odd}
+use lib.Count.{trailingZeros}
+use Rattle.filter_strength.specs.declared.Filter.{Filter}
+use Rattle.filter_strength.specs.declared.Filter.the-variants.{Off, On}
+
+-- +0.0, 65536 and the nearest f32 to a whole number, ties to even
+abbrev pub zero32 : Float
+zero32 = fin false 0 (pos 0)
+
+abbrev pub two16 : Float
+two16 = fin false 1 (pos 16)
+
+abbrev pub nearest : ℕ → Float
+nearest n = ofInt binary32 (pos n)
+
+-- multiplier × 65536, / scale
+abbrev pub scaled : Float → ℕ → Float
+scaled m scale = div binary32 (mul binary32 m two16) (nearest scale)
+
+-- / hf_mul
+abbrev pub shared : Float → ℕ → Float
+shared a h = div binary32 a (nearest h)
+
+-- × look-up[sharpness]
+abbrev pub looked : Float → List Float → ℕ → Float
+looked q lookups sharpness = mul binary32 q (getD lookups sharpness nan)
+
+-- all four steps; filter off: +0.0
+unfoldable pub sigmaOf : Filter → ℕ → ℕ → List Float → ℕ → Float
+sigmaOf Off scale h lookups sharpness = zero32
+sigmaOf (On m) scale h lookups sharpness = looked (shared (scaled m scale) h) lookups sharpness
+
+-- the steps on a filter, off staying off
+unfoldable pub scaledFilter : Filter → ℕ → Filter
+scaledFilter Off scale = Off
+scaledFilter (On m) scale = On (scaled m scale)
+
+unfoldable pub sharedFilter : Filter → ℕ → Filter
+sharedFilter Off h = Off
+sharedFilter (On a) h = On (shared a h)
+
+-- M7: multiplier 0.5, scale 32,768, hf_mul 4, look-up 2.0 give 0.5
+pub m7 : sigmaOf (On (fin false 1 (negsuc 0))) 32768 4 (fin false 1 (pos 1) ∷ []) 0 ≡ fin false 1 (negsuc 0)
+unfolding sigmaOf mul div ofInt round size span climb units odd trailingZeros
+m7 = refl
+
+-- M8: hf_mul 16,777,217 becomes 16,777,216
+pub m8 : nearest 16777217 ≡ fin false 1 (pos 24)
+unfolding ofInt round size span climb units odd trailingZeros
+m8 = refl
+
+-- ties go to even, upwards too: 16,777,219 becomes 16,777,220
+pub tie-up : nearest 16777219 ≡ fin false 4194305 (pos 2)
+unfolding ofInt round size span climb units odd trailingZeros
+tie-up = refl

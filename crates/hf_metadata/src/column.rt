@@ -1,0 +1,160 @@
+// The columns of a layout, placed one after the other.
+use crate::rectangle::Fault;
+use crate::rectangle::scan;
+use dct_select::Looked;
+use dct_select::TransformType;
+use filter_strength::Filter;
+use refusal::Refusal;
+ghost use mathlib.Core.Path.{_≡_};
+ghost use Prim.Native.Nat.{_+_, _*_, _≤_, _<_};
+ghost use lib.ListN.{length};
+ghost use Rattle.hf_metadata.specs.Columns.{lowBits, hfMulOf};
+ghost use Rattle.hf_metadata.specs.Reading.{Going, place as placeOf, visit as visitOf};
+ghost use Rattle.hf_metadata.specs.Judged.{judgedOf};
+ghost use Rattle.hf_metadata.specs.Places.{stateOf, stepped, jobWith};
+
+// What a column asks for: the kind of its corner, hf_mul, and the blocks across and down.
+pub struct Varblock {
+    kind: u8,
+    hf_mul: u32,
+    wide: usize,
+    high: usize,
+}
+
+// A column by itself at a block: it asks for a varblock inside a square of 32 x 32 blocks, or is refused.
+pub enum Judged {
+    Asks(Varblock),
+    Refused(Refusal),
+}
+
+// The reading goes on with that many columns used, or stops.
+pub enum Step {
+    Going(usize),
+    Stopped(Refusal),
+}
+
+// The type's low eight bits, hf_mul = mul + 1, and the borders, in turn.
+fn judge(transform: u32, mul: u32, x: usize, y: usize) -> Judged
+    requires { ⌜ (x ≤ 256) × (y ≤ 256) ⌝ }
+    ensures { λ r. ⌜ r ≡ judgedOf (lowBits transform) (hfMulOf mul) x y ⌝ }
+{
+    let t = transform % 256;
+    let looked = TransformType::from_number(t);
+    let Looked::Known(known) = looked else {
+        return Judged::Refused(Refusal::UnknownTransform(x, y));
+    };
+    let hf_mul = std::num::wrapping_add_u32(mul, 1);
+    if hf_mul < 1 {
+        return Judged::Refused(Refusal::HfMul(x, y));
+    }
+    if 2147483648 <= hf_mul {
+        return Judged::Refused(Refusal::HfMul(x, y));
+    }
+    let sides = known.dct_select_size();
+    let wide = sides.wide;
+    let high = sides.high;
+    if 32 < x % 32 + wide {
+        return Judged::Refused(Refusal::Border(x, y));
+    }
+    if 32 < y % 32 + high {
+        return Judged::Refused(Refusal::Border(x, y));
+    }
+    let kind = (2 + t) as u8;
+    Judged::Asks(Varblock {
+        kind,
+        hf_mul,
+        wide,
+        high,
+    })
+}
+
+// A varblock at the free block (x, y). A refusal hands back the free block, not the cell.
+fn place(
+    kinds: &mut [u8],
+    hf_mul: &mut [u32],
+    sigma: &mut [f32],
+    sharpness: &[u32],
+    lookups: &[f32; 8],
+    filter: Filter,
+    bw: usize,
+    bh: usize,
+    v: Varblock,
+    used: usize,
+    x: usize,
+    y: usize,
+) -> Step
+    requires { ⌜ (length (now kinds) ≡ bh * bw) × (length (now «hf_mul») ≡ bh * bw) × (length (now sigma) ≡ bh * bw) × (length (now sharpness) ≡ bh * bw) × (bw ≤ 256) × (bh ≤ 256) × (v .wide ≤ 32) × (v .high ≤ 32) × (x < bw) × (y < bh) × (used < 18446744073709551615) ⌝ }
+    ensures { λ r. ⌜ stepped r (now (kinds .exit)) (now («hf_mul» .exit)) (now (sigma .exit)) ≡ placeOf bw bh filter (now (lookups .entry)) (now (sharpness .entry)) (v .kind) (v .«hf_mul») (v .wide) (v .high) x y (stateOf used (now (kinds .entry)) (now («hf_mul» .entry)) (now (sigma .entry))) ⌝ }
+{
+    let share = filter.shared_by(v.hf_mul);
+    let fault = scan(
+        kinds,
+        sigma,
+        sharpness,
+        lookups,
+        share,
+        bw,
+        bh,
+        x,
+        y,
+        v.wide,
+        v.high,
+    );
+    match fault {
+        Fault::Outside(_, _) => Step::Stopped(Refusal::Outside(x, y)),
+        Fault::Overlap(_, _) => Step::Stopped(Refusal::Overlap(x, y)),
+        Fault::Sharpness(_, _) => Step::Stopped(Refusal::Sharpness(x, y)),
+        Fault::Clear => {
+            let i = y * bw + x;
+            kinds[i] = v.kind;
+            hf_mul[i] = v.hf_mul;
+            Step::Going(used + 1)
+        }
+    }
+}
+
+// The block (x, y): passed over where it is taken, else it takes the next column.
+pub(crate) fn visit(
+    kinds: &mut [u8],
+    hf_mul: &mut [u32],
+    sigma: &mut [f32],
+    types: &[u32],
+    muls: &[u32],
+    sharpness: &[u32],
+    lookups: &[f32; 8],
+    filter: Filter,
+    bw: usize,
+    bh: usize,
+    used: usize,
+    x: usize,
+    y: usize,
+) -> Step
+    requires { ⌜ (length (now kinds) ≡ bh * bw) × (length (now «hf_mul») ≡ bh * bw) × (length (now sigma) ≡ bh * bw) × (length (now sharpness) ≡ bh * bw) × (length (now muls) ≡ length (now types)) × (bw ≤ 256) × (bh ≤ 256) × (x < bw) × (y < bh) ⌝ }
+    ensures { λ r. ⌜ stepped r (now (kinds .exit)) (now («hf_mul» .exit)) (now (sigma .exit)) ≡ visitOf (jobWith bw bh (now (types .entry)) (now (muls .entry)) (now (sharpness .entry)) filter (now (lookups .entry))) x y (Going (stateOf used (now (kinds .entry)) (now («hf_mul» .entry)) (now (sigma .entry)))) ⌝ }
+{
+    let i = y * bw + x;
+    if 0 < kinds[i] {
+        return Step::Going(used);
+    }
+    if types.len() <= used {
+        return Step::Stopped(Refusal::ColumnsEnd(x, y));
+    }
+    let judged = judge(types[used], muls[used], x, y);
+    match judged {
+        Judged::Refused(why) => Step::Stopped(why),
+        Judged::Asks(v) => place(
+            kinds,
+            hf_mul,
+            sigma,
+            sharpness,
+            lookups,
+            filter,
+            bw,
+            bh,
+            v,
+            used,
+            x,
+            y,
+        ),
+    }
+}

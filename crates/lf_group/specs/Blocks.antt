@@ -1,0 +1,39 @@
+-- The size of an LF group in pixels and in blocks (document 01, Layout and filter strength).
+use mathlib.Core.Bool.{Bool, true, false, cond, _&&_, _||_}
+use mathlib.Core.List.{List}
+use Prim.Native.Nat.{ℕ, _+_, _*_, _/_}
+use lib.Dec.{leb, eqb}
+use lib.ListN.{getD}
+use Rattle.lf_group.specs.declared.Blocks.{Blocks}
+
+-- width and height, 1 to 2,048
+abbrev pub sizeFits : ℕ → ℕ → Bool
+sizeFits width height = leb 1 width && leb width 2048 && leb 1 height && leb height 2048
+
+-- three upsampling modes 0 to 3
+abbrev pub modesFit : List ℕ → Bool
+modesFit modes = leb (getD modes 0 0) 3 && leb (getD modes 1 0) 3 && leb (getD modes 2 0) 3
+
+abbrev pub isEither : ℕ → ℕ → ℕ → Bool
+isEither mode a b = eqb mode a || eqb mode b
+
+-- one of the modes is a or b
+abbrev pub anyEither : List ℕ → ℕ → ℕ → Bool
+anyEither modes a b = isEither (getD modes 0 0) a b || isEither (getD modes 1 0) a b || isEither (getD modes 2 0) a b
+
+-- pixels divided by 8, rounded up
+abbrev pub blocks : ℕ → ℕ
+blocks pixels = (pixels + 7) / 8
+
+abbrev pub evenIf : Bool → ℕ → ℕ
+evenIf even n = cond even ((n + 1) / 2 * 2) n
+
+-- bw is made even if a mode is 1 or 2, bh if one is 1 or 3
+unfoldable pub wideIn : ℕ → List ℕ → ℕ
+wideIn width modes = evenIf (anyEither modes 1 2) (blocks width)
+
+unfoldable pub highIn : ℕ → List ℕ → ℕ
+highIn height modes = evenIf (anyEither modes 1 3) (blocks height)
+
+abbrev pub blocksOf : ℕ → ℕ → List ℕ → Blocks
+blocksOf width height modes = record { bw = wideIn width modes; bh = highIn height modes }

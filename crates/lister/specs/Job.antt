@@ -1,0 +1,57 @@
+-- The lister's job (document 01, The lister): command bytes 10 size, 11 column, 00 end, hexadecimal; numbers little-endian.
+use mathlib.Core.Bool.{Bool, true, false, cond, _&&_}
+use mathlib.Core.List.{List}
+use Prim.Native.Nat.{ℕ, zero, suc, _+_, _*_}
+use lib.Dec.{leb, eqb}
+use lib.ListN.{length, getD}
+use Rattle.laws.specs.Lists.{tabulate}
+
+module _ (s : List ℕ) where
+  -- 16 and 32 bits from byte i on
+  abbrev pub number16 : ℕ → ℕ
+  number16 i = getD s i 0 + 256 * getD s (i + 1) 0
+
+  abbrev pub number32 : ℕ → ℕ
+  number32 i = number16 i + 65536 * number16 (i + 2)
+
+  -- the size record is there: a command byte and two 16-bit numbers, at most 512 pixels each
+  abbrev pub width : ℕ
+  width = number16 1
+
+  abbrev pub height : ℕ
+  height = number16 3
+
+  abbrev pub hasSize : Bool
+  hasSize = leb 5 (length s) && eqb (getD s 0 0) 0x10 && leb width 512 && leb height 512
+
+  -- column k, its 9 bytes: a command byte, type and mul
+  abbrev pub columnPlace : ℕ → ℕ
+  columnPlace k = 5 + 9 * k
+
+  abbrev pub isColumn : ℕ → Bool
+  isColumn k = leb (columnPlace k + 9) (length s) && eqb (getD s (columnPlace k) 0) 0x11
+
+  abbrev pub typeAt : ℕ → ℕ
+  typeAt k = number32 (columnPlace k + 1)
+
+  abbrev pub mulAt : ℕ → ℕ
+  mulAt k = number32 (columnPlace k + 5)
+
+  -- whole columns from column k on, at most n of them, counted on from k
+  unfoldable pub countFrom : ℕ → ℕ → ℕ
+  countFrom zero k = k
+  countFrom (suc n) k = cond (isColumn k) (countFrom n (k + 1)) k
+
+  -- at most 4,096
+  abbrev pub columns : ℕ
+  columns = countFrom 4096 0
+
+  abbrev pub types : List ℕ
+  types = tabulate typeAt columns 0
+
+  abbrev pub muls : List ℕ
+  muls = tabulate mulAt columns 0
+
+  -- behind its columns a job ends; what follows is not read
+  abbrev pub hasEnd : Bool
+  hasEnd = leb (columnPlace columns + 1) (length s) && eqb (getD s (columnPlace columns) 0) 0
