@@ -111,6 +111,21 @@ module _ (P : Pass) where
       planBy x y (P .width) (K x y - 2) (M x y) (P .contexts .lengths) (P .contexts .«lf_thresholds») (P .contexts .«qf_thresholds») (P .contexts .«block_ctx_map»)
       (P .lfThere) (P .lf0) (P .lf1) (P .lf2)
 
+-- the varblocks from block x of row y on, and from row y on
+abbrev pub rowsFrom : Pass → ℕ → List layout.Varblock
+rowsFrom P y = cornersFrom (K P) (M P) (P .width) (P .height - y) y
+
+abbrev pub rowFrom : Pass → ℕ → ℕ → List layout.Varblock
+rowFrom P x y = cornersRow (K P) (M P) (P .width - x) x y (rowsFrom P (y + 1))
+
+-- the whole reading
+abbrev pub wholeOf : ℕ → ℕ → List ℕ → Pass → List ℕ → List ℕ → Grids → Reading
+wholeOf shift clusters map P symbols log G = group shift clusters map P (varblocks P) (going symbols 0 log G (zeroRows (P .width)) 0)
+
+-- the symbols of a planned varblock at most
+pub few-is : (P : Pass) (x y at₀ : ℕ) (p : Plan) → p ≡ planAt P x y → K P x y - 2 < 27 → at₀ + 192 * 2 ^ (p .at .log) ≡ at₀ + 192 * (wide (K P x y - 2) * high (K P x y - 2))
+few-is P x y at₀ p e h = rw (e, log-blocks (K P x y - 2) h)
+
 -- one corner
 module _ (P : Pass) (clusters map shift log cells : ℕ) (r : GroupReady P clusters map shift log cells) (x y : ℕ) (hx : x < P .width) (hy : y < P .height) (corner : 2 ≤ K P x y) where
   abbrev t : ℕ
@@ -127,7 +142,7 @@ module _ (P : Pass) (clusters map shift log cells : ℕ) (r : GroupReady P clust
   unfolding itemOf
   items-are = rw (log-blocks t known)
 
-  right : x + wide t ≤ P .width
+  pub right : x + wide t ≤ P .width
   right = fits .inX
 
   bottom : y + high t ≤ P .height
@@ -278,10 +293,10 @@ module _ (shift clusters : ℕ) (stretch₀ : List ℕ) (P : Pass) (symbols : Li
           due R q = ap (group shift clusters stretch₀ P l) (sym (sym (ap (λ (i : List Item). read shift clusters stretch₀ i (going (drop at₀ symbols) at₀ log G (cut (P .width) rows) (d .left))) is) ∙ q)) ∙ d .due
 
           go : (R : Reading) → read shift clusters stretch₀ its (going (drop at₀ symbols) at₀ log G (cut (P .width) rows) (d .left)) ≡ R → Shown (P .width) symbols few w rows₁ log₁ G₁ R → Read w log₁ G₁ whole
-          go (going us at₁ log′ G′ rows′ left) q s = absurd (let a : isStopped w ≡ false = ap isStopped (s .answer) in let z : _≡_ {A = ℕ} 0 1 = cc in omega arith)
+          go (going us at₁ log′ G′ rows′ left) q s = absurd (let a : isStopped w ≡ false = ap isStopped (s .it .answer) in let z : _≡_ {A = ℕ} 0 1 = cc in omega arith)
           go (refused why at₁ log′ G′) q s =
               let f : refused why at₁ log′ G′ ≡ whole = sym (group-refused l why at₁ log′ G′) ∙ due (refused why at₁ log′ G′) q in
-              record { answer = s .answer ∙ ap walkOf f; logged = sym (s .logged) ∙ ap logBy f; cells = sym (s .cells) ∙ ap gridsBy f }
+              record { answer = s .it .answer ∙ ap walkOf f; logged = sym (s .it .logged) ∙ ap logBy f; cells = sym (s .it .cells) ∙ ap gridsBy f }
 
     -- nothing is due any more
     pub due-end : (y : ℕ) → P .height ≤ y → Dues (cornersFrom (K P) (M P) (P .width) (P .height - y) y) at₀ rows log G → Read (Ended at₀) log G whole

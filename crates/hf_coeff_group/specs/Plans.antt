@@ -121,9 +121,9 @@ found t n l e f = go (decLt t 27)
     go (yes h) = let a = number-at t h in ((λ k. (h, sym here ∙ a)), (λ k. absurd (omega (arith, here))))
     go (no h) = let a : numberBy (lookUp t) ≡ 27 = ap numberBy (none-at t (omega arith)) in ((λ k. absurd (omega (arith, here))), (λ k. omega arith))
 
-abbrev pub varblockBy : ℕ → ℕ → Looked → Varblock
-varblockBy x y (Known t) = varblockOf x y (numberOf t)
-varblockBy x y (Refused r) = record { x = x; y = y; wide = 0; log = 0; turn = true }
+abbrev pub varblockBy : ℕ → ℕ → ℕ → Looked → Varblock
+varblockBy x y log (Known t) = record { x = x; y = y; wide = wide (numberOf t); log = log; turn = turns (numberOf t) }
+varblockBy x y log (Refused r) = record { x = x; y = y; wide = 0; log = 0; turn = true }
 
 wide-none : (t : ℕ) → 27 ≤ t → wide t ≡ 0
 unfolding wide TRANSFORMS
@@ -137,7 +137,7 @@ order-none : (t : ℕ) → 27 ≤ t → orderOf t ≡ 0
 unfolding orderOf TRANSFORMS
 order-none t h = ap (λ (r : Row). r .order) (List·getD-eq-default TRANSFORMS (row 0 0 0) {n = t} h)
 
-log-none : (t : ℕ) → 27 ≤ t → logOf t ≡ 0
+pub log-none : (t : ℕ) → 27 ≤ t → logOf t ≡ 0
 unfolding logOf LOG-BLOCKS
 log-none t h = List·getD-eq-default LOG-BLOCKS 0 {n = t} h
 
@@ -151,8 +151,8 @@ turns-none t h = rw (lt-leb t 3 (omega arith), lt-leb t 17 (omega arith), wide-n
     sides false true = refl
     sides false false = refl
 
-pub varblock-at : (x y t : ℕ) (l : Looked) → lookUp t ≡ l → varblockBy x y l ≡ varblockOf x y t
-varblock-at x y t (Known u) e = let f = found t (numberOf u) (Known u) e refl in ap (varblockOf x y) (f .0 (number-lt u) .1)
+pub varblock-at : (x y t : ℕ) (l : Looked) → lookUp t ≡ l → varblockBy x y (logOf t) l ≡ varblockOf x y t
+varblock-at x y t (Known u) e = let f = found t (numberOf u) (Known u) e refl in rw (f .0 (number-lt u) .1)
 varblock-at x y t (Refused r) e =
     let h : 27 ≤ t = found t 27 (Refused r) e refl .1 (omega arith) in
     rw (wide-none t h, log-none t h, turns-none t h)

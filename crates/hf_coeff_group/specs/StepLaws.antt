@@ -79,11 +79,11 @@ module _ (shift clusters : ℕ) (stretch : List ℕ) (c width : ℕ) (it : Item)
       where
         go : (x : Walked) → w ≡ x → Shown width symbols most r rows₁ log₁ G₁ (after c G (set (cut width rows) c (newRow (inChannel c it) (take width (getD rows c [])) (drop at symbols))) left x)
         go (ended us at′ log′ g n) q = absurd (let a : r ≡ Ended at′ = got .answer ∙ ap answerOf q in let z : isStopped r ≡ false = ap isStopped a in let y : _≡_ {A = ℕ} 0 1 = cc in omega arith)
-        go (stopped why at′ log′ g) q = record {
+        go (stopped why at′ log′ g) q = record { it = record {
           answer = got .answer ∙ ap answerOf q;
           logged = sym (got .logged ∙ ap logOf q);
           cells = sym (got .cells ∙ ap (λ (x : Walked). set G c (gridOf x)) q);
-        }
+        } }
 
     -- the walk ended: the count was read, and the row is rewritten
     pub read-count : isStopped r ≡ false → (at < length symbols) × (getD symbols at 0 ≤ 63 * it .blocks)
@@ -124,7 +124,7 @@ module _ (shift clusters : ℕ) (stretch : List ℕ) (c width : ℕ) (it : Item)
             absurd (let a : r ≡ Stopped (why at′) = got .answer ∙ ap answerOf q in let z : isStopped r ≡ true = ap isStopped a in let y : _≡_ {A = ℕ} 0 1 = cc in omega arith)
         go (ended us at′ log′ g n) q k =
             let m = k .most in let t : k .k ≤ length symbols - at = rw (length-drop at symbols) at (k .there) in let f = k .read in let h = read-count e .0 in
-            record {
+            record { it = record {
               answer = got .answer ∙ ap answerOf q;
               rest = k .rest ∙ drop-drop (k .k) at symbols ∙ ap (λ (j : ℕ). drop j symbols) (sym f);
               begins = omega arith;
@@ -134,7 +134,7 @@ module _ (shift clusters : ℕ) (stretch : List ℕ) (c width : ℕ) (it : Item)
               used = rows-are;
               logged = sym (got .logged ∙ ap logOf q);
               cells = sym (got .cells ∙ ap (λ (x : Walked). set G c (gridOf x)) q);
-            }
+            } }
 
 -- an item has 63 places for each block
 pub item-size : (v : Varblock) (width context : ℕ) (order : List ℕ) → length order ≡ 128 * 2 ^ (v .log) → length (itemAt v width context order .places) ≡ 63 * 2 ^ (v .log)
@@ -154,16 +154,16 @@ module _ (width : ℕ) (symbols : List ℕ) where
 
   pub shown-on : (most : ℕ) (w : Walk) (rows : Grids) (log : List ℕ) (G : Grids) (R : Reading) → Shown width symbols most w rows log G R → isStopped w ≡ false → On most w rows log G R
   shown-on most w rows log G (going us at log′ G′ rows′ left) s e =
-      let q : readBy w ≡ at = ap readBy (s .answer) in
+      let q : readBy w ≡ at = ap readBy (s .it .answer) in
       record {
         left = left;
-        is = rw (q, s .rest, s .used, s .logged, s .cells);
-        begins = rw q (s .begins);
-        few = rw q (s .few);
-        fine = s .fine;
+        is = rw (q, s .it .rest, s .it .used, s .it .logged, s .it .cells);
+        begins = rw q (s .it .begins);
+        few = rw q (s .it .few);
+        fine = s .it .fine;
       }
   shown-on most w rows log G (refused why at log′ G′) s e =
-      absurd (let a : isStopped w ≡ true = ap isStopped (s .answer) in let y : _≡_ {A = ℕ} 0 1 = cc in omega arith)
+      absurd (let a : isStopped w ≡ true = ap isStopped (s .it .answer) in let y : _≡_ {A = ℕ} 0 1 = cc in omega arith)
 
   module _ (shift clusters : ℕ) (stretch : List ℕ) where
     refused-stays : (its : List Item) (why : ℕ → Refusal) (at : ℕ) (log : List ℕ) (G : Grids) → read shift clusters stretch its (refused why at log G) ≡ refused why at log G
@@ -175,8 +175,8 @@ module _ (width : ℕ) (symbols : List ℕ) where
     pub shown-stop : (its : List Item) (most more : ℕ) (w : Walk) (rows rows₁ : Grids) (log : List ℕ) (G : Grids) (R : Reading)
         → Shown width symbols most w rows log G R → isStopped w ≡ true → Shown width symbols more w rows₁ log G (read shift clusters stretch its R)
     shown-stop its most more w rows rows₁ log G (going us at log′ G′ rows′ left) s e =
-        absurd (let a : isStopped w ≡ false = ap isStopped (s .answer) in let y : _≡_ {A = ℕ} 0 1 = cc in omega arith)
-    shown-stop its most more w rows rows₁ log G (refused why at log′ G′) s e = rw (refused-stays its why at log′ G′) s
+        absurd (let a : isStopped w ≡ false = ap isStopped (s .it .answer) in let y : _≡_ {A = ℕ} 0 1 = cc in omega arith)
+    shown-stop its most more w rows rows₁ log G (refused why at log′ G′) s e = rw (refused-stays its why at log′ G′) (record { it = s .it })
 
     -- a reading that goes on is taken up where it stands
     pub shown-then : (its : List Item) (most more : ℕ) (w w₁ : Walk) (rows rows₁ : Grids) (log log₁ : List ℕ) (G G₁ : Grids) (R : Reading)
@@ -189,9 +189,9 @@ module _ (width : ℕ) (symbols : List ℕ) where
 
     pub shown-more : (most more : ℕ) (w : Walk) (rows : Grids) (log : List ℕ) (G : Grids) (R : Reading) → most ≤ more → Shown width symbols most w rows log G R → Shown width symbols more w rows log G R
     shown-more most more w rows log G (going us at log′ G′ rows′ left) h s =
-        let f = s .few in
-        record { answer = s .answer; rest = s .rest; begins = s .begins; few = omega arith; fine = s .fine; used = s .used; logged = s .logged; cells = s .cells }
-    shown-more most more w rows log G (refused why at log′ G′) h s = s
+        let f = s .it .few in
+        record { it = record { answer = s .it .answer; rest = s .it .rest; begins = s .it .begins; few = omega arith; fine = s .it .fine; used = s .it .used; logged = s .it .logged; cells = s .it .cells } }
+    shown-more most more w rows log G (refused why at log′ G′) h s = record { it = s .it }
 
     pub read-three : (a b c : Item) (r : Reading) → read shift clusters stretch (a ∷ b ∷ c ∷ []) r ≡ read shift clusters stretch (b ∷ c ∷ []) (item shift clusters stretch a r)
     unfolding read
@@ -230,3 +230,52 @@ item-ready p width clusters map store symbols at shift log cells r n c at₁ row
 pub item-fits : (p : Plan) (width clusters : ℕ) (map store : List ℕ) (symbols at shift log cells : ℕ) → PlanReady p width clusters map store symbols at shift log cells
     → (c : ℕ) (rows : Grids) → c < 3 → Rows rows → ItemFits c (p .at) width rows
 item-fits p width clusters map store symbols at shift log cells r c rows hc f = record { channel = hc; column = r .column; span = r .span; fine = f }
+
+-- what each channel of a planned varblock is asked
+module _ (p : Plan) (width clusters : ℕ) (map store : List ℕ) (symbols at shift log cells : ℕ) (r : PlanReady p width clusters map store symbols at shift log cells) where
+  pub item-asks : (n c at₁ : ℕ) (rows : Grids) (order : List ℕ) (log₁ cells₁ one two : ℕ) → n < 3 → c < 3 → at₁ ≤ symbols → at₁ ≤ at + 128 * 2 ^ (p .at .log) → Rows rows → order ≡ kept.stretch store (p .order) c
+      → log₁ ≡ log → cells₁ ≡ cells → one ≡ cells → two ≡ cells
+      → ItemFits c (p .at) width rows × ItemReady (p .at) width (getD (p .contexts) n 0) clusters map order (getD rows c []) symbols at₁ shift log₁ cells₁ × (one ≡ cells₁) × (two ≡ cells₁)
+  item-asks n c at₁ rows order log₁ cells₁ one two hn hc b m f e el ec e₁ e₂ = (
+    item-fits p width clusters map store symbols at shift log cells r c rows hc f,
+    rw (el, ec) (item-ready p width clusters map store symbols at shift log cells r n c at₁ rows order hn hc b m f e),
+    e₁ ∙ sym ec,
+    e₂ ∙ sym ec,
+  )
+
+-- items in turn
+module _ (width : ℕ) (symbols : List ℕ) (shift clusters : ℕ) (stretch : List ℕ) (i i′ : Item) (e : i ≡ i′) (r : Reading) (most more : ℕ) (w : Walk) (rows : Grids) (log : List ℕ) (G : Grids)
+    (s : Shown width symbols most w rows log G (item shift clusters stretch i r)) where
+  s′ : Shown width symbols most w rows log G (item shift clusters stretch i′ r)
+  s′ = subst (λ (j : Item). Shown width symbols most w rows log G (item shift clusters stretch j r)) e s
+
+  pub first-stop : (its : List Item) (rows₁ : Grids) → isStopped w ≡ true → Shown width symbols more w rows₁ log G (read shift clusters stretch (i′ ∷ its) r)
+  unfolding read
+  first-stop its rows₁ h = shown-stop width symbols shift clusters stretch its most more w rows rows₁ log G (item shift clusters stretch i′ r) s′ h
+
+  pub first-then : (its : List Item) (w₁ : Walk) (rows₁ : Grids) (log₁ : List ℕ) (G₁ : Grids) → isStopped w ≡ false
+      → ((left : ℕ) → Shown width symbols more w₁ rows₁ log₁ G₁ (read shift clusters stretch its (going (drop (readBy w) symbols) (readBy w) log G (cut width rows) left)))
+      → Shown width symbols more w₁ rows₁ log₁ G₁ (read shift clusters stretch (i′ ∷ its) r)
+  unfolding read
+  first-then its w₁ rows₁ log₁ G₁ h k = shown-then width symbols shift clusters stretch its most more w w₁ rows rows₁ log log₁ G G₁ (item shift clusters stretch i′ r) s′ h k
+
+  pub last-shown : most ≤ more → Shown width symbols more w rows log G (read shift clusters stretch (i′ ∷ []) r)
+  unfolding read
+  last-shown h = shown-more width symbols shift clusters stretch most more w rows log G (item shift clusters stretch i′ r) h s′
+
+-- the three channels, each taken up where the one before stands
+pub three-shown : (width : ℕ) (symbols : List ℕ) (shift clusters : ℕ) (stretch : List ℕ) (r : Reading) (i j k i′ j′ k′ : Item) (m₁ m₂ m₃ more : ℕ) (w₁ w₂ w₃ : Walk) (rows₁ rows₂ rows₃ rows : Grids)
+    (log₁ log₂ log₃ : List ℕ) (G₁ G₂ G₃ : Grids) (at₁ at₂ : ℕ) (r₁ r₂ : Grids)
+    → i ≡ i′ → j ≡ j′ → k ≡ k′ → at₁ ≡ readBy w₁ → r₁ ≡ rows₁ → at₂ ≡ readBy w₂ → r₂ ≡ rows₂ → rows ≡ rows₃ → isStopped w₁ ≡ false → isStopped w₂ ≡ false → m₃ ≤ more
+    → Shown width symbols m₁ w₁ rows₁ log₁ G₁ (item shift clusters stretch i r)
+    → ((l : ℕ) → Shown width symbols m₂ w₂ rows₂ log₂ G₂ (item shift clusters stretch j (going (drop at₁ symbols) at₁ log₁ G₁ (cut width r₁) l)))
+    → ((l : ℕ) → Shown width symbols m₃ w₃ rows₃ log₃ G₃ (item shift clusters stretch k (going (drop at₂ symbols) at₂ log₂ G₂ (cut width r₂) l)))
+    → Shown width symbols more w₃ rows log₃ G₃ (read shift clusters stretch (i′ ∷ j′ ∷ k′ ∷ []) r)
+three-shown width symbols shift clusters stretch r i j k i′ j′ k′ m₁ m₂ m₃ more w₁ w₂ w₃ rows₁ rows₂ rows₃ rows log₁ log₂ log₃ G₁ G₂ G₃ at₁ at₂ r₁ r₂ ei ej ek a b c d f go₁ go₂ le s₁ s₂ s₃ =
+    rw f
+    (first-then width symbols shift clusters stretch i i′ ei r m₁ more w₁ rows₁ log₁ G₁ s₁ (j′ ∷ k′ ∷ []) w₃ rows₃ log₃ G₃ go₁ (λ l. rw (← a, ← b)
+    (first-then width symbols shift clusters stretch j j′ ej (going (drop at₁ symbols) at₁ log₁ G₁ (cut width r₁) l) m₂ more w₂ rows₂ log₂ G₂ (s₂ l) (k′ ∷ []) w₃ rows₃ log₃ G₃ go₂ (λ n. rw (← c, ← d)
+    (last-shown width symbols shift clusters stretch k k′ ek (going (drop at₂ symbols) at₂ log₂ G₂ (cut width r₂) n) m₃ more w₃ rows₃ log₃ G₃ (s₃ n) le)))))
+
+pub three-most : (at at₁ at₂ n : ℕ) → at₁ ≤ at + 64 * n → at₂ ≤ at₁ + 64 * n → at₂ + 64 * n ≤ at + 192 * n
+three-most at at₁ at₂ n a b = omega arith

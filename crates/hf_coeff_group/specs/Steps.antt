@@ -70,9 +70,13 @@ pub record Ends (w : Walk) (log : List ℕ) (G : Grids) (why : ℕ → Refusal) 
   pub logged : log′ ≡ log
   pub cells : G′ ≡ G
 
-abbrev pub Shown : ℕ → List ℕ → ℕ → Walk → Grids → List ℕ → Grids → Reading → Type 0
-Shown width symbols most w rows log G (going us at log′ G′ rows′ left) = Going width symbols most w rows log G us at log′ G′ rows′
-Shown width symbols most w rows log G (refused why at log′ G′) = Ends w log G why at log′ G′
+abbrev pub ShownBy : ℕ → List ℕ → ℕ → Walk → Grids → List ℕ → Grids → Reading → Type 0
+ShownBy width symbols most w rows log G (going us at log′ G′ rows′ left) = Going width symbols most w rows log G us at log′ G′ rows′
+ShownBy width symbols most w rows log G (refused why at log′ G′) = Ends w log G why at log′ G′
+
+-- what the code holds of a reading
+pub record Shown (width : ℕ) (symbols : List ℕ) (most : ℕ) (w : Walk) (rows : Grids) (log : List ℕ) (G : Grids) (R : Reading) : Type 0 where
+  pub it : ShownBy width symbols most w rows log G R
 
 -- the grid by the channel
 module _ (c : ℕ) (r : Walk) (log : List ℕ) (walked : List ℕ → Walked) (g0 g1 g2 g′ : List ℕ) where

@@ -8,6 +8,7 @@ ghost use mathlib.Core.Path.{_≡_};
 ghost use Prim.Native.Nat.{_-_, _≤_, _<_};
 ghost use lib.ListN.{getD};
 ghost use Rattle.dct_select.specs.Transforms.{orderOf};
+ghost use Rattle.hf_coeff_group.specs.Sizes.{logOf};
 ghost use Rattle.hf_coeff_group.specs.Plans.{varblockOf, planBy};
 
 // Corner, size and turn, the order's number, and the block contexts of channels 1, 0, 2.
@@ -20,6 +21,24 @@ pub struct Plan {
 // The exponent of each transform's number of blocks.
 const LOG_BLOCKS: [usize; 27] = [0, 0, 0, 0, 2, 4, 1, 1, 2, 2, 3, 3, 0, 0, 0, 0, 0, 0, 6, 5, 5, 8, 7, 7, 10, 9, 9];
 
+fn wide(x: u8) -> usize
+    ensures { λ r. ⌜ r ≡ x ⌝ }
+{
+    x as usize
+}
+
+// The exponent of the number of blocks of a corner's kind.
+fn log_blocks(kind: u8) -> usize
+    requires { ⌜ 2 ≤ kind ⌝ }
+    ensures { λ r. ⌜ r ≡ logOf (kind - 2) ⌝ }
+{
+    let t = wide(kind - 2);
+    if 27 <= t {
+        return 0;
+    }
+    LOG_BLOCKS[t]
+}
+
 // The varblock of a corner's kind.
 pub fn varblock_of(x: usize, y: usize, kind: u8) -> Varblock
     requires { ⌜ 2 ≤ kind ⌝ }
@@ -29,13 +48,13 @@ pub fn varblock_of(x: usize, y: usize, kind: u8) -> Varblock
     match looked {
         Looked::Known(t) => {
             let size = t.dct_select_size();
-            let n = t.number();
             let turn = t.need_transpose();
+            let log = log_blocks(kind);
             Varblock {
                 x,
                 y,
                 wide: size.wide,
-                log: LOG_BLOCKS[n],
+                log,
                 turn,
             }
         }

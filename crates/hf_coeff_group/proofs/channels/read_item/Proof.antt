@@ -1,104 +1,77 @@
 use mathlib.Core.List.{[], _∷_}
-use Prim.Native.Nat.{_^_}
+use Prim.Native.Nat.{_^_, _+_, _*_}
 use lib.Pow.{pow-pos}
 use Rattle.hf_coeff_walk.specs.Items.{itemAt}
 use Rattle.hf_coeff_group.specs.StepLaws.{item-stopped, item-goes, read-count, item-size}
 use borrow.Author.Needs.{needs}
 use native.Mathlib.Omega.{arith}
-use mathlib.Core.Path.{_≡_, _∙_, ap, sym}
-use mathlib.Core.List.{_++_}
-use Prim.Native.Nat.{ℕ, _≤_, _<_, _-_, _+_, _*_}
-use lib.ListN.{length, getD, take, drop, set, length-set}
+use mathlib.Core.Path.{_∙_, sym}
 use Rattle.hf_coeff_group.proofs.channels.read_item.Statement.{statement}
 use Rattle.hf_coeff_group.proofs.channels.read_item.Tie as tie
-use Rattle.hf_coeff_group.proofs.channels.read_item.Reads as reads
-use Rattle.hf_coeff_group.proofs.channels.read_item.Lts as lts
-use Rattle.hf_coeff_group.proofs.channels.walk_channel.Reads as walk-channel-reads
-use Rattle.hf_coeff_group.proofs.channels.wide.Reads as wide-reads
-use Rattle.hf_coeff_group.proofs.is_stopped.Reads as is-stopped-reads
-use Rattle.hf_coeff_walk.proofs.count.count_over.Reads as count-over-reads
 
--- src/channels.rt:85:15
 mul-row : tie.Need-mul-row
 mul-row c = search needs
 
--- src/channels.rt:85:15
 array-copy-out-row : tie.Need-array-copy-out-row
 array-copy-out-row c = search needs
 
--- src/channels.rt:86:9
 walk-channel-requires : tie.Need-walk-channel-requires
 walk-channel-requires c κs = search needs
 
--- src/channels.rt:87:8
 is-stopped-requires : tie.Need-is-stopped-requires
 is-stopped-requires c κs = search needs
 
--- src/channels.rt:88:9
 same-length : tie.Need-same-length
 same-length c = search needs
 
--- src/channels.rt:88:9
 same-length-2 : tie.Need-same-length-2
 same-length-2 c = search needs
 
--- src/channels.rt:88:9
 same-length-3 : tie.Need-same-length-3
 same-length-3 c = search needs
 
--- src/channels.rt:88:9
 same-length-4 : tie.Need-same-length-4
 same-length-4 c = search needs
 
--- src/channels.rt:88:9
 returns : tie.Need-returns
 returns c = 
     let a = c .before .before .before .before .before .before .before .before .before .before .before .before .before .before .before .before .before .before .before .before .before .before .before .args in
     let p = c .before .before .before .before .before .before .before .before .before .before .before .before .before .before .before .before .before .before .before .before .before .before .before .pre in
     item-stopped (a .shift) (a .clusters) (a .map .now) (a .c) (a .width) (itemAt (a .v) (a .width) (a .context) (a .order .now)) (a .t8) (a .symbols .now) (a .at) (a .log .now) (a .g0 .now ∷ a .g1 .now ∷ a .g2 .now ∷ []) (p .0 .channel) (p .0 .column) (p .0 .fine) (a .at + 64 * 2 ^ (a .v .log)) _ _ _ (c .before .before .before .before .before .before .before .before .before .before .walk-channel .ensures) (sym (c .before .is-stopped .ensures) ∙ c .if1 .taken) _
 
--- src/channels.rt:90:33
 mul-wide : tie.Need-mul-wide
 mul-wide c = 
     let a = c .before .before .before .before .before .before .before .before .before .before .before .before .before .before .before .before .before .before .before .before .before .before .before .args in
     let p = c .before .before .before .before .before .before .before .before .before .before .before .before .before .before .before .before .before .before .before .before .before .before .before .pre in
     let k = read-count (a .shift) (a .clusters) (a .map .now) (a .c) (a .width) (itemAt (a .v) (a .width) (a .context) (a .order .now)) (a .t8) (a .symbols .now) (a .at) (a .log .now) (a .g0 .now ∷ a .g1 .now ∷ a .g2 .now ∷ []) (p .0 .channel) (p .0 .column) (p .0 .fine) (a .at + 64 * 2 ^ (a .v .log)) _ _ _ (c .before .before .before .before .before .before .before .before .before .before .walk-channel .ensures) (sym (c .before .is-stopped .ensures) ∙ c .if1 .left) in omega (arith, k .0, c .before .before .before .before .before .before .before .before .before .before .before .before .before .before .before .before .before .before .before .before .before .before .before .good, c .before .before .before .before .before .before .before .before .before .before .before .before .before .before .before .before .before .before .before .before .before .before .before .fits)
 
--- src/channels.rt:90:33
 shared-slice-read-wide : tie.Need-shared-slice-read-wide
 shared-slice-read-wide c = 
     let a = c .before .before .before .before .before .before .before .before .before .before .before .before .before .before .before .before .before .before .before .before .before .before .before .before .args in
     let p = c .before .before .before .before .before .before .before .before .before .before .before .before .before .before .before .before .before .before .before .before .before .before .before .before .pre in
     let k = read-count (a .shift) (a .clusters) (a .map .now) (a .c) (a .width) (itemAt (a .v) (a .width) (a .context) (a .order .now)) (a .t8) (a .symbols .now) (a .at) (a .log .now) (a .g0 .now ∷ a .g1 .now ∷ a .g2 .now ∷ []) (p .0 .channel) (p .0 .column) (p .0 .fine) (a .at + 64 * 2 ^ (a .v .log)) _ _ _ (c .before .before .before .before .before .before .before .before .before .before .before .walk-channel .ensures) (sym (c .before .before .is-stopped .ensures) ∙ c .before .if1 .left) in omega (arith, k .0)
 
--- src/channels.rt:90:28
 wide-requires : tie.Need-wide-requires
 wide-requires c κs = search needs
 
--- src/channels.rt:90:9
 count-over-requires : tie.Need-count-over-requires
 count-over-requires c κs = 
     let a = c .before .before .before .before .before .before .before .before .before .before .before .before .before .before .before .before .before .before .before .before .before .before .before .before .before .args in
     let p = c .before .before .before .before .before .before .before .before .before .before .before .before .before .before .before .before .before .before .before .before .before .before .before .before .before .pre in
     let k = read-count (a .shift) (a .clusters) (a .map .now) (a .c) (a .width) (itemAt (a .v) (a .width) (a .context) (a .order .now)) (a .t8) (a .symbols .now) (a .at) (a .log .now) (a .g0 .now ∷ a .g1 .now ∷ a .g2 .now ∷ []) (p .0 .channel) (p .0 .column) (p .0 .fine) (a .at + 64 * 2 ^ (a .v .log)) _ _ _ (c .before .before .before .before .before .before .before .before .before .before .before .before .walk-channel .ensures) (sym (c .before .before .before .is-stopped .ensures) ∙ c .before .before .if1 .left) in (p .1 .power, rw (c .wide .ensures) (k .1))
 
--- src/channels.rt:65:1
 same-length-5 : tie.Need-same-length-5
 same-length-5 c = search needs
 
--- src/channels.rt:65:1
 same-length-6 : tie.Need-same-length-6
 same-length-6 c = search needs
 
--- src/channels.rt:65:1
 same-length-7 : tie.Need-same-length-7
 same-length-7 c = search needs
 
--- src/channels.rt:65:1
 same-length-8 : tie.Need-same-length-8
 same-length-8 c = search needs
 
--- src/channels.rt:65:1
 returns-2 : tie.Need-returns-2
 returns-2 c = 
     let a = c .before .before .before .before .before .before .before .before .before .before .before .before .before .before .before .before .before .before .before .before .before .before .before .before .before .before .args in

@@ -3,65 +3,47 @@ use Rattle.hf_coeff_walk.specs.Item.{counted}
 use Rattle.hf_coeff_walk.specs.Items.{itemAt}
 use borrow.Author.Needs.{needs}
 use native.Mathlib.Omega.{arith}
-use mathlib.Core.Path.{_≡_, _∙_, ap, sym}
-use mathlib.Core.List.{_++_}
-use Prim.Native.Nat.{ℕ, _≤_, _<_, _-_, _+_, _*_}
-use lib.ListN.{length, getD, take, drop, set, length-set}
+use lib.ListN.{drop}
 use Rattle.hf_coeff_group.proofs.channels.walk_channel.Statement.{statement}
 use Rattle.hf_coeff_group.proofs.channels.walk_channel.Tie as tie
-use Rattle.hf_coeff_group.proofs.channels.walk_channel.Reads as reads
-use Rattle.hf_coeff_group.proofs.channels.walk_channel.Lts as lts
-use Rattle.hf_coeff_walk.proofs.item.read_channel.Reads as read-channel-reads
 
--- src/channels.rt:44:9
 read-channel-requires : tie.Need-read-channel-requires
 read-channel-requires c κs = search needs
 
--- src/channels.rt:44:9
 same-length : tie.Need-same-length
 same-length c = search needs
 
--- src/channels.rt:44:9
 same-length-2 : tie.Need-same-length-2
 same-length-2 c = search needs
 
--- src/channels.rt:44:9
 returns : tie.Need-returns
 returns c = 
     let a = c .before .before .before .before .before .before .before .before .before .before .before .before .before .before .before .args in
     in-first (a .c) _ _ (λ g. counted (a .shift) (a .clusters) (a .map .now) (itemAt (a .v) (a .width) (a .context) (a .order .now)) (a .row) (drop (a .at) (a .symbols .now)) (a .at) (a .log .now) g) (a .g0 .now) (a .g1 .now) (a .g2 .now) _ (omega arith) (c .before .before .before .before .read-channel .ensures)
 
--- src/channels.rt:47:9
 read-channel-requires-2 : tie.Need-read-channel-requires-2
 read-channel-requires-2 c κs = rw (c .before .before .before .before .before .before .before .before .before .before .before .pre .2) (c .before .before .before .before .before .before .before .before .before .before .before .pre .1)
 
--- src/channels.rt:47:9
 same-length-3 : tie.Need-same-length-3
 same-length-3 c = search needs
 
--- src/channels.rt:47:9
 same-length-4 : tie.Need-same-length-4
 same-length-4 c = search needs
 
--- src/channels.rt:47:9
 returns-2 : tie.Need-returns-2
 returns-2 c = 
     let a = c .before .before .before .before .before .before .before .before .before .before .before .before .before .before .before .before .args in
     in-second (a .c) _ _ (λ g. counted (a .shift) (a .clusters) (a .map .now) (itemAt (a .v) (a .width) (a .context) (a .order .now)) (a .row) (drop (a .at) (a .symbols .now)) (a .at) (a .log .now) g) (a .g0 .now) (a .g1 .now) (a .g2 .now) _ (omega arith) (c .before .before .before .before .read-channel2 .ensures)
 
--- src/channels.rt:49:5
 read-channel-requires-3 : tie.Need-read-channel-requires-3
 read-channel-requires-3 c κs = rw (c .before .before .before .before .before .before .before .before .before .before .before .pre .3) (c .before .before .before .before .before .before .before .before .before .before .before .pre .1)
 
--- src/channels.rt:23:1
 same-length-5 : tie.Need-same-length-5
 same-length-5 c = search needs
 
--- src/channels.rt:23:1
 same-length-6 : tie.Need-same-length-6
 same-length-6 c = search needs
 
--- src/channels.rt:23:1
 returns-3 : tie.Need-returns-3
 returns-3 c = 
     let a = c .before .before .before .before .before .before .before .before .before .before .before .before .before .before .before .before .args in
