@@ -4,3 +4,4 @@ pub mod Puts
 pub mod Accepted
 pub mod Theorems
 pub mod Marked
+pub mod Refused

@@ -49,19 +49,19 @@ module _ (i : Inputs) (kinds hfMul : List ℕ) (sigma : List Float) where
   by-reading n (Going p) e f = (p, refl, cc)
 
   -- each way through the tests before work
-  off-size : sizeFits (i .width) (i .height) ≡ false → refuseWith i kinds hfMul sigma 2 ≡ outcome
+  pub off-size : sizeFits (i .width) (i .height) ≡ false → refuseWith i kinds hfMul sigma 2 ≡ outcome
   unfolding layoutOf
   off-size a = rw a
 
-  off-parameters : sizeFits (i .width) (i .height) ≡ true → parametersFit i ≡ false → refuseWith i kinds hfMul sigma 11 ≡ outcome
+  pub off-parameters : sizeFits (i .width) (i .height) ≡ true → parametersFit i ≡ false → refuseWith i kinds hfMul sigma 11 ≡ outcome
   unfolding layoutOf
   off-parameters a b = rw (a, b)
 
-  off-lengths : sizeFits (i .width) (i .height) ≡ true → parametersFit i ≡ true → lengthsFit i kinds hfMul sigma ≡ false → refuseWith i kinds hfMul sigma 1 ≡ outcome
+  pub off-lengths : sizeFits (i .width) (i .height) ≡ true → parametersFit i ≡ true → lengthsFit i kinds hfMul sigma ≡ false → refuseWith i kinds hfMul sigma 1 ≡ outcome
   unfolding layoutOf
   off-lengths a b c = rw (a, b, c)
 
-  works : sizeFits (i .width) (i .height) ≡ true → parametersFit i ≡ true → lengthsFit i kinds hfMul sigma ≡ true → outcomeOf (jobOf i) (reading (jobOf i)) ≡ outcome
+  pub works : sizeFits (i .width) (i .height) ≡ true → parametersFit i ≡ true → lengthsFit i kinds hfMul sigma ≡ true → outcomeOf (jobOf i) (reading (jobOf i)) ≡ outcome
   unfolding layoutOf
   works a b c = rw (a, b, c)
 

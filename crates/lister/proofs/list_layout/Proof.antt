@@ -27,8 +27,8 @@ put-accepted-requires c κs =
     let h = c .before .before .before .before .before .before .before .before .before .before .before .before .before .before .before .before .before .before .before .before .before .before .pre in
     let v = c .before .before .before .before .before .before .before .before .before .before .before .layout in
     let e = v .ensures ∙ listed-is (a .width) (a .height) (a .types .now) (a .muls .now) (a .bw) (a .bh) (a .sharpness .now) (a .kinds .now) (a .hf-mul .now) (a .sigma .now) _ (h .0) (h .1) (h .4) (h .5) (h .6) (h .7) (ap (λ (z : Float). replicate 8 z) zero-bits) in
-    let f = sym (ap (λ (z : LayoutAnswer). leaves z (v .last .1 .1 .1 .0) (v .last .1 .1 .1 .1 .0) (v .last .1 .1 .1 .1 .1 .0)) (c .before .before .before .enum-told .given .1)) ∙ e in
-    let r = accepts (a .width) (a .height) (a .types .now) (a .muls .now) (a .bw) (a .bh) (h .0) (h .1) (v .last .1 .1 .1 .0) (v .last .1 .1 .1 .1 .0) (v .last .1 .1 .1 .1 .1 .0) _ f in
+    let f = sym (ap (λ (z : LayoutAnswer). leaves z (v .last .1 .1 .1 .1 .1 .1 .1 .1 .1 .0) (v .last .1 .1 .1 .1 .1 .1 .1 .1 .1 .1 .0) (v .last .1 .1 .1 .1 .1 .1 .1 .1 .1 .1 .1 .0)) (c .before .before .before .enum-told .given .1)) ∙ e in
+    let r = accepts (a .width) (a .height) (a .types .now) (a .muls .now) (a .bw) (a .bh) (h .0) (h .1) (v .last .1 .1 .1 .1 .1 .1 .1 .1 .1 .0) (v .last .1 .1 .1 .1 .1 .1 .1 .1 .1 .1 .0) (v .last .1 .1 .1 .1 .1 .1 .1 .1 .1 .1 .1 .0) _ f in
     (r .lengthK, r .lengthM, omega (arith, h .2), omega (arith, h .3), r .full)
 
 enum-known-answer : tie.Need-enum-known-answer
@@ -58,8 +58,8 @@ returns c =
     let h = c .before .before .before .before .before .before .before .before .before .before .before .before .before .before .before .before .before .before .before .before .before .before .before .before .before .pre in
     let v = c .before .before .before .before .before .before .before .before .before .before .before .before .before .before .layout in
     let e = v .ensures ∙ listed-is (a .width) (a .height) (a .types .now) (a .muls .now) (a .bw) (a .bh) (a .sharpness .now) (a .kinds .now) (a .hf-mul .now) (a .sigma .now) _ (h .0) (h .1) (h .4) (h .5) (h .6) (h .7) (ap (λ (z : Float). replicate 8 z) zero-bits) in
-    let f = sym (ap (λ (z : LayoutAnswer). leaves z (v .last .1 .1 .1 .0) (v .last .1 .1 .1 .1 .0) (v .last .1 .1 .1 .1 .1 .0)) (c .before .before .before .before .before .before .enum-told .given .1)) ∙ e in
-    let r = accepts (a .width) (a .height) (a .types .now) (a .muls .now) (a .bw) (a .bh) (h .0) (h .1) (v .last .1 .1 .1 .0) (v .last .1 .1 .1 .1 .0) (v .last .1 .1 .1 .1 .1 .0) _ f in
+    let f = sym (ap (λ (z : LayoutAnswer). leaves z (v .last .1 .1 .1 .1 .1 .1 .1 .1 .1 .0) (v .last .1 .1 .1 .1 .1 .1 .1 .1 .1 .1 .0) (v .last .1 .1 .1 .1 .1 .1 .1 .1 .1 .1 .1 .0)) (c .before .before .before .before .before .before .enum-told .given .1)) ∙ e in
+    let r = accepts (a .width) (a .height) (a .types .now) (a .muls .now) (a .bw) (a .bh) (h .0) (h .1) (v .last .1 .1 .1 .1 .1 .1 .1 .1 .1 .0) (v .last .1 .1 .1 .1 .1 .1 .1 .1 .1 .1 .0) (v .last .1 .1 .1 .1 .1 .1 .1 .1 .1 .1 .1 .0) _ f in
     subst (λ (s : List ℕ). Puts (a .out .now) 0 s (c .before .before .put-accepted .last .0) (c .before .before .put-accepted .result)) (r .text) (c .before .before .put-accepted .ensures)
 
 same-length-5 : tie.Need-same-length-5
@@ -80,8 +80,8 @@ returns-2 c =
     let h = c .before .before .before .before .before .before .before .before .before .before .before .before .before .before .before .before .before .before .before .before .before .before .before .before .before .pre in
     let v = c .before .before .before .before .before .before .before .before .before .before .before .before .before .before .layout in
     let e = v .ensures ∙ listed-is (a .width) (a .height) (a .types .now) (a .muls .now) (a .bw) (a .bh) (a .sharpness .now) (a .kinds .now) (a .hf-mul .now) (a .sigma .now) _ (h .0) (h .1) (h .4) (h .5) (h .6) (h .7) (ap (λ (z : Float). replicate 8 z) zero-bits) in
-    let f = sym (ap (λ (z : LayoutAnswer). leaves z (v .last .1 .1 .1 .0) (v .last .1 .1 .1 .1 .0) (v .last .1 .1 .1 .1 .1 .0)) (c .before .before .before .before .before .before .answer .given .1)) ∙ e in
-    let t = ap refusedText (c .before .before .before .numbers .ensures) ∙ refuses (a .width) (a .height) (a .types .now) (a .muls .now) (a .bw) (a .bh) (h .0) (h .1) (v .last .1 .1 .1 .0) (v .last .1 .1 .1 .1 .0) (v .last .1 .1 .1 .1 .1 .0) _ f in
+    let f = sym (ap (λ (z : LayoutAnswer). leaves z (v .last .1 .1 .1 .1 .1 .1 .1 .1 .1 .0) (v .last .1 .1 .1 .1 .1 .1 .1 .1 .1 .1 .0) (v .last .1 .1 .1 .1 .1 .1 .1 .1 .1 .1 .1 .0)) (c .before .before .before .before .before .before .answer .given .1)) ∙ e in
+    let t = ap refusedText (c .before .before .before .numbers .ensures) ∙ refuses (a .width) (a .height) (a .types .now) (a .muls .now) (a .bw) (a .bh) (h .0) (h .1) (v .last .1 .1 .1 .1 .1 .1 .1 .1 .1 .0) (v .last .1 .1 .1 .1 .1 .1 .1 .1 .1 .1 .0) (v .last .1 .1 .1 .1 .1 .1 .1 .1 .1 .1 .1 .0) _ f in
     subst (λ (s : List ℕ). Puts (a .out .now) 0 s (c .before .before .put-refused .last .0) (c .before .before .put-refused .result)) t (c .before .before .put-refused .ensures)
 
 pub list-layout-spec : {M : Type 1} → statement M

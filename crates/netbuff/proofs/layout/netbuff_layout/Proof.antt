@@ -30,7 +30,7 @@ returns c =
     let a = c .before .before .before .before .before .before .before .before .before .before .before .before .before .before .before .before .before .before .before .args in
     let v = c .before .before .before .before .before .before .before .layout in
     let q = c .before .before .before .before .before .before .before .before .before .before .before .before .filter-of in
-    handed-layout (c .layout-handed .result) (v .result) (v .last .1 .1 .1 .0) (v .last .1 .1 .1 .1 .0) (v .last .1 .1 .1 .1 .1 .0) _ (c .layout-handed .ensures)
+    handed-layout (c .layout-handed .result) (v .result) (v .last .1 .1 .1 .1 .1 .1 .1 .1 .1 .0) (v .last .1 .1 .1 .1 .1 .1 .1 .1 .1 .1 .0) (v .last .1 .1 .1 .1 .1 .1 .1 .1 .1 .1 .1 .0) _ (c .layout-handed .ensures)
     (v .ensures ∙ ap (λ (f : Filter). layoutOf (inputs (a .width) (a .height) (a .mode0 ∷ a .mode1 ∷ a .mode2 ∷ []) (a .types .now) (a .muls .now) (a .sharpness .now) f (a .lookup .now) (a .scale)) (a .kinds .now) (a .hf-mul .now) (a .sigma .now)) (q .ensures))
 
 pub netbuff-layout-spec : {M : Type 1} → statement M

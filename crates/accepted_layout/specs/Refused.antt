@@ -1,0 +1,157 @@
+-- What a refused layout call hands back and leaves (document 01, Refused): 1, 2 and 11 write nothing; 4 to 10 hand back the free block
+-- and leave layout and sigma all zero.
+use mathlib.Core.Path.{_≡_, refl, ap, sym, _∙_}
+use mathlib.Core.Bool.{Bool, true, false, cond, not, _&&_}
+use mathlib.Core.List.{List}
+use mathlib.Core.Logic.{_⊎_, inl, inr}
+use Prim.Native.Nat.{ℕ, zero, suc, _+_, _*_, _%_, _≤_, _<_}
+use native.Mathlib.Omega.{arith}
+use lib.Dec.{ltb, leb, eqb}
+use lib.ListN.{length, getD, replicate}
+use lib.Ieee.{Float}
+use Rattle.refusal.specs.declared.Said.{Said}
+use Rattle.refusal.specs.Said as refusals
+use Rattle.dct_select.specs.Transforms.{COUNT, wide, high}
+use Rattle.layout.specs.Walk.{walk, forward}
+use Rattle.layout.specs.Grid.{at}
+use Rattle.lf_group.specs.Blocks.{sizeFits}
+use Rattle.filter_strength.specs.declared.Filter.{Filter}
+use Rattle.filter_strength.specs.Strength.{zero32, sharedFilter}
+use Rattle.hf_metadata.specs.Columns.{lowBits, hfMulOf, positive}
+use Rattle.hf_metadata.specs.Scan.{Scan, Taking, Left, isOn, sigmaWith, takeCell, scan}
+use Rattle.hf_metadata.specs.Reading.{Job, Placed, Reading, Going, Stopped, refuseIf, placed, place, placeIn, judge, column, visit, start, zeros, zeroSigma, reading}
+use Rattle.hf_metadata.specs.Call.{Answer, accepted, refused, Outcome, outcomeOf, Inputs, jobOf, parametersFit, lengthsFit, refuseWith, layoutOf}
+use Rattle.accepted_layout.specs.Theorems.{bwOf, bhOf, off-size, off-parameters, off-lengths, works}
+
+-- a scan is left with 8, 9 or 10
+LeftWell : Scan → Type 0
+LeftWell (Taking k s) = Unit
+LeftWell (Left n a b) = (8 ≤ n) × (n ≤ 10)
+
+cond-left : (b : Bool) (s t : Scan) → LeftWell s → LeftWell t → LeftWell (cond b s t)
+cond-left true s t p q = p
+cond-left false s t p q = q
+
+module _ (bw bh : ℕ) (filter : Filter) (lookups : List Float) (sharpness : List ℕ) where
+  cell-left : (cx cy : ℕ) (s : Scan) → LeftWell s → LeftWell (takeCell bw bh filter lookups sharpness cx cy s)
+  unfolding LeftWell takeCell
+  cell-left cx cy (Left n a b) p = p
+  cell-left cx cy (Taking k s) p =
+      cond-left (leb bw cx) (Left 9 cx cy) _ (omega arith)
+      (cond-left (leb bh cy) (Left 9 cx cy) _ (omega arith)
+      (cond-left (ltb 0 (at k bw cx cy)) (Left 8 cx cy) _ (omega arith) (cond-left (isOn filter && leb 8 (at sharpness bw cx cy)) (Left 10 cx cy) _ (omega arith) tt)))
+
+  scan-left : (x y w h : ℕ) (s : Scan) → LeftWell s → LeftWell (scan bw bh filter lookups sharpness x y w h s)
+  unfolding scan
+  scan-left x y w h s p =
+      forward (λ (dx dy : ℕ). takeCell bw bh filter lookups sharpness (x + dx) (y + dy)) w h (λ dx dy t. LeftWell t) (λ dx dy t i j q. cell-left (x + dx) (y + dy) t q) (λ dy t j q. q) s p
+
+-- 4 to 10, at a block of the grid
+pub record AtBlock (bw bh : ℕ) (r : Said) : Type 0 where
+  pub least : 4 ≤ r .number
+  pub most : r .number ≤ 10
+  pub inX : r .x < bw
+  pub inY : r .y < bh
+
+module _ (J : Job) where
+  Well : Reading → Type 0
+  Well (Going p) = Unit
+  Well (Stopped r) = AtBlock (J .bw) (J .bh) r
+
+  cond-well : (b : Bool) (s t : Reading) → Well s → Well t → Well (cond b s t)
+  cond-well true s t p q = p
+  cond-well false s t p q = q
+
+  module _ (x y : ℕ) (hx : x < J .bw) (hy : y < J .bh) (p : Placed) where
+    at-block : (n : ℕ) → 4 ≤ n → n ≤ 10 → AtBlock (J .bw) (J .bh) (refusals.at n x y)
+    at-block n a b = record { least = a; most = b; inX = hx; inY = hy }
+
+    if-well : (b : Bool) (n : ℕ) (t : Reading) → 4 ≤ n → n ≤ 10 → Well t → Well (refuseIf b n x y t)
+    unfolding Well
+    if-well b n t l m q = cond-well b (Stopped (refusals.at n x y)) t (at-block n l m) q
+
+    place-well : (kind h w n : ℕ) → Well (placeIn J kind h w n x y p)
+    unfolding Well LeftWell place
+    place-well kind h w n =
+        go (scan (J .bw) (J .bh) (sharedFilter (J .filter) h) (J .lookups) (J .sharpness) x y w n (Taking (p .kinds) (p .sigma)))
+        (scan-left (J .bw) (J .bh) (sharedFilter (J .filter) h) (J .lookups) (J .sharpness) x y w n (Taking (p .kinds) (p .sigma)) tt)
+      where
+        go : (s : Scan) → LeftWell s → Well (placed (J .bw) (J .bh) (J .filter) (J .lookups) (J .sharpness) kind h x y p s)
+        go (Taking k s) q = tt
+        go (Left m a b) q = at-block m (omega arith) (omega arith)
+
+    column-well : Well (column J x y p)
+    unfolding column judge
+    column-well =
+        let t = lowBits (getD (J .types) (p .used) 0) in
+        let h = hfMulOf (getD (J .muls) (p .used) 0) in
+        if-well (leb (length (J .types)) (p .used)) 4 _ (omega arith) (omega arith)
+        (if-well (leb COUNT t) 5 _ (omega arith) (omega arith)
+        (if-well (not (positive h)) 6 _ (omega arith) (omega arith)
+        (if-well (ltb 32 (x % 32 + wide t)) 7 _ (omega arith) (omega arith)
+        (if-well (ltb 32 (y % 32 + high t)) 7 _ (omega arith) (omega arith) (place-well (2 + t) h (wide t) (high t))))))
+
+  step : (x y : ℕ) (s : Reading) → x < J .bw → y < J .bh → Well s → Well (visit J x y s)
+  unfolding Well
+  step x y (Stopped r) hx hy q = q
+  step x y (Going p) hx hy q = cond-well (eqb (at (p .kinds) (J .bw) x y) 0) (column J x y p) (Going p) (column-well x y hx hy p) tt
+
+  pub read-well : (r : Said) → reading J ≡ Stopped r → AtBlock (J .bw) (J .bh) r
+  unfolding reading Well
+  read-well r e = rw e at (forward (visit J) (J .bw) (J .bh) (λ x y s. Well s) step (λ y s h q. q) (Going (start J)) tt)
+
+module _ (i : Inputs) (kinds hfMul : List ℕ) (sigma : List Float) where
+  abbrev outcome : Outcome
+  outcome = layoutOf i kinds hfMul sigma
+
+  -- before work: position 0, 0, and nothing is written
+  pub record BeforeWork (n : ℕ) (r : Said) : Type 0 where
+    pub saidIs : r ≡ refusals.at n 0 0
+    pub kindsKept : outcome .kinds ≡ kinds
+    pub hfMulKept : outcome .hfMul ≡ hfMul
+    pub sigmaKept : outcome .sigma ≡ sigma
+
+  -- while reading: a block of the grid, and all is zero
+  pub record AtWork (r : Said) : Type 0 where
+    pub block : AtBlock (bwOf i) (bhOf i) r
+    pub kindsZero : outcome .kinds ≡ replicate (bhOf i * bwOf i) 0
+    pub hfMulZero : outcome .hfMul ≡ replicate (bhOf i * bwOf i) 0
+    pub sigmaZero : outcome .sigma ≡ replicate (bhOf i * bwOf i) zero32
+
+  pub data Refuses (r : Said) : Type 0 where
+    size : sizeFits (i .width) (i .height) ≡ false → BeforeWork 2 r → Refuses r
+    parameter : sizeFits (i .width) (i .height) ≡ true → parametersFit i ≡ false → BeforeWork 11 r → Refuses r
+    lengths : sizeFits (i .width) (i .height) ≡ true → parametersFit i ≡ true → lengthsFit i kinds hfMul sigma ≡ false → BeforeWork 1 r → Refuses r
+    work : sizeFits (i .width) (i .height) ≡ true → parametersFit i ≡ true → lengthsFit i kinds hfMul sigma ≡ true → AtWork r → Refuses r
+
+  same : (r s : Said) → refused r ≡ refused s → r ≡ s
+  same r s e = cc
+
+  before-work : (n : ℕ) (r : Said) → refuseWith i kinds hfMul sigma n ≡ outcome → outcome .answer ≡ refused r → BeforeWork n r
+  before-work n r e f = record {
+    saidIs = sym (same (refusals.at n 0 0) r (ap (λ (o : Outcome). o .answer) e ∙ f));
+    kindsKept = sym (ap (λ (o : Outcome). o .kinds) e);
+    hfMulKept = sym (ap (λ (o : Outcome). o .hfMul) e);
+    sigmaKept = sym (ap (λ (o : Outcome). o .sigma) e);
+  }
+
+  at-work : (r : Said) (s : Reading) → reading (jobOf i) ≡ s → outcomeOf (jobOf i) s ≡ outcome → outcome .answer ≡ refused r → AtWork r
+  at-work r (Going p) e o f = absurd (let g : accepted (p .used) ≡ refused r = ap (λ (q : Outcome). q .answer) o ∙ f in let z : _≡_ {A = ℕ} 0 1 = cc in omega arith)
+  at-work r (Stopped t) e o f =
+      let d : t ≡ r = same t r (ap (λ (q : Outcome). q .answer) o ∙ f) in
+      record {
+        block = rw d at (read-well (jobOf i) t e);
+        kindsZero = sym (ap (λ (q : Outcome). q .kinds) o);
+        hfMulZero = sym (ap (λ (q : Outcome). q .hfMul) o);
+        sigmaZero = sym (ap (λ (q : Outcome). q .sigma) o);
+      }
+
+  -- a refused call is one of these
+  pub refused-how : (r : Said) → outcome .answer ≡ refused r → Refuses r
+  refused-how r f = go (sizeFits (i .width) (i .height)) (parametersFit i) (lengthsFit i kinds hfMul sigma) refl refl refl
+    where
+      go : (a b c : Bool) → sizeFits (i .width) (i .height) ≡ a → parametersFit i ≡ b → lengthsFit i kinds hfMul sigma ≡ c → Refuses r
+      go false b c p q s = size p (before-work 2 r (off-size i kinds hfMul sigma p) f)
+      go true false c p q s = parameter p q (before-work 11 r (off-parameters i kinds hfMul sigma p q) f)
+      go true true false p q s = lengths p q s (before-work 1 r (off-lengths i kinds hfMul sigma p q s) f)
+      go true true true p q s = work p q s (at-work r (reading (jobOf i)) refl (works i kinds hfMul sigma p q s) f)
