@@ -1,11 +1,12 @@
 /*
- * A walk through Netbuff's calls from C: the layout of a scan of 16 x 16 pixels becomes a pass group.
- * Prints what it finds; ends with 1 on anything unexpected.
+ * A walk through Netbuff's calls from C: the layout of a scan of 16 x 16 pixels becomes a pass group,
+ * and default contexts and orders are read. Prints what it finds; ends with 1 on anything unexpected.
  */
 #include "netbuff.h"
 
 #include <inttypes.h>
 #include <stdio.h>
+#include <stdlib.h>
 
 enum { BLOCKS = 4 };
 
@@ -60,6 +61,22 @@ static void read_contexts(void)
     expect(refused == 0 && clusters == 15 && bits == 1 && map[38] == 14, "contexts");
 }
 
+static void read_orders(void)
+{
+    const uint8_t bytes[1] = {2};
+    const uint32_t none[1] = {0};
+    uint16_t *store = malloc(NETBUFF_STORE_LENGTH * sizeof *store);
+    size_t read, x, y;
+    if (store == NULL)
+        abort();
+    uint32_t refused =
+        netbuff_orders(bytes, 1, none, 0, store, NETBUFF_STORE_LENGTH, &read, &x, &y);
+    printf("orders: natural 8 x 8 starts (%d,%d) (%d,%d) (%d,%d)\n", store[0], store[1], store[2],
+           store[3], store[4], store[5]);
+    expect(refused == 0 && read == 0 && store[2] == 1 && store[5] == 1, "orders");
+    free(store);
+}
+
 int main(void)
 {
     const uint8_t kinds[BLOCKS] = {2 + 6, 2, 1, 2};
@@ -67,5 +84,6 @@ int main(void)
     look_up();
     cut_group(kinds, hf_mul);
     read_contexts();
+    read_orders();
     return failures == 0 ? 0 : 1;
 }
