@@ -3,3 +3,4 @@ pub mod Took
 pub mod Puts
 pub mod Accepted
 pub mod Theorems
+pub mod Marked

@@ -101,14 +101,19 @@ module _ (J : Job) (x y : ℕ) (p q : Placed) (lk : length (p .kinds) ≡ J .bh 
       where
         both : Took (J .bw) (J .bh) (at (p .kinds) (J .bw)) (at k (J .bw)) x y (wide t) (high t) × (length k ≡ J .bh * J .bw)
         both = took (J .bw) (J .bh) (sharedFilter (J .filter) h) (J .lookups) (J .sharpness) x y (wide t) (high t) (p .kinds) (p .sigma) s k lk f
+
         w : Took (J .bw) (J .bh) (at (p .kinds) (J .bw)) (at k (J .bw)) x y (wide t) (high t)
         w = both .0
+
         l : length k ≡ J .bh * J .bw
         l = both .1
+
         kindsAt : (i j : ℕ) → at (q .kinds) (J .bw) i j ≡ at (set k (y * J .bw + x) (2 + t)) (J .bw) i j
         kindsAt i j = ap (λ (o : Placed). at (o .kinds) (J .bw) i j) g
+
         mulsAt : (i j : ℕ) → at (q .muls) (J .bw) i j ≡ at (set (p .muls) (y * J .bw + x) h) (J .bw) i j
         mulsAt i j = ap (λ (o : Placed). at (o .muls) (J .bw) i j) g
+
         itself : (i j : ℕ) → Here x y i j → InRect x y (wide t) (high t) i j
         itself i j m = let u = wide-some t a in let v = high-some t a in (omega arith, omega arith, omega arith, omega arith)
 
@@ -118,6 +123,7 @@ module _ (J : Job) (x y : ℕ) (p q : Placed) (lk : length (p .kinds) ≡ J .bh 
       where
         going : (u v : Placed) → Going u ≡ Going v → u ≡ v
         going u v i = cc
+
         go : (s : Scan) → scanned ≡ s → placed (J .bw) (J .bh) (J .filter) (J .lookups) (J .sharpness) (2 + t) h x y p s ≡ Going q → Column J x y p q t h
         go (Left n i j) g i′ = absurd (let z : _≡_ {A = ℕ} 0 1 = cc in omega arith)
         go (Taking k s) g i′ = put k s g (sym (going _ q i′))

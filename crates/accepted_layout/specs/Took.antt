@@ -80,8 +80,8 @@ module _ (bw bh : ℕ) (filter : Filter) (lookups : List Float) (sharpness : Lis
       free = λ i j hi hj g. free′ i j hi hj (last i j dx dy g);
       taken = λ i j hi hj g. taken′ i j hi hj (last i j dx dy g);
       kept = λ a b ha n. ap (λ (g : List ℕ). at g bw a b) (c .now)
-        ∙ set-other k₁ bw (x + dx) (y + dy) 1 a b (c .inX) ha (λ e. n dx dy hx hy (inr (refl, omega arith)) e)
-        ∙ r .kept a b ha (λ i j hi hj g e. n i j hi hj (before i j g) e);
+          ∙ set-other k₁ bw (x + dx) (y + dy) 1 a b (c .inX) ha (λ e. n dx dy hx hy (inr (refl, omega arith)) e)
+          ∙ r .kept a b ha (λ i j hi hj g e. n i j hi hj (before i j g) e);
     }
       where
         place : ℕ
@@ -179,13 +179,16 @@ module _ (bw bh : ℕ) (filter : Filter) (lookups : List Float) (sharpness : Lis
     -- by cells of the grid
     pub took : (s s′ : List Float) (k′ : List ℕ) → length k ≡ bh * bw → scan bw bh filter lookups sharpness x y w h (Taking k s) ≡ Taking k′ s′
         → Took bw bh (at k bw) (at k′ bw) x y w h × (length k′ ≡ bh * bw)
-    took s s′ k′ e f = (record {
-      inX = λ a b m. let q : x + (a - x) ≡ a = omega arith in rw q at (r .inX (a - x) (b - y) (omega arith) (omega arith) (inl (omega arith)));
-      inY = λ a b m. let q : y + (b - y) ≡ b = omega arith in rw q at (r .inY (a - x) (b - y) (omega arith) (omega arith) (inl (omega arith)));
-      free = λ a b m. let p : x + (a - x) ≡ a = omega arith in let q : y + (b - y) ≡ b = omega arith in rw (p, q) at (r .free (a - x) (b - y) (omega arith) (omega arith) (inl (omega arith)));
-      taken = λ a b m. let p : x + (a - x) ≡ a = omega arith in let q : y + (b - y) ≡ b = omega arith in rw (p, q) at (r .taken (a - x) (b - y) (omega arith) (omega arith) (inl (omega arith)));
-      kept = λ a b ha n. r .kept a b ha (λ i j hi hj g m. n (omega arith, omega arith, omega arith, omega arith));
-    }, r .len)
+    took s s′ k′ e f = (
+      record {
+        inX = λ a b m. let q : x + (a - x) ≡ a = omega arith in rw q at (r .inX (a - x) (b - y) (omega arith) (omega arith) (inl (omega arith)));
+        inY = λ a b m. let q : y + (b - y) ≡ b = omega arith in rw q at (r .inY (a - x) (b - y) (omega arith) (omega arith) (inl (omega arith)));
+        free = λ a b m. let p : x + (a - x) ≡ a = omega arith in let q : y + (b - y) ≡ b = omega arith in rw (p, q) at (r .free (a - x) (b - y) (omega arith) (omega arith) (inl (omega arith)));
+        taken = λ a b m. let p : x + (a - x) ≡ a = omega arith in let q : y + (b - y) ≡ b = omega arith in rw (p, q) at (r .taken (a - x) (b - y) (omega arith) (omega arith) (inl (omega arith)));
+        kept = λ a b ha n. r .kept a b ha (λ i j hi hj g m. n (omega arith, omega arith, omega arith, omega arith));
+      },
+      r .len,
+    )
       where
         r : Sofar 0 h k′
         r = ended s s′ k′ e f

@@ -38,7 +38,7 @@ abbrev pub saidCheck : Checked → Answer Unit
 saidCheck Fine = gives tt
 saidCheck (Refused r) = refuses (said r)
 
--- a lent record with sides up to a limit: 256 for a layout, 32 for a group
+-- a lent record with sides up to a limit: 256 for a layout, 32 for a group; 18 lets pass exactly what Layout says (Theorems: checked, checks)
 unfoldable pub checkOf : ℕ → ℕ → ℕ → List ℕ → List ℕ → Answer Unit
 checkOf limit w h kinds muls =
     unless 2 (inLimits limit w h)
@@ -98,7 +98,7 @@ filled L = lengthsFit (L .wide) (L .high) (length (L .kinds)) (length (L .muls))
 abbrev pub lawful : Lent → Bool
 lawful L = isLayout (L .wide) (L .high) (L .kinds) (L .muls)
 
--- each number is tried over both layouts before the next
+-- each number is tried over both layouts before the next; yes exactly for the same rectangles and hf_mul (Theorems: like-yes, like-no)
 unfoldable pub likeOf : Lent → Lent → Answer Bool
 likeOf L N =
     unless 2 (sided L && sided N)

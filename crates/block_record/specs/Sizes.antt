@@ -9,13 +9,19 @@ use Rattle.dct_select.specs.declared.Sides.{Sides}
 use Rattle.dct_select.specs.Transforms.{Row, row, TRANSFORMS, wide, high}
 use Rattle.dct_select.specs.LookUp.{sides}
 
--- one column of the table of transforms
-pub wide-at : (t : ℕ) → getD (map (λ (r : Row). r .width) TRANSFORMS) t 0 ≡ wide t
-unfolding wide
+-- the table of transforms by column
+unfoldable pub widths : List ℕ
+widths = map (λ (r : Row). r .width) TRANSFORMS
+
+unfoldable pub heights : List ℕ
+heights = map (λ (r : Row). r .height) TRANSFORMS
+
+pub wide-at : (t : ℕ) → getD widths t 0 ≡ wide t
+unfolding widths wide
 wide-at t = getD-map (λ (r : Row). r .width) TRANSFORMS t (row 0 0 0)
 
-pub high-at : (t : ℕ) → getD (map (λ (r : Row). r .height) TRANSFORMS) t 0 ≡ high t
-unfolding high
+pub high-at : (t : ℕ) → getD heights t 0 ≡ high t
+unfolding heights high
 high-at t = getD-map (λ (r : Row). r .height) TRANSFORMS t (row 0 0 0)
 
 beyond : {A : Type 0} (l : List A) (t : ℕ) (d : A) → length l ≤ t → getD l t d ≡ d

@@ -11,10 +11,11 @@ ghost use Rattle.dct_select.specs.LookUp.{sides};
 ghost use Rattle.layout.specs.Kinds.{wideOf, highOf};
 ghost use Rattle.layout.specs.Grid.{paint};
 ghost use Rattle.layout.specs.Check.{Fault, Until, clear, fitting, visitCell, isLayout};
+ghost use Rattle.block_record.specs.Sizes.{widths, heights};
 ghost use Rattle.block_record.specs.Calls.{inLimits, lengthsFit, saidCheck, checkOf};
 
-// Blocks across and down of each transform, in one read where the transform type takes two matches.
-const WIDE: [usize; 27] = [
+// Blocks across and down of each transform. A call takes them once and lends them on: a constant is laid out anew wherever it is named.
+pub(crate) const WIDE: [usize; 27] = [
     1,
     1,
     1,
@@ -44,7 +45,7 @@ const WIDE: [usize; 27] = [
     32,
 ];
 
-const HIGH: [usize; 27] = [
+pub(crate) const HIGH: [usize; 27] = [
     1,
     1,
     1,
@@ -74,16 +75,16 @@ const HIGH: [usize; 27] = [
     16,
 ];
 
-// Blocks across and down of a corner's varblock, 0 and 0 for an unknown kind.
-pub(crate) fn size_of(kind: u8) -> Sides
-    requires { ⌜ 2 ≤ kind ⌝ }
+// Blocks across and down of a corner's varblock, 0 and 0 for an unknown kind, from the two tables.
+pub(crate) fn size_of(wides: &[usize; 27], highs: &[usize; 27], kind: u8) -> Sides
+    requires { ⌜ (now wides ≡ widths) × (now highs ≡ heights) × (2 ≤ kind) ⌝ }
     ensures { λ r. ⌜ r ≡ sides (wideOf kind) (highOf kind) ⌝ }
 {
     let t = (kind - 2) as usize;
     if t < 27 {
         return Sides {
-            wide: WIDE[t],
-            high: HIGH[t],
+            wide: wides[t],
+            high: highs[t],
         };
     }
     Sides { wide: 0, high: 0 }
@@ -147,6 +148,8 @@ fn fits(bw: usize, bh: usize, kind: u8, w: usize, h: usize, mul: u32, x: usize, 
 // One cell: in a rectangle met before, or a corner whose columns are clear.
 fn visit_cell(
     until: &mut [usize; 256],
+    wides: &[usize; 27],
+    highs: &[usize; 27],
     bw: usize,
     bh: usize,
     kind: u8,
@@ -154,7 +157,7 @@ fn visit_cell(
     x: usize,
     y: usize,
 ) -> bool
-    requires { ⌜ (x < bw) × (bw ≤ 256) × (y < bh) × (bh ≤ 256) ⌝ }
+    requires { ⌜ (now wides ≡ widths) × (now highs ≡ heights) × (x < bw) × (bw ≤ 256) × (y < bh) × (bh ≤ 256) ⌝ }
     ensures { λ r. ⌜ cond r (Until (now (until .exit))) Fault ≡ visitCell bw bh kind mul x y (now (until .entry)) ⌝ }
 {
     if y < until[x] {
@@ -166,7 +169,7 @@ fn visit_cell(
     if kind < 2 {
         return false;
     }
-    let size = size_of(kind);
+    let size = size_of(wides, highs, kind);
     let w = size.wide;
     let h = size.high;
     if !fits(bw, bh, kind, w, h, mul, x, y) {
@@ -184,6 +187,8 @@ pub(crate) fn is_layout(bw: usize, bh: usize, kinds: &[u8], muls: &[u32]) -> boo
     requires { ⌜ (bw ≤ 256) × (bh ≤ 256) × (length (now kinds) ≡ bh * bw) × (length (now muls) ≡ bh * bw) ⌝ }
     ensures { λ r. ⌜ r ≡ isLayout bw bh (now (kinds .entry)) (now (muls .entry)) ⌝ }
 {
+    let wides = WIDE;
+    let highs = HIGH;
     let mut until = [0usize; 256];
     let mut y = 0;
     while y < bh {
@@ -192,7 +197,7 @@ pub(crate) fn is_layout(bw: usize, bh: usize, kinds: &[u8], muls: &[u32]) -> boo
             let i = y * bw + x;
             let kind = kinds[i];
             let mul = muls[i];
-            if !visit_cell(&mut until, bw, bh, kind, mul, x, y) {
+            if !visit_cell(&mut until, &wides, &highs, bw, bh, kind, mul, x, y) {
                 return false;
             }
             x += 1;

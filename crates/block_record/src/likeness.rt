@@ -1,4 +1,6 @@
 // Likeness of two lent layouts: the same rectangles and hf_mul.
+use crate::check::HIGH;
+use crate::check::WIDE;
 use crate::check::in_limits;
 use crate::check::is_layout;
 use crate::check::lengths_fit;
@@ -8,6 +10,7 @@ ghost use mathlib.Core.Path.{_≡_};
 ghost use Prim.Native.Nat.{_≤_};
 ghost use lib.ListN.{length};
 ghost use Rattle.layout.specs.Like.{lent, alikeCell, alikeFrom};
+ghost use Rattle.block_record.specs.Sizes.{widths, heights};
 ghost use Rattle.block_record.specs.Calls.{saidLike, likeOf};
 
 pub enum LikeAnswer {
@@ -17,7 +20,15 @@ pub enum LikeAnswer {
 }
 
 // Two cells: corners of one size and hf_mul, or no corners.
-fn alike_cell(kind: u8, mul: u32, kind2: u8, mul2: u32) -> bool
+fn alike_cell(
+    wides: &[usize; 27],
+    highs: &[usize; 27],
+    kind: u8,
+    mul: u32,
+    kind2: u8,
+    mul2: u32,
+) -> bool
+    requires { ⌜ (now wides ≡ widths) × (now highs ≡ heights) ⌝ }
     ensures { λ r. ⌜ r ≡ alikeCell kind mul kind2 mul2 ⌝ }
 {
     if kind < 2 {
@@ -29,8 +40,8 @@ fn alike_cell(kind: u8, mul: u32, kind2: u8, mul2: u32) -> bool
     if mul != mul2 {
         return false;
     }
-    let size = size_of(kind);
-    let size2 = size_of(kind2);
+    let size = size_of(wides, highs, kind);
+    let size2 = size_of(wides, highs, kind2);
     if size.wide != size2.wide {
         return false;
     }
@@ -42,9 +53,11 @@ fn alike_cells(kinds: &[u8], muls: &[u32], kinds2: &[u8], muls2: &[u32]) -> bool
     requires { ⌜ (length (now muls) ≡ length (now kinds)) × (length (now kinds2) ≡ length (now kinds)) × (length (now muls2) ≡ length (now kinds)) ⌝ }
     ensures { λ r. ⌜ r ≡ alikeFrom (now (kinds .entry)) (now (muls .entry)) (now (kinds2 .entry)) (now (muls2 .entry)) (length (now (kinds .entry))) 0 ⌝ }
 {
+    let wides = WIDE;
+    let highs = HIGH;
     let mut i = 0;
     while i < kinds.len() {
-        if !alike_cell(kinds[i], muls[i], kinds2[i], muls2[i]) {
+        if !alike_cell(&wides, &highs, kinds[i], muls[i], kinds2[i], muls2[i]) {
             return false;
         }
         i += 1;

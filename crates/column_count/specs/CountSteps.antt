@@ -2,16 +2,18 @@
 use mathlib.Core.Path.{_≡_, refl, ap, sym, _∙_}
 use mathlib.Core.Bool.{Bool, true, false}
 use mathlib.Core.List.{List}
-use Prim.Native.Nat.{ℕ, _+_, _*_, _≤_, min}
-use native.Mathlib.Nat.{mul-le-mul}
+use Prim.Native.Nat.{ℕ, _+_, _*_, _/_, _%_, _^_, _≤_, _<_, min}
+use native.Mathlib.Nat.{mul-le-mul, mod-lt}
 use native.Mathlib.Omega.{arith}
+use lib.Pow.{pow-mono, pow-pos}
 use Rattle.refusal.specs.Said.{at}
 use Rattle.bits.specs.declared.Got.{Got}
 use Rattle.bits.specs.declared.Got.the-variants as got
 use Rattle.bits.specs.declared.Place.{Place}
 use Rattle.bits.specs.Bits.{Read, Value, Ended, readBits}
+use Rattle.bits.specs.Numbers.{number, Bytes}
 use Rattle.bits.specs.Reads.{gotOf, placeAt, passed}
-use Rattle.bits.specs.Laws.{WasValue, was-value, WasEnd, was-end, value-at, ended-at}
+use Rattle.bits.specs.Laws.{read-whole, WasValue, was-value, WasEnd, was-end, value-at, ended-at}
 use Rattle.bits.specs.Exponent.{exponent, exponent-least}
 use Rattle.lf_group.specs.Blocks.{sizeFits, modesFit, wideIn, highIn}
 use Rattle.lf_group.specs.Bounds.{wide-most, high-most}
@@ -48,6 +50,18 @@ module _ (width height : ℕ) (modes bytes : List ℕ) where
           let l = value-at bytes 0 n v (w .at) (w .is) in
           let k : n ≡ w .at = omega arith in
           ap (λ (i : ℕ). count (1 + v) i) k ∙ sym (read ∙ ap plusOne (w .is))
+
+      -- the number fits in 16 bits
+      pub count-small : (v : ℕ) (q : Place) → Bytes bytes → g ≡ got.Value v q → v < 65536
+      count-small v q h f =
+          let w = was-value 0 (readBits bytes 0 n) v q (sym whole ∙ f) in
+          let l = value-at bytes 0 n v (w .at) (w .is) in
+          let k = few-bits in
+          let r : Value (number bytes / 2 ^ 0 % 2 ^ n) (0 + n) ≡ Value v (w .at) = sym (read-whole bytes 0 n h (omega arith)) ∙ w .is in
+          let u : number bytes / 2 ^ 0 % 2 ^ n ≡ v = cc in
+          let b : 2 ^ n ≤ 2 ^ 16 = pow-mono {i = n} {j = 16} (omega arith) in
+          let m : number bytes / 2 ^ 0 % 2 ^ n < 2 ^ n = mod-lt (number bytes / 2 ^ 0) (pow-pos n) in
+          omega arith
 
       pub count-end : (k : ℕ) → g ≡ got.End k → refused (at 3 0 0) ≡ countOf width height modes bytes
       count-end k f =

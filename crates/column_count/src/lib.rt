@@ -1,13 +1,13 @@
 // How many columns an LF group's layout has (`HfMetadata::parse`, `nb_blocks`).
-use bits::{Got, Place};
+use bits::Got;
+use bits::Place;
 use refusal::Refusal;
-
 ghost use mathlib.Core.Path.{_≡_};
 ghost use Rattle.column_count.specs.Count.{counted, countOf};
 
 // The column count and the bits read, or refused.
 pub enum ColumnCount {
-    Count(usize, usize),
+    Count(u32, usize),
     Refused(Refusal),
 }
 
@@ -26,7 +26,7 @@ pub fn column_count(width: u32, height: u32, modes: [u32; 3], bytes: &[u8]) -> C
     let n = bits::exponent((blocks.bh * blocks.bw) as u32);
     let got = bits::read_bits(bytes, Place::start(), n);
     match got {
-        Got::Value(v, _) => ColumnCount::Count(1 + v as usize, n as usize),
+        Got::Value(v, _) => ColumnCount::Count(1 + v, n as usize),
         Got::End(_) => ColumnCount::Refused(Refusal::BitsEnd(0)),
     }
 }

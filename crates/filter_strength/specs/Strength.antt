@@ -1,9 +1,10 @@
 -- Filter strength of a block (document 01, Layout and filter strength): in f32, each step rounded once,
 -- multiplier × 65536, / scale, / hf_mul, × look-up[sharpness].
-use mathlib.Core.Path.{_≡_, refl}
+use mathlib.Core.Path.{_≡_, refl, ap}
 use mathlib.Core.Bool.{Bool, true, false}
 use mathlib.Core.List.{List, [], _∷_}
 use Prim.Native.Nat.{ℕ}
+use native.Mathlib.Omega.{arith}
 use lib.IntN.{ℤ, pos, negsuc}
 use lib.ListN.{getD}
 use lib.Ieee.{Float, fin, nan, binary32, mul, div, ofInt, round, size, span, climb, units, odd}
@@ -46,6 +47,13 @@ scaledFilter (On m) scale = On (scaled m scale)
 unfoldable pub sharedFilter : Filter → ℕ → Filter
 sharedFilter Off h = Off
 sharedFilter (On a) h = On (shared a h)
+
+-- so sigma is the varblock's share × look-up[sharpness]
+pub sigma-steps : (f : Filter) (scale h : ℕ) (lookups : List Float) (sharpness : ℕ) (q : Float) → sharedFilter (scaledFilter f scale) h ≡ On q
+    → looked q lookups sharpness ≡ sigmaOf f scale h lookups sharpness
+unfolding scaledFilter sharedFilter sigmaOf
+sigma-steps Off scale h lookups sharpness q e = absurd (let z : _≡_ {A = ℕ} 0 1 = cc in omega arith)
+sigma-steps (On m) scale h lookups sharpness q e = let d : q ≡ shared (scaled m scale) h = cc in ap (λ (z : Float). looked z lookups sharpness) d
 
 -- M7: multiplier 0.5, scale 32,768, hf_mul 4, look-up 2.0 give 0.5
 pub m7 : sigmaOf (On (fin false 1 (negsuc 0))) 32768 4 (fin false 1 (pos 1) ∷ []) 0 ≡ fin false 1 (negsuc 0)

@@ -101,9 +101,9 @@ fn place(
         v.high,
     );
     match fault {
-        Fault::Outside(_, _) => Step::Stopped(Refusal::Outside(x, y)),
-        Fault::Overlap(_, _) => Step::Stopped(Refusal::Overlap(x, y)),
-        Fault::Sharpness(_, _) => Step::Stopped(Refusal::Sharpness(x, y)),
+        Fault::Outside(_cx, _cy) => Step::Stopped(Refusal::Outside(x, y)),
+        Fault::Overlap(_cx, _cy) => Step::Stopped(Refusal::Overlap(x, y)),
+        Fault::Sharpness(_cx, _cy) => Step::Stopped(Refusal::Sharpness(x, y)),
         Fault::Clear => {
             let i = y * bw + x;
             kinds[i] = v.kind;

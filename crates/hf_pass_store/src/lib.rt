@@ -17,7 +17,19 @@ ghost use Rattle.hf_pass_store.specs.Naturals.{wholeStore, naturalStore,
 pub const NUMBERS: usize = 787968;
 
 const STARTS: [usize; 13] = [
-    0, 384, 768, 2304, 8448, 9216, 10752, 13824, 38400, 50688, 148992, 198144, 591360,
+    0,
+    384,
+    768,
+    2304,
+    8448,
+    9216,
+    10752,
+    13824,
+    38400,
+    50688,
+    148992,
+    198144,
+    591360,
 ];
 
 // Where the three lists of an order begin.

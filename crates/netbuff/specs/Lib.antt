@@ -4,3 +4,4 @@ pub mod Reader
 pub mod Record
 pub mod Contexts
 pub mod Orders
+pub mod Layout

@@ -34,7 +34,7 @@ fewest-digits (suc r) (suc k) n h l m =
     let b : 10 ≤ n = omega (arith, m (omega arith), ten r, some r) in
     let u : n / 10 < 10 ^ suc r = omega (arith, ten (suc r)) in
     let v : 0 < r → 10 ^ r ≤ n / 10 = λ q. omega (arith, m (omega arith), ten r) in
-    rw (le-ltb n 10 b, low (n % 10) (omega arith)) (ap (λ (l : List ℕ). l ++ (48 + n % 10 ∷ [])) (fewest-digits r k (n / 10) (omega arith) u v))
+    rw (le-ltb n 10 b, low (n % 10) (omega arith)) (ap (λ (l : List ℕ). l ++ ((48 + n % 10) ∷ [])) (fewest-digits r k (n / 10) (omega arith) u v))
 
 -- a number below 2^64 has at most 20
 pub fewest-decimal : (n r : ℕ) → n < 2 ^ 64 → Fewest 10 1 n r → digits 10 r n ≡ decimal n
@@ -43,8 +43,10 @@ fewest-decimal n (suc r) h f = fewest-digits r 19 n (few (f .2)) (f .1) (λ q. l
   where
     less : suc r - 1 ≡ r
     less = omega arith
+
     least : 10 ^ (suc r - 1) ≤ n → 10 ^ r ≤ n
     least p = rw less at p
+
     few : (1 < suc r → 10 ^ (suc r - 1) ≤ n) → suc r ≤ 20
     few g = go (le-or-lt (suc r) 20)
       where

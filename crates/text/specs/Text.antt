@@ -13,8 +13,8 @@ use Rattle.laws.specs.Cases.{le-or-lt}
 
 -- the digits of n, at most k + 1 of them, the last one lowest
 unfoldable pub digitsOf : ℕ → ℕ → List ℕ
-digitsOf zero n = 48 + n ∷ []
-digitsOf (suc k) n = cond (ltb n 10) (48 + n ∷ []) (digitsOf k (n / 10) ++ (48 + n % 10 ∷ []))
+digitsOf zero n = (48 + n) ∷ []
+digitsOf (suc k) n = cond (ltb n 10) ((48 + n) ∷ []) (digitsOf k (n / 10) ++ ((48 + n % 10) ∷ []))
 
 -- a 64-bit number in decimal, with no zeros in front
 abbrev pub decimal : ℕ → List ℕ

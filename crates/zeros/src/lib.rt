@@ -6,33 +6,33 @@ ghost use lib.IntN.{pos};
 ghost use lib.ListN.{length, replicate};
 ghost use lib.Ieee.{Float, fin};
 
-pub fn clear_u8(d: &mut [u8])
-    ensures { λ r. ⌜ now (d .exit) ≡ replicate (length (now (d .entry))) 0 ⌝ }
+pub fn clear_u8(bytes: &mut [u8])
+    ensures { λ r. ⌜ now (bytes .exit) ≡ replicate (length (now (bytes .entry))) 0 ⌝ }
 {
     let mut i = 0;
-    while i < d.len() {
-        d[i] = 0;
+    while i < bytes.len() {
+        bytes[i] = 0;
         i += 1;
     }
 }
 
-pub fn clear_u32(d: &mut [u32])
-    ensures { λ r. ⌜ now (d .exit) ≡ replicate (length (now (d .entry))) 0 ⌝ }
+pub fn clear_u32(numbers: &mut [u32])
+    ensures { λ r. ⌜ now (numbers .exit) ≡ replicate (length (now (numbers .entry))) 0 ⌝ }
 {
     let mut i = 0;
-    while i < d.len() {
-        d[i] = 0;
+    while i < numbers.len() {
+        numbers[i] = 0;
         i += 1;
     }
 }
 
 // +0.0
-pub fn clear_f32(d: &mut [f32])
-    ensures { λ r. ⌜ now (d .exit) ≡ replicate (length (now (d .entry))) (fin false 0 (pos 0)) ⌝ }
+pub fn clear_f32(floats: &mut [f32])
+    ensures { λ r. ⌜ now (floats .exit) ≡ replicate (length (now (floats .entry))) (fin false 0 (pos 0)) ⌝ }
 {
     let mut i = 0;
-    while i < d.len() {
-        d[i] = 0.0;
+    while i < floats.len() {
+        floats[i] = 0.0;
         i += 1;
     }
 }

@@ -1,8 +1,10 @@
-use mathlib.Core.Path.{_≡_, _∙_, sym}
+use mathlib.Core.Path.{_≡_, _∙_, sym, refl}
 use Prim.Native.Nat.{_-_, _≤_}
 use lib.Arith.{digits-lt}
 use borrow.Author.Tests.{not-true, not-false}
+use Rattle.dct_select.specs.Transforms.{TRANSFORMS}
 use Rattle.layout.specs.Grid.{at}
+use Rattle.block_record.specs.Sizes.{widths, heights}
 use Rattle.layout.specs.Check.{visitCell, isLayout}
 use Rattle.block_record.specs.Loops.{rowsLeft, cellsLeft, loop-start, loop-enter, loop-next, loop-stop, loop-leave, loop-finish, said-good, said-bad}
 use borrow.Author.Needs.{needs}
@@ -11,16 +13,16 @@ use Rattle.block_record.proofs.check.is_layout.Statement.{statement}
 use Rattle.block_record.proofs.check.is_layout.Tie as tie
 
 abbrev Inv-loop2 : tie.InvT-loop2
-Inv-loop2 bw bh kinds muls until₀ y x₀ until x = (x ≤ bw) × (isLayout bw bh kinds muls ≡ cellsLeft kinds muls bw bh y x until)
+Inv-loop2 bw bh kinds muls wides highs until₀ y x₀ until x = (x ≤ bw) × (isLayout bw bh kinds muls ≡ cellsLeft kinds muls bw bh y x until)
 
 abbrev μ-loop2 : tie.MeasureT-loop2
-μ-loop2 bw bh kinds muls until₀ y x₀ until x = bw - x
+μ-loop2 bw bh kinds muls wides highs until₀ y x₀ until x = bw - x
 
 abbrev Inv-loop : tie.InvT-loop
-Inv-loop bw bh kinds muls until₀ y₀ until y = (y ≤ bh) × (isLayout bw bh kinds muls ≡ rowsLeft kinds muls bw bh y until)
+Inv-loop bw bh kinds muls wides highs until₀ y₀ until y = (y ≤ bh) × (isLayout bw bh kinds muls ≡ rowsLeft kinds muls bw bh y until)
 
 abbrev μ-loop : tie.MeasureT-loop
-μ-loop bw bh kinds muls until₀ y₀ until y = bh - y
+μ-loop bw bh kinds muls wides highs until₀ y₀ until y = bh - y
 
 loop-holds : tie.Need-loop-holds Inv-loop2 μ-loop2 Inv-loop μ-loop
 loop-holds c = let a = c .before .before .args in (omega arith, loop-start (a .kinds .now) (a .muls .now) (a .bw) (a .bh) (omega arith))
@@ -62,13 +64,14 @@ shared-slice-read-mul c =
     omega arith
 
 visit-cell-requires : tie.Need-visit-cell-requires Inv-loop2 μ-loop2 Inv-loop μ-loop
-visit-cell-requires c κs = search needs
+unfolding widths heights TRANSFORMS
+visit-cell-requires c κs = (refl, refl, omega arith, omega arith, omega arith, omega arith)
 
 returns : tie.Need-returns Inv-loop2 μ-loop2 Inv-loop μ-loop
 returns c =
-    let a = c .before .before .before .before .before .before .before .before .before .before .before .args in
-    let o = c .before .before .before .before .before .before .before .before .loop in
-    let l = c .before .before .before .before .before .before .loop2 in
+    let a = c .before .before .before .before .before .before .before .before .before .before .before .before .before .args in
+    let o = c .before .before .before .before .before .before .before .before .before .before .loop in
+    let l = c .before .before .before .before .before .before .before .before .loop2 in
     let v = c .before .visit-cell in
     let s = visitCell (a .bw) (a .bh) (at (a .kinds .now) (a .bw) (l .x) (o .y)) (at (a .muls .now) (a .bw) (l .x) (o .y)) (l .x) (o .y) (l .until) in
     sym (l .inv .1 ∙ loop-stop (a .kinds .now) (a .muls .now) (a .bw) (a .bh) (o .y) (l .x) (l .until) (omega arith) (said-bad (v .result) (v .last .0) s (v .ensures) (not-true (v .result) (c .if1 .taken))))
@@ -81,9 +84,9 @@ loop2-less c = search needs
 
 loop2-again : tie.Need-loop2-again Inv-loop2 μ-loop2 Inv-loop μ-loop
 loop2-again c =
-    let a = c .before .before .before .before .before .before .before .before .before .before .before .args in
-    let o = c .before .before .before .before .before .before .before .before .loop in
-    let l = c .before .before .before .before .before .before .loop2 in
+    let a = c .before .before .before .before .before .before .before .before .before .before .before .before .before .args in
+    let o = c .before .before .before .before .before .before .before .before .before .before .loop in
+    let l = c .before .before .before .before .before .before .before .before .loop2 in
     let v = c .before .visit-cell in
     let s = visitCell (a .bw) (a .bh) (at (a .kinds .now) (a .bw) (l .x) (o .y)) (at (a .muls .now) (a .bw) (l .x) (o .y)) (l .x) (o .y) (l .until) in (
       omega arith,

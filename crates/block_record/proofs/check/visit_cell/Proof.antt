@@ -27,7 +27,7 @@ returns-3 : tie.Need-returns-3
 returns-3 c = let a = c .before .before .before .args in sym (visit-small (a .bw) (a .bh) (a .kind) (a .mul) (a .x) (a .y) (a .until .now) (omega arith) (omega arith))
 
 size-of-requires : tie.Need-size-of-requires
-size-of-requires c κs = search needs
+size-of-requires c κs = (c .before .before .before .pre .0, c .before .before .before .pre .1, omega arith)
 
 fits-requires : tie.Need-fits-requires
 fits-requires c κs =

@@ -4,7 +4,6 @@ use Prim.Native.Nat.{ℕ}
 use Rattle.dct_select.specs.declared.Sides.{Sides}
 use Rattle.layout.specs.Kinds.{wideOf, highOf}
 use Rattle.block_record.specs.LikeSteps.{cell-plain, cell-odd, cell-mul, cell-wide, cell-high}
-use borrow.Author.Needs.{needs}
 use native.Mathlib.Omega.{arith}
 use Rattle.block_record.proofs.likeness.alike_cell.Statement.{statement}
 use Rattle.block_record.proofs.likeness.alike_cell.Tie as tie
@@ -19,10 +18,10 @@ returns-3 : tie.Need-returns-3
 returns-3 c = let a = c .before .before .before .args in sym (cell-mul (a .kind) (a .mul) (a .kind2) (a .mul2) (omega arith) (omega arith) (c .if3 .taken))
 
 size-of-requires : tie.Need-size-of-requires
-size-of-requires c κs = search needs
+size-of-requires c κs = (c .before .before .before .pre .0, c .before .before .before .pre .1, omega arith)
 
 size-of-requires-2 : tie.Need-size-of-requires-2
-size-of-requires-2 c κs = search needs
+size-of-requires-2 c κs = (c .before .before .before .before .pre .0, c .before .before .before .before .pre .1, omega arith)
 
 returns-4 : tie.Need-returns-4
 returns-4 c =

@@ -11,17 +11,17 @@ shared-by-requires c κs = search needs
 scan-requires : tie.Need-scan-requires
 scan-requires c κs = search needs
 
+enum-known-fault : tie.Need-enum-known-fault
+enum-known-fault c = search needs
+
+enum-known-fault-2 : tie.Need-enum-known-fault-2
+enum-known-fault-2 c = search needs
+
+enum-known-fault-3 : tie.Need-enum-known-fault-3
+enum-known-fault-3 c = search needs
+
 enum-told : tie.Need-enum-told
 enum-told c = search needs
-
-enum-told-2 : tie.Need-enum-told-2
-enum-told-2 c = search needs
-
-enum-told-3 : tie.Need-enum-told-3
-enum-told-3 c = search needs
-
-enum-told-4 : tie.Need-enum-told-4
-enum-told-4 c = search needs
 
 mul-i : tie.Need-mul-i
 mul-i c =
@@ -48,8 +48,8 @@ slice-write-hf-mul c =
     let a = c .before .before .before .before .before .before .before .before .before .before .before .before .before .before .args in
     omega (arith, digits-lt {q = a .y} {m = a .bh} {r = a .x} {c = a .bw} (omega arith) (omega arith))
 
-add-t24 : tie.Need-add-t24
-add-t24 c = search needs
+add-t30 : tie.Need-add-t30
+add-t30 c = search needs
 
 same-length : tie.Need-same-length
 same-length c = search needs
@@ -59,11 +59,11 @@ same-length-2 c = search needs
 
 returns : tie.Need-returns
 returns c =
-    let a = c .before .before .before .before .before .before .before .before .before .before .before .before .before .before .args in
-    let v = c .before .before .before .before .before .before .scan in
-    let q = c .before .before .before .before .before .before .before .before .before .shared-by in
+    let a = c .before .before .before .before .before .before .before .before .before .before .before .before .before .before .before .args in
+    let v = c .before .before .before .before .before .before .before .scan in
+    let q = c .before .before .before .before .before .before .before .before .before .before .shared-by in
     place-by (a .bw) (a .bh) (a .filter) (a .lookups .now) (a .sharpness .now) (a .v .kind) (a .v .«hf_mul») (a .v .wide) (a .v .high) (a .x) (a .y) (stateOf (a .used) (a .kinds .now) (a .hf-mul .now) (a .sigma .now))
-    (v .result) _ (q .result) (v .last .0) (v .last .1 .0) (q .ensures) (v .ensures) (c .enum-told .given .1)
+    (v .result) _ (q .result) (v .last .0) (v .last .1 .0) (q .ensures) (v .ensures) (c .before .fault .given .1)
 
 same-length-3 : tie.Need-same-length-3
 same-length-3 c = search needs
@@ -73,11 +73,11 @@ same-length-4 c = search needs
 
 returns-2 : tie.Need-returns-2
 returns-2 c =
-    let a = c .before .before .before .before .before .before .before .before .before .before .before .before .before .before .args in
-    let v = c .before .before .before .before .before .before .scan in
-    let q = c .before .before .before .before .before .before .before .before .before .shared-by in
+    let a = c .before .before .before .before .before .before .before .before .before .before .before .before .before .before .before .args in
+    let v = c .before .before .before .before .before .before .before .scan in
+    let q = c .before .before .before .before .before .before .before .before .before .before .shared-by in
     place-by (a .bw) (a .bh) (a .filter) (a .lookups .now) (a .sharpness .now) (a .v .kind) (a .v .«hf_mul») (a .v .wide) (a .v .high) (a .x) (a .y) (stateOf (a .used) (a .kinds .now) (a .hf-mul .now) (a .sigma .now))
-    (v .result) _ (q .result) (v .last .0) (v .last .1 .0) (q .ensures) (v .ensures) (c .enum-told2 .given .1)
+    (v .result) _ (q .result) (v .last .0) (v .last .1 .0) (q .ensures) (v .ensures) (c .before .fault2 .given .1)
 
 same-length-5 : tie.Need-same-length-5
 same-length-5 c = search needs
@@ -87,11 +87,11 @@ same-length-6 c = search needs
 
 returns-3 : tie.Need-returns-3
 returns-3 c =
-    let a = c .before .before .before .before .before .before .before .before .before .before .before .before .before .before .args in
-    let v = c .before .before .before .before .before .before .scan in
-    let q = c .before .before .before .before .before .before .before .before .before .shared-by in
+    let a = c .before .before .before .before .before .before .before .before .before .before .before .before .before .before .before .args in
+    let v = c .before .before .before .before .before .before .before .scan in
+    let q = c .before .before .before .before .before .before .before .before .before .before .shared-by in
     place-by (a .bw) (a .bh) (a .filter) (a .lookups .now) (a .sharpness .now) (a .v .kind) (a .v .«hf_mul») (a .v .wide) (a .v .high) (a .x) (a .y) (stateOf (a .used) (a .kinds .now) (a .hf-mul .now) (a .sigma .now))
-    (v .result) _ (q .result) (v .last .0) (v .last .1 .0) (q .ensures) (v .ensures) (c .enum-told3 .given .1)
+    (v .result) _ (q .result) (v .last .0) (v .last .1 .0) (q .ensures) (v .ensures) (c .before .fault3 .given .1)
 
 same-length-7 : tie.Need-same-length-7
 same-length-7 c = search needs
@@ -108,7 +108,7 @@ returns-4 c =
     let v = c .before .before .before .before .before .before .scan in
     let q = c .before .before .before .before .before .before .before .before .before .shared-by in
     place-by (a .bw) (a .bh) (a .filter) (a .lookups .now) (a .sharpness .now) (a .v .kind) (a .v .«hf_mul») (a .v .wide) (a .v .high) (a .x) (a .y) (stateOf (a .used) (a .kinds .now) (a .hf-mul .now) (a .sigma .now))
-    (v .result) _ (q .result) (v .last .0) (v .last .1 .0) (q .ensures) (v .ensures) (c .enum-told4 .given .1)
+    (v .result) _ (q .result) (v .last .0) (v .last .1 .0) (q .ensures) (v .ensures) (c .enum-told .given .1)
 
 pub place-spec : {M : Type 1} → statement M
 place-spec =
@@ -116,16 +116,16 @@ place-spec =
     (tie.spec
     shared-by-requires
     scan-requires
+    enum-known-fault
+    enum-known-fault-2
+    enum-known-fault-3
     enum-told
-    enum-told-2
-    enum-told-3
-    enum-told-4
     mul-i
     add-i
     slice-write-kinds
     mul-hf-mul
     slice-write-hf-mul
-    add-t24
+    add-t30
     same-length
     same-length-2
     returns

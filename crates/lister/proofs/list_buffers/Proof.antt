@@ -1,0 +1,167 @@
+use Rattle.lister.specs.ListSteps.{few-wide, few-high, few-blocks, cleared}
+use Rattle.filter_strength.specs.Strength.{zero32}
+use Rattle.lf_group.specs.declared.Blocks.{Blocks}
+use lib.Seq.{length-take-le}
+use lib.ListN.{length-replicate}
+use lib.Ieee.{Float}
+use mathlib.Core.Path.{refl}
+use borrow.Author.Needs.{needs}
+use native.Mathlib.Omega.{arith}
+use mathlib.Core.Path.{_≡_, _∙_, ap, sym}
+use Prim.Native.Nat.{ℕ, _≤_, _*_}
+use lib.ListN.{length}
+use Rattle.lister.proofs.list_buffers.Statement.{statement}
+use Rattle.lister.proofs.list_buffers.Tie as tie
+
+blocks-of-requires : tie.Need-blocks-of-requires
+blocks-of-requires c κs = search needs
+
+mul-n : tie.Need-mul-n
+mul-n c =
+    let a = c .before .before .before .before .before .before .before .before .args in
+    let h = c .before .before .before .before .before .before .before .before .pre in
+    let b = c .blocks-of in
+    let ew = ap (λ (s : Blocks). s .bw) (b .ensures) in
+    let eh = ap (λ (s : Blocks). s .bh) (b .ensures) in
+    let w : b .result .bw ≤ 64 = omega (arith, ew, few-wide (a .width) (h .0)) in
+    let v : b .result .bh ≤ 64 = omega (arith, eh, few-high (a .height) (h .1)) in
+    let m = few-blocks (b .result .bw) (b .result .bh) w v in
+    omega arith
+
+slice-aggregate-list-layout : tie.Need-slice-aggregate-list-layout
+slice-aggregate-list-layout c =
+    let a = c .before .before .before .before .before .before .before .before .before .before .args in
+    let h = c .before .before .before .before .before .before .before .before .before .before .pre in
+    let b = c .before .before .blocks-of in
+    let ew = ap (λ (s : Blocks). s .bw) (b .ensures) in
+    let eh = ap (λ (s : Blocks). s .bh) (b .ensures) in
+    let w : b .result .bw ≤ 64 = omega (arith, ew, few-wide (a .width) (h .0)) in
+    let v : b .result .bh ≤ 64 = omega (arith, eh, few-high (a .height) (h .1)) in
+    let m = few-blocks (b .result .bw) (b .result .bh) w v in
+    let l : length (a .sharpness .now) ≡ 4096 = ap length (h .2) ∙ length-replicate {A = ℕ} 4096 0 in
+    sym (length-take-le (b .result .bh * b .result .bw) (a .sharpness .now) (omega arith))
+
+slice-relend-prefix-list-layout : tie.Need-slice-relend-prefix-list-layout
+slice-relend-prefix-list-layout c =
+    let a = c .before .before .before .before .before .before .before .before .before .before .args in
+    let h = c .before .before .before .before .before .before .before .before .before .before .pre in
+    let b = c .before .before .blocks-of in
+    let ew = ap (λ (s : Blocks). s .bw) (b .ensures) in
+    let eh = ap (λ (s : Blocks). s .bh) (b .ensures) in
+    let w : b .result .bw ≤ 64 = omega (arith, ew, few-wide (a .width) (h .0)) in
+    let v : b .result .bh ≤ 64 = omega (arith, eh, few-high (a .height) (h .1)) in
+    let m = few-blocks (b .result .bw) (b .result .bh) w v in
+    let l : length (a .kinds .now) ≡ 4096 = ap length (h .3) ∙ length-replicate {A = ℕ} 4096 0 in
+    omega arith
+
+slice-aggregate-list-layout-2 : tie.Need-slice-aggregate-list-layout-2
+slice-aggregate-list-layout-2 c =
+    let a = c .before .before .before .before .before .before .before .before .before .before .before .args in
+    let h = c .before .before .before .before .before .before .before .before .before .before .before .pre in
+    let b = c .before .before .before .blocks-of in
+    let ew = ap (λ (s : Blocks). s .bw) (b .ensures) in
+    let eh = ap (λ (s : Blocks). s .bh) (b .ensures) in
+    let w : b .result .bw ≤ 64 = omega (arith, ew, few-wide (a .width) (h .0)) in
+    let v : b .result .bh ≤ 64 = omega (arith, eh, few-high (a .height) (h .1)) in
+    let m = few-blocks (b .result .bw) (b .result .bh) w v in
+    let l : length (a .kinds .now) ≡ 4096 = ap length (h .3) ∙ length-replicate {A = ℕ} 4096 0 in
+    sym (length-take-le (b .result .bh * b .result .bw) (a .kinds .now) (omega arith))
+
+slice-relend-prefix-list-layout-2 : tie.Need-slice-relend-prefix-list-layout-2
+slice-relend-prefix-list-layout-2 c =
+    let a = c .before .before .before .before .before .before .before .before .before .before .before .args in
+    let h = c .before .before .before .before .before .before .before .before .before .before .before .pre in
+    let b = c .before .before .before .blocks-of in
+    let ew = ap (λ (s : Blocks). s .bw) (b .ensures) in
+    let eh = ap (λ (s : Blocks). s .bh) (b .ensures) in
+    let w : b .result .bw ≤ 64 = omega (arith, ew, few-wide (a .width) (h .0)) in
+    let v : b .result .bh ≤ 64 = omega (arith, eh, few-high (a .height) (h .1)) in
+    let m = few-blocks (b .result .bw) (b .result .bh) w v in
+    let l : length (a .hf-mul .now) ≡ 4096 = ap length (h .4) ∙ length-replicate {A = ℕ} 4096 0 in
+    omega arith
+
+slice-aggregate-list-layout-3 : tie.Need-slice-aggregate-list-layout-3
+slice-aggregate-list-layout-3 c =
+    let a = c .before .before .before .before .before .before .before .before .before .before .before .before .args in
+    let h = c .before .before .before .before .before .before .before .before .before .before .before .before .pre in
+    let b = c .before .before .before .before .blocks-of in
+    let ew = ap (λ (s : Blocks). s .bw) (b .ensures) in
+    let eh = ap (λ (s : Blocks). s .bh) (b .ensures) in
+    let w : b .result .bw ≤ 64 = omega (arith, ew, few-wide (a .width) (h .0)) in
+    let v : b .result .bh ≤ 64 = omega (arith, eh, few-high (a .height) (h .1)) in
+    let m = few-blocks (b .result .bw) (b .result .bh) w v in
+    let l : length (a .hf-mul .now) ≡ 4096 = ap length (h .4) ∙ length-replicate {A = ℕ} 4096 0 in
+    sym (length-take-le (b .result .bh * b .result .bw) (a .hf-mul .now) (omega arith))
+
+slice-relend-prefix-list-layout-3 : tie.Need-slice-relend-prefix-list-layout-3
+slice-relend-prefix-list-layout-3 c =
+    let a = c .before .before .before .before .before .before .before .before .before .before .before .before .args in
+    let h = c .before .before .before .before .before .before .before .before .before .before .before .before .pre in
+    let b = c .before .before .before .before .blocks-of in
+    let ew = ap (λ (s : Blocks). s .bw) (b .ensures) in
+    let eh = ap (λ (s : Blocks). s .bh) (b .ensures) in
+    let w : b .result .bw ≤ 64 = omega (arith, ew, few-wide (a .width) (h .0)) in
+    let v : b .result .bh ≤ 64 = omega (arith, eh, few-high (a .height) (h .1)) in
+    let m = few-blocks (b .result .bw) (b .result .bh) w v in
+    let l : length (a .sigma .now) ≡ 4096 = ap length (h .5) ∙ length-replicate {A = Float} 4096 zero32 in
+    omega arith
+
+slice-aggregate-list-layout-4 : tie.Need-slice-aggregate-list-layout-4
+slice-aggregate-list-layout-4 c =
+    let a = c .before .before .before .before .before .before .before .before .before .before .before .before .before .args in
+    let h = c .before .before .before .before .before .before .before .before .before .before .before .before .before .pre in
+    let b = c .before .before .before .before .before .blocks-of in
+    let ew = ap (λ (s : Blocks). s .bw) (b .ensures) in
+    let eh = ap (λ (s : Blocks). s .bh) (b .ensures) in
+    let w : b .result .bw ≤ 64 = omega (arith, ew, few-wide (a .width) (h .0)) in
+    let v : b .result .bh ≤ 64 = omega (arith, eh, few-high (a .height) (h .1)) in
+    let m = few-blocks (b .result .bw) (b .result .bh) w v in
+    let l : length (a .sigma .now) ≡ 4096 = ap length (h .5) ∙ length-replicate {A = Float} 4096 zero32 in
+    sym (length-take-le (b .result .bh * b .result .bw) (a .sigma .now) (omega arith))
+
+list-layout-requires : tie.Need-list-layout-requires
+list-layout-requires c κs =
+    let a = c .before .before .before .before .before .before .before .before .before .before .before .before .before .args in
+    let h = c .before .before .before .before .before .before .before .before .before .before .before .before .before .pre in
+    let b = c .before .before .before .before .before .blocks-of in
+    let ew = ap (λ (s : Blocks). s .bw) (b .ensures) in
+    let eh = ap (λ (s : Blocks). s .bh) (b .ensures) in
+    let w : b .result .bw ≤ 64 = omega (arith, ew, few-wide (a .width) (h .0)) in
+    let v : b .result .bh ≤ 64 = omega (arith, eh, few-high (a .height) (h .1)) in
+    let m = few-blocks (b .result .bw) (b .result .bh) w v in
+    (ew, eh, w, v, cleared 0 (a .sharpness .now) (b .result .bh * b .result .bw) (b .result .bh * b .result .bw) (h .2) m refl, cleared 0 (a .kinds .now) (b .result .bh * b .result .bw) (b .result .bh * b .result .bw) (h .3) m refl, cleared 0 (a .hf-mul .now) (b .result .bh * b .result .bw) (b .result .bh * b .result .bw) (h .4) m refl, cleared zero32 (a .sigma .now) (b .result .bh * b .result .bw) (b .result .bh * b .result .bw) (h .5) m refl)
+
+same-length : tie.Need-same-length
+same-length c = search needs
+
+same-length-2 : tie.Need-same-length-2
+same-length-2 c = search needs
+
+same-length-3 : tie.Need-same-length-3
+same-length-3 c = search needs
+
+same-length-4 : tie.Need-same-length-4
+same-length-4 c = search needs
+
+returns : tie.Need-returns
+returns c = search needs
+
+pub list-buffers-spec : {M : Type 1} → statement M
+list-buffers-spec =
+    tie.close
+    (tie.spec
+    blocks-of-requires
+    mul-n
+    slice-aggregate-list-layout
+    slice-relend-prefix-list-layout
+    slice-aggregate-list-layout-2
+    slice-relend-prefix-list-layout-2
+    slice-aggregate-list-layout-3
+    slice-relend-prefix-list-layout-3
+    slice-aggregate-list-layout-4
+    list-layout-requires
+    same-length
+    same-length-2
+    same-length-3
+    same-length-4
+    returns)
