@@ -1,7 +1,8 @@
 //! The calls that are compared.
 
 use compare::cases::{
-    AlikeCase, Case, ContextsCase, CutCase, ReaderCase, SignedCase, TransformCase,
+    AlikeCase, Case, ContextsCase, CutCase, LayoutCase, OrderCase, OrdersCase, PlacesCase,
+    ReaderCase, SignedCase, TransformCase,
 };
 
 use crate::options::Options;
@@ -9,7 +10,15 @@ use crate::options::Options;
 /// Compares one call, and tells whether it agrees.
 type Compare = fn(&Options) -> bool;
 
-const CALLS: [(&str, Compare); 6] = [
+const CALLS: [(&str, Compare); 10] = [
+    (OrderCase::NAME, |options| {
+        compare(options, &OrderCase::new(options.seed), ours::order)
+    }),
+    (PlacesCase::NAME, |options| {
+        compare(options, &PlacesCase::new(), |input| {
+            ours::places_fit(&input.store)
+        })
+    }),
     (TransformCase::NAME, |options| {
         compare(options, &TransformCase, ours::transform)
     }),
@@ -19,6 +28,9 @@ const CALLS: [(&str, Compare); 6] = [
     (ReaderCase::NAME, |options| {
         compare(options, &ReaderCase, ours::read)
     }),
+    (LayoutCase::NAME, |options| {
+        compare(options, &LayoutCase, ours::layout)
+    }),
     (CutCase::NAME, |options| {
         compare(options, &CutCase, ours::cut)
     }),
@@ -27,6 +39,9 @@ const CALLS: [(&str, Compare); 6] = [
     }),
     (ContextsCase::NAME, |options| {
         compare(options, &ContextsCase, ours::contexts)
+    }),
+    (OrdersCase::NAME, |options| {
+        compare(options, &OrdersCase, ours::orders)
     }),
 ];
 
