@@ -2,5 +2,6 @@
 pub mod Contexts
 pub mod Record
 pub mod Every
+pub mod Largest
 pub mod Bounds
 pub mod Laws

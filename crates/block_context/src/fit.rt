@@ -3,9 +3,10 @@ use super::HfBlockContext;
 use super::sizes::lf_size;
 use super::sizes::used;
 ghost use mathlib.Core.Path.{_≡_};
-ghost use Prim.Native.Nat.{_≤_};
+ghost use Prim.Native.Nat.{max, _≤_};
 ghost use lib.ListN.{take};
 ghost use Rattle.laws.specs.Tables.{every};
+ghost use Rattle.block_context.specs.Largest.{largestFrom};
 ghost use Rattle.block_context.specs.Record.{cappedBsize, qfFit, bytesBelow, fit};
 
 fn wide(x: u8) -> u32
@@ -14,18 +15,36 @@ fn wide(x: u8) -> u32
     x as u32
 }
 
-// Every byte is below the count.
+fn larger(a: u8, b: u8) -> u8
+    ensures { λ r. ⌜ r ≡ max a b ⌝ }
+{
+    if a < b {
+        return b;
+    }
+    a
+}
+
+fn largest(map: &[u8]) -> u8
+    ensures { λ r. ⌜ r ≡ largestFrom 0 (now (map .entry)) ⌝ }
+{
+    let mut found = 0;
+    let mut k = 0;
+    while k < map.len() {
+        found = larger(found, map[k]);
+        k += 1;
+    }
+    found
+}
+
+// Every byte is below the count: none is, or the largest. (No way out of the loop: it runs many
+// bytes at a time.)
 pub fn all_below(map: &[u8], count: u32) -> bool
     ensures { λ r. ⌜ r ≡ bytesBelow count (now (map .entry)) ⌝ }
 {
-    let mut k = 0;
-    while k < map.len() {
-        if count <= wide(map[k]) {
-            return false;
-        }
-        k += 1;
+    if map.len() == 0 {
+        return true;
     }
-    true
+    wide(largest(map)) < count
 }
 
 // Every value is 1 to 300.

@@ -1,24 +1,29 @@
--- The size of a kind, by way of its transform.
-use mathlib.Core.Path.{_≡_, refl, sym, _∙_, ap}
-use mathlib.Core.List.{List, map}
-use Prim.Native.Nat.{ℕ, _-_}
-use lib.ListN.{getD}
+-- The code's tables of sizes against the transforms.
+use mathlib.Core.Path.{_≡_, refl, sym, _∙_}
+use mathlib.Core.List.{List, [], _∷_, map}
+use Prim.Native.Nat.{ℕ, zero, suc, _-_, _≤_, _<_}
+use native.Mathlib.Omega.{arith}
+use lib.ListN.{length, getD}
 use Rattle.laws.specs.Lists.{getD-map}
-use Rattle.dct_select.specs.declared.Looked.{Looked}
-use Rattle.dct_select.specs.declared.Looked.the-variants.{Known, Refused}
 use Rattle.dct_select.specs.declared.Sides.{Sides}
-use Rattle.refusal.specs.declared.Refusal.the-variants.{UnknownTransform}
 use Rattle.dct_select.specs.Transforms.{Row, row, TRANSFORMS, wide, high}
-use Rattle.dct_select.specs.LookUp.{known, lookUp, sides, sizeOf}
+use Rattle.dct_select.specs.LookUp.{sides}
 
--- the size of what a number stands for
-abbrev pub sizeBy : Looked → Sides
-sizeBy (Known t) = sizeOf t
-sizeBy (Refused r) = sides 0 0
+-- one column of the table of transforms
+pub wide-at : (t : ℕ) → getD (map (λ (r : Row). r .width) TRANSFORMS) t 0 ≡ wide t
+unfolding wide
+wide-at t = getD-map (λ (r : Row). r .width) TRANSFORMS t (row 0 0 0)
 
-abbrev byRow : Row → Sides
-byRow r = sides (r .width) (r .height)
+pub high-at : (t : ℕ) → getD (map (λ (r : Row). r .height) TRANSFORMS) t 0 ≡ high t
+unfolding high
+high-at t = getD-map (λ (r : Row). r .height) TRANSFORMS t (row 0 0 0)
 
-pub size-at : (t : ℕ) → sizeBy (lookUp t) ≡ sides (wide t) (high t)
+beyond : {A : Type 0} (l : List A) (t : ℕ) (d : A) → length l ≤ t → getD l t d ≡ d
+beyond [] t d h = refl
+beyond (a ∷ l) zero d h = absurd (omega arith)
+beyond (a ∷ l) (suc t) d h = beyond l t d (omega arith)
+
+-- an unknown transform has no blocks
+pub size-beyond : (t : ℕ) → 27 ≤ t → sides 0 0 ≡ sides (wide t) (high t)
 unfolding wide high TRANSFORMS
-size-at t = sym (getD-map sizeBy known t (Refused (UnknownTransform 0 0))) ∙ getD-map byRow TRANSFORMS t (row 0 0 0)
+size-beyond t h = rw (beyond TRANSFORMS t (row 0 0 0) h)

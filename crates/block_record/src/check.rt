@@ -1,9 +1,7 @@
 // The check of a lent layout or group, in one walk over its cells.
 use crate::Checked;
 use crate::Group;
-use dct_select::Looked;
 use dct_select::Sides;
-use dct_select::TransformType;
 use refusal::Refusal;
 ghost use mathlib.Core.Path.{_≡_};
 ghost use mathlib.Core.Bool.{cond};
@@ -15,16 +13,80 @@ ghost use Rattle.layout.specs.Grid.{paint};
 ghost use Rattle.layout.specs.Check.{Fault, Until, clear, fitting, visitCell, isLayout};
 ghost use Rattle.block_record.specs.Calls.{inLimits, lengthsFit, saidCheck, checkOf};
 
+// Blocks across and down of each transform, in one read where the transform type takes two matches.
+const WIDE: [usize; 27] = [
+    1,
+    1,
+    1,
+    1,
+    2,
+    4,
+    1,
+    2,
+    1,
+    4,
+    2,
+    4,
+    1,
+    1,
+    1,
+    1,
+    1,
+    1,
+    8,
+    4,
+    8,
+    16,
+    8,
+    16,
+    32,
+    16,
+    32,
+];
+
+const HIGH: [usize; 27] = [
+    1,
+    1,
+    1,
+    1,
+    2,
+    4,
+    2,
+    1,
+    4,
+    1,
+    4,
+    2,
+    1,
+    1,
+    1,
+    1,
+    1,
+    1,
+    8,
+    8,
+    4,
+    16,
+    16,
+    8,
+    32,
+    32,
+    16,
+];
+
 // Blocks across and down of a corner's varblock, 0 and 0 for an unknown kind.
 pub(crate) fn size_of(kind: u8) -> Sides
     requires { ⌜ 2 ≤ kind ⌝ }
     ensures { λ r. ⌜ r ≡ sides (wideOf kind) (highOf kind) ⌝ }
 {
-    let looked = TransformType::from_number((kind - 2) as u32);
-    match looked {
-        Looked::Known(t) => t.dct_select_size(),
-        Looked::Refused(_) => Sides { wide: 0, high: 0 },
+    let t = (kind - 2) as usize;
+    if t < 27 {
+        return Sides {
+            wide: WIDE[t],
+            high: HIGH[t],
+        };
     }
+    Sides { wide: 0, high: 0 }
 }
 
 // The columns x to x + n - 1 are covered up to row y at most.

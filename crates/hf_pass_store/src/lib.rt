@@ -9,6 +9,7 @@ ghost use lib.Seq.{paste};
 ghost use Rattle.dct_select.specs.BlockSizes.{widthOf, heightOf};
 ghost use Rattle.hf_pass_store.specs.Store.{stretch, insideAll, placesFit};
 ghost use Rattle.hf_pass_store.specs.Offsets.{from};
+ghost use Rattle.hf_pass_store.specs.LookedUp.{stretchAt};
 ghost use Rattle.hf_pass_store.specs.Powers.{Power};
 ghost use Rattle.hf_pass_store.specs.Naturals.{wholeStore, naturalStore, threeOf};
 
@@ -27,24 +28,40 @@ fn start_of(order: usize) -> usize
     STARTS[order]
 }
 
-// The list of an order and a channel, x, y by x, y; empty where there is none.
-pub fn order(store: &[u16], order: usize, channel: usize) -> &[u16]
-    ensures { λ r. ⌜ now r ≡ stretch (now (store .entry)) order channel ⌝ }
+// A part of the store: its first number, and how many.
+pub struct Stretch {
+    pub first: usize,
+    pub count: usize,
+}
+
+// Where a list lies in a store of so many numbers; nowhere, if there is none.
+pub fn stretch_of(numbers: usize, order: usize, channel: usize) -> Stretch
+    ensures { λ r. ⌜ r ≡ stretchAt numbers order channel ⌝ }
 {
     if 13 <= order {
-        return &store[0..0];
+        return Stretch { first: 0, count: 0 };
     }
     if 3 <= channel {
-        return &store[0..0];
+        return Stretch { first: 0, count: 0 };
     }
-    if store.len() != NUMBERS {
-        return &store[0..0];
+    if numbers != NUMBERS {
+        return Stretch { first: 0, count: 0 };
     }
     let size = block_size(order);
     let bw = size.wide;
     let bh = size.high;
     let n = 2 * (bw * bh);
-    let a = start_of(order) + channel * n;
+    let first = start_of(order) + channel * n;
+    Stretch { first, count: n }
+}
+
+// The list of an order and a channel, x, y by x, y; empty where there is none.
+pub fn order(store: &[u16], order: usize, channel: usize) -> &[u16]
+    ensures { λ r. ⌜ now r ≡ stretch (now (store .entry)) order channel ⌝ }
+{
+    let s = stretch_of(store.len(), order, channel);
+    let a = s.first;
+    let n = s.count;
     let e = a + n;
     &store[a..e]
 }

@@ -2,6 +2,7 @@
 // same answer. A call returns the refusal's number, 0 where it is accepted, and its position
 // through x and y.
 pub mod contexts;
+pub mod orders;
 pub mod reader;
 pub mod record;
 pub mod transform;
