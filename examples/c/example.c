@@ -1,6 +1,7 @@
 /*
- * A walk through Netbuff's calls from C: the layout of a scan of 16 x 16 pixels becomes a pass group,
- * and default contexts and orders are read. Prints what it finds; ends with 1 on anything unexpected.
+ * A walk through Netbuff's calls from C: the columns of a scan of 16 x 16 pixels become a layout, the
+ * layout a pass group, and the group is read with default contexts and orders. Prints what it finds;
+ * ends with 1 on anything unexpected.
  */
 #include "netbuff.h"
 
