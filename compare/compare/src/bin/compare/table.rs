@@ -1,8 +1,8 @@
 //! The calls that are compared.
 
 use compare::cases::{
-    AlikeCase, Case, ContextsCase, CutCase, OrderCase, OrdersCase, PlacesCase, ReaderCase,
-    SignedCase, TransformCase,
+    AlikeCase, Case, ColumnCountCase, ContextsCase, CutCase, LayoutCase, OrderCase, OrdersCase,
+    PlacesCase, ReaderCase, SignedCase, TransformCase,
 };
 
 use crate::options::Options;
@@ -10,7 +10,10 @@ use crate::options::Options;
 /// Compares one call, and tells whether it agrees.
 type Compare = fn(&Options) -> bool;
 
-const CALLS: [(&str, Compare); 9] = [
+const CALLS: [(&str, Compare); 11] = [
+    (ColumnCountCase::NAME, |options| {
+        compare(options, &ColumnCountCase, ours::column_count)
+    }),
     (OrderCase::NAME, |options| {
         compare(options, &OrderCase::new(options.seed), ours::order)
     }),
@@ -27,6 +30,9 @@ const CALLS: [(&str, Compare); 9] = [
     }),
     (ReaderCase::NAME, |options| {
         compare(options, &ReaderCase, ours::read)
+    }),
+    (LayoutCase::NAME, |options| {
+        compare(options, &LayoutCase, ours::layout)
     }),
     (CutCase::NAME, |options| {
         compare(options, &CutCase, ours::cut)
