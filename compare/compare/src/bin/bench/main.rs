@@ -6,7 +6,11 @@
 #[cfg(live)]
 mod contexts;
 #[cfg(live)]
+mod layouts;
+#[cfg(live)]
 mod measure;
+#[cfg(live)]
+mod orders;
 #[cfg(live)]
 mod records;
 
@@ -15,7 +19,12 @@ fn main() {
     let names: Vec<String> = std::env::args().skip(1).collect();
     let wanted = |name: &str| names.is_empty() || names.iter().any(|part| name.contains(part));
     println!("{}", measure::HEAD);
-    let benches = [records::benches(), contexts::benches()];
+    let benches = [
+        layouts::benches(),
+        records::benches(),
+        contexts::benches(),
+        orders::benches(),
+    ];
     for bench in benches.into_iter().flatten() {
         if wanted(&bench.name) {
             println!("{}", measure::measure(bench));

@@ -57,6 +57,21 @@ pub fn plain<T>(mut call: impl FnMut() -> T + 'static) -> Side {
     })
 }
 
+/// A side whose every call takes something that was made ready before the clock starts.
+pub fn prepared<P: 'static, T>(
+    mut prepare: impl FnMut() -> P + 'static,
+    mut call: impl FnMut(P) -> T + 'static,
+) -> Side {
+    Box::new(move |times| {
+        let ready: Vec<P> = (0..times).map(|_| prepare()).collect();
+        let start = Instant::now();
+        for each in ready {
+            black_box(call(each));
+        }
+        start.elapsed()
+    })
+}
+
 pub fn measure(bench: Bench) -> Row {
     let Bench {
         name,

@@ -1,7 +1,8 @@
 //! The calls that are compared.
 
 use compare::cases::{
-    AlikeCase, Case, ContextsCase, CutCase, ReaderCase, SignedCase, TransformCase,
+    AlikeCase, Case, ColumnCountCase, ContextsCase, CutCase, LayoutCase, OrderCase, OrdersCase,
+    PlacesCase, ReaderCase, SignedCase, TransformCase,
 };
 
 use crate::options::Options;
@@ -9,7 +10,18 @@ use crate::options::Options;
 /// Compares one call, and tells whether it agrees.
 type Compare = fn(&Options) -> bool;
 
-const CALLS: [(&str, Compare); 6] = [
+const CALLS: [(&str, Compare); 11] = [
+    (ColumnCountCase::NAME, |options| {
+        compare(options, &ColumnCountCase, ours::column_count)
+    }),
+    (OrderCase::NAME, |options| {
+        compare(options, &OrderCase::new(options.seed), ours::order)
+    }),
+    (PlacesCase::NAME, |options| {
+        compare(options, &PlacesCase::new(), |input| {
+            ours::places_fit(&input.store)
+        })
+    }),
     (TransformCase::NAME, |options| {
         compare(options, &TransformCase, ours::transform)
     }),
@@ -19,6 +31,9 @@ const CALLS: [(&str, Compare); 6] = [
     (ReaderCase::NAME, |options| {
         compare(options, &ReaderCase, ours::read)
     }),
+    (LayoutCase::NAME, |options| {
+        compare(options, &LayoutCase, ours::layout)
+    }),
     (CutCase::NAME, |options| {
         compare(options, &CutCase, ours::cut)
     }),
@@ -27,6 +42,9 @@ const CALLS: [(&str, Compare); 6] = [
     }),
     (ContextsCase::NAME, |options| {
         compare(options, &ContextsCase, ours::contexts)
+    }),
+    (OrdersCase::NAME, |options| {
+        compare(options, &OrdersCase, ours::orders)
     }),
 ];
 
