@@ -3,3 +3,4 @@ pub mod Transform
 pub mod Reader
 pub mod Record
 pub mod Contexts
+pub mod Coefficients
