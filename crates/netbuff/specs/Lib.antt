@@ -5,3 +5,4 @@ pub mod Record
 pub mod Contexts
 pub mod Orders
 pub mod Layout
+pub mod Coefficients
