@@ -79,11 +79,13 @@ module _ (shift clusters : ℕ) (stretch : List ℕ) (c width : ℕ) (it : Item)
       where
         go : (x : Walked) → w ≡ x → Shown width symbols most r rows₁ log₁ G₁ (after c G (set (cut width rows) c (newRow (inChannel c it) (take width (getD rows c [])) (drop at symbols))) left x)
         go (ended us at′ log′ g n) q = absurd (let a : r ≡ Ended at′ = got .answer ∙ ap answerOf q in let z : isStopped r ≡ false = ap isStopped a in let y : _≡_ {A = ℕ} 0 1 = cc in omega arith)
-        go (stopped why at′ log′ g) q = record { it = record {
-          answer = got .answer ∙ ap answerOf q;
-          logged = sym (got .logged ∙ ap logOf q);
-          cells = sym (got .cells ∙ ap (λ (x : Walked). set G c (gridOf x)) q);
-        } }
+        go (stopped why at′ log′ g) q = record {
+          it = record {
+            answer = got .answer ∙ ap answerOf q;
+            logged = sym (got .logged ∙ ap logOf q);
+            cells = sym (got .cells ∙ ap (λ (x : Walked). set G c (gridOf x)) q);
+          };
+        }
 
     -- the walk ended: the count was read, and the row is rewritten
     pub read-count : isStopped r ≡ false → (at < length symbols) × (getD symbols at 0 ≤ 63 * it .blocks)
@@ -124,17 +126,19 @@ module _ (shift clusters : ℕ) (stretch : List ℕ) (c width : ℕ) (it : Item)
             absurd (let a : r ≡ Stopped (why at′) = got .answer ∙ ap answerOf q in let z : isStopped r ≡ true = ap isStopped a in let y : _≡_ {A = ℕ} 0 1 = cc in omega arith)
         go (ended us at′ log′ g n) q k =
             let m = k .most in let t : k .k ≤ length symbols - at = rw (length-drop at symbols) at (k .there) in let f = k .read in let h = read-count e .0 in
-            record { it = record {
-              answer = got .answer ∙ ap answerOf q;
-              rest = k .rest ∙ drop-drop (k .k) at symbols ∙ ap (λ (j : ℕ). drop j symbols) (sym f);
-              begins = omega arith;
-              few = omega arith;
-              fine = set-rows rows c (rowOf (getD rows c []) (it .x) (it .wide) v) fine
-                  (row-le (getD rows c []) (it .x) (it .wide) v (count-over (getD symbols at 0) (it .blocks) pos (read-count e .1)) (fine .counts c));
-              used = rows-are;
-              logged = sym (got .logged ∙ ap logOf q);
-              cells = sym (got .cells ∙ ap (λ (x : Walked). set G c (gridOf x)) q);
-            } }
+            record {
+              it = record {
+                answer = got .answer ∙ ap answerOf q;
+                rest = k .rest ∙ drop-drop (k .k) at symbols ∙ ap (λ (j : ℕ). drop j symbols) (sym f);
+                begins = omega arith;
+                few = omega arith;
+                fine = set-rows rows c (rowOf (getD rows c []) (it .x) (it .wide) v) fine
+                    (row-le (getD rows c []) (it .x) (it .wide) v (count-over (getD symbols at 0) (it .blocks) pos (read-count e .1)) (fine .counts c));
+                used = rows-are;
+                logged = sym (got .logged ∙ ap logOf q);
+                cells = sym (got .cells ∙ ap (λ (x : Walked). set G c (gridOf x)) q);
+              };
+            }
 
 -- an item has 63 places for each block
 pub item-size : (v : Varblock) (width context : ℕ) (order : List ℕ) → length order ≡ 128 * 2 ^ (v .log) → length (itemAt v width context order .places) ≡ 63 * 2 ^ (v .log)

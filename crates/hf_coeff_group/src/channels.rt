@@ -1,6 +1,6 @@
 // One channel, and the three channels of a varblock.
-use crate::plan::Plan;
 use crate::is_stopped;
+use crate::plan::Plan;
 use crate::symbols_read;
 use hf_coeff_walk::Walk;
 use hf_coeff_walk::count::count_over;
@@ -8,7 +8,6 @@ use hf_coeff_walk::count::rewritten;
 use hf_coeff_walk::item::Varblock;
 use hf_coeff_walk::item::read_channel;
 use hf_pass_store::order;
-
 ghost use mathlib.Core.Path.{_≡_};
 ghost use mathlib.Core.List.{[], _∷_};
 ghost use Prim.Native.Nat.{ℕ, _+_, _*_, _^_, _≤_, _<_};
@@ -41,12 +40,51 @@ fn walk_channel<'a>(
     ensures { λ r. ⌜ InGrid c (now (g0 .entry) ∷ now (g1 .entry) ∷ now (g2 .entry) ∷ []) r (now (log .exit)) (now (g0 .exit) ∷ now (g1 .exit) ∷ now (g2 .exit) ∷ []) (λ g. counted shift clusters (now (map .entry)) (itemAt v width context (now (order .entry))) row (drop at (now (symbols .entry))) at (now (log .entry)) g) ⌝ }
 {
     if c == 0 {
-        return read_channel(v, width, context, clusters, map, order, row, symbols, at, shift, log, g0);
+        return read_channel(
+            v,
+            width,
+            context,
+            clusters,
+            map,
+            order,
+            row,
+            symbols,
+            at,
+            shift,
+            log,
+            g0,
+        );
     }
     if c == 1 {
-        return read_channel(v, width, context, clusters, map, order, row, symbols, at, shift, log, g1);
+        return read_channel(
+            v,
+            width,
+            context,
+            clusters,
+            map,
+            order,
+            row,
+            symbols,
+            at,
+            shift,
+            log,
+            g1,
+        );
     }
-    read_channel(v, width, context, clusters, map, order, row, symbols, at, shift, log, g2)
+    read_channel(
+        v,
+        width,
+        context,
+        clusters,
+        map,
+        order,
+        row,
+        symbols,
+        at,
+        shift,
+        log,
+        g2,
+    )
 }
 
 fn wide(x: u32) -> usize
@@ -83,7 +121,23 @@ fn read_item<'a>(
     ensures { λ r. ⌜ ((left : ℕ) → Shown width (now (symbols .entry)) (at + 64 * 2 ^ (v .log)) (r .walk) (set rows c (rowOf (getD rows c []) (v .x) (v .wide) (r .count))) (now (log .exit)) (now (g0 .exit) ∷ now (g1 .exit) ∷ now (g2 .exit) ∷ []) (item shift clusters (now (map .entry)) (inChannel c (itemAt v width context (now (order .entry)))) (going (drop at (now (symbols .entry))) at (now (log .entry)) (now (g0 .entry) ∷ now (g1 .entry) ∷ now (g2 .entry) ∷ []) (cut width rows) left))) ⌝ }
 {
     let row = rows[c];
-    let walk = walk_channel(c, v, width, context, clusters, map, order, row, symbols, at, shift, log, g0, g1, g2);
+    let walk = walk_channel(
+        c,
+        v,
+        width,
+        context,
+        clusters,
+        map,
+        order,
+        row,
+        symbols,
+        at,
+        shift,
+        log,
+        g0,
+        g1,
+        g2,
+    );
     if is_stopped(walk) {
         return ChannelRead { walk, count: 0 };
     }
@@ -98,7 +152,12 @@ pub struct VarblockRead {
 }
 
 // The rows after a varblock of this corner's column and width.
-pub fn rewritten_all(rows: [[u32; 32]; 3], x: usize, wide: usize, counts: [u32; 3]) -> [[u32; 32]; 3]
+pub fn rewritten_all(
+    rows: [[u32; 32]; 3],
+    x: usize,
+    wide: usize,
+    counts: [u32; 3],
+) -> [[u32; 32]; 3]
     requires { ⌜ x + wide ≤ 32 ⌝ }
     ensures { λ r. ⌜ r ≡ rowsBy rows x wide counts ⌝ }
 {
@@ -129,7 +188,23 @@ pub fn read_varblock<'a>(
     let v = plan.at;
     let contexts = plan.contexts;
     let number = plan.order;
-    let y = read_item(1, v, width, contexts[0], clusters, map, order(store, number, 1), rows, symbols, at, shift, log, g0, g1, g2);
+    let y = read_item(
+        1,
+        v,
+        width,
+        contexts[0],
+        clusters,
+        map,
+        order(store, number, 1),
+        rows,
+        symbols,
+        at,
+        shift,
+        log,
+        g0,
+        g1,
+        g2,
+    );
     let walk = y.walk;
     if is_stopped(walk) {
         return VarblockRead {
@@ -139,7 +214,23 @@ pub fn read_varblock<'a>(
     }
     let at = symbols_read(walk);
     let rows = rewritten(rows, 1, v.x, v.wide, y.count);
-    let x = read_item(0, v, width, contexts[1], clusters, map, order(store, number, 0), rows, symbols, at, shift, log, g0, g1, g2);
+    let x = read_item(
+        0,
+        v,
+        width,
+        contexts[1],
+        clusters,
+        map,
+        order(store, number, 0),
+        rows,
+        symbols,
+        at,
+        shift,
+        log,
+        g0,
+        g1,
+        g2,
+    );
     let walk = x.walk;
     if is_stopped(walk) {
         return VarblockRead {
@@ -149,7 +240,23 @@ pub fn read_varblock<'a>(
     }
     let at = symbols_read(walk);
     let rows = rewritten(rows, 0, v.x, v.wide, x.count);
-    let b = read_item(2, v, width, contexts[2], clusters, map, order(store, number, 2), rows, symbols, at, shift, log, g0, g1, g2);
+    let b = read_item(
+        2,
+        v,
+        width,
+        contexts[2],
+        clusters,
+        map,
+        order(store, number, 2),
+        rows,
+        symbols,
+        at,
+        shift,
+        log,
+        g0,
+        g1,
+        g2,
+    );
     let walk = b.walk;
     VarblockRead {
         walk,

@@ -5,7 +5,6 @@ use crate::is_stopped;
 use crate::plan::plan_of;
 use crate::symbols_read;
 use hf_coeff_walk::Walk;
-
 ghost use mathlib.Core.Path.{_≡_};
 ghost use mathlib.Core.List.{[], _∷_};
 ghost use lib.ListN.{length};
@@ -52,9 +51,37 @@ pub fn read_group<'a>(
                 x += 1;
                 continue;
             }
-            let plan = plan_of(x, y, width, kind, muls[i], lengths, lf_thresholds, qf_thresholds, block_ctx_map, lf_there, lf0, lf1, lf2);
+            let plan = plan_of(
+                x,
+                y,
+                width,
+                kind,
+                muls[i],
+                lengths,
+                lf_thresholds,
+                qf_thresholds,
+                block_ctx_map,
+                lf_there,
+                lf0,
+                lf1,
+                lf2,
+            );
             let v = plan.at;
-            let read = read_varblock(plan, width, clusters, map, store, symbols, at, rows, shift, log, g0, g1, g2);
+            let read = read_varblock(
+                plan,
+                width,
+                clusters,
+                map,
+                store,
+                symbols,
+                at,
+                rows,
+                shift,
+                log,
+                g0,
+                g1,
+                g2,
+            );
             let walk = read.walk;
             let counts = read.counts;
             if is_stopped(walk) {

@@ -3,7 +3,6 @@ use block_context::index::block_contexts;
 use dct_select::Looked;
 use dct_select::TransformType;
 use hf_coeff_walk::item::Varblock;
-
 ghost use mathlib.Core.Path.{_≡_};
 ghost use Prim.Native.Nat.{_-_, _≤_, _<_};
 ghost use lib.ListN.{getD};
@@ -19,7 +18,35 @@ pub struct Plan {
 }
 
 // The exponent of each transform's number of blocks.
-const LOG_BLOCKS: [usize; 27] = [0, 0, 0, 0, 2, 4, 1, 1, 2, 2, 3, 3, 0, 0, 0, 0, 0, 0, 6, 5, 5, 8, 7, 7, 10, 9, 9];
+const LOG_BLOCKS: [usize; 27] = [
+    0,
+    0,
+    0,
+    0,
+    2,
+    4,
+    1,
+    1,
+    2,
+    2,
+    3,
+    3,
+    0,
+    0,
+    0,
+    0,
+    0,
+    0,
+    6,
+    5,
+    5,
+    8,
+    7,
+    7,
+    10,
+    9,
+    9,
+];
 
 fn wide(x: u8) -> usize
     ensures { λ r. ⌜ r ≡ x ⌝ }
@@ -124,5 +151,9 @@ pub fn plan_of<'a>(
         number_at(lf1, i),
         number_at(lf2, i),
     );
-    Plan { at, order, contexts }
+    Plan {
+        at,
+        order,
+        contexts,
+    }
 }

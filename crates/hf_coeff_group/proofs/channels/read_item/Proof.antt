@@ -34,19 +34,19 @@ same-length-4 : tie.Need-same-length-4
 same-length-4 c = search needs
 
 returns : tie.Need-returns
-returns c = 
+returns c =
     let a = c .before .before .before .before .before .before .before .before .before .before .before .before .before .before .before .before .before .before .before .before .before .before .before .args in
     let p = c .before .before .before .before .before .before .before .before .before .before .before .before .before .before .before .before .before .before .before .before .before .before .before .pre in
     item-stopped (a .shift) (a .clusters) (a .map .now) (a .c) (a .width) (itemAt (a .v) (a .width) (a .context) (a .order .now)) (a .t8) (a .symbols .now) (a .at) (a .log .now) (a .g0 .now ∷ a .g1 .now ∷ a .g2 .now ∷ []) (p .0 .channel) (p .0 .column) (p .0 .fine) (a .at + 64 * 2 ^ (a .v .log)) _ _ _ (c .before .before .before .before .before .before .before .before .before .before .walk-channel .ensures) (sym (c .before .is-stopped .ensures) ∙ c .if1 .taken) _
 
 mul-wide : tie.Need-mul-wide
-mul-wide c = 
+mul-wide c =
     let a = c .before .before .before .before .before .before .before .before .before .before .before .before .before .before .before .before .before .before .before .before .before .before .before .args in
     let p = c .before .before .before .before .before .before .before .before .before .before .before .before .before .before .before .before .before .before .before .before .before .before .before .pre in
     let k = read-count (a .shift) (a .clusters) (a .map .now) (a .c) (a .width) (itemAt (a .v) (a .width) (a .context) (a .order .now)) (a .t8) (a .symbols .now) (a .at) (a .log .now) (a .g0 .now ∷ a .g1 .now ∷ a .g2 .now ∷ []) (p .0 .channel) (p .0 .column) (p .0 .fine) (a .at + 64 * 2 ^ (a .v .log)) _ _ _ (c .before .before .before .before .before .before .before .before .before .before .walk-channel .ensures) (sym (c .before .is-stopped .ensures) ∙ c .if1 .left) in omega (arith, k .0, c .before .before .before .before .before .before .before .before .before .before .before .before .before .before .before .before .before .before .before .before .before .before .before .good, c .before .before .before .before .before .before .before .before .before .before .before .before .before .before .before .before .before .before .before .before .before .before .before .fits)
 
 shared-slice-read-wide : tie.Need-shared-slice-read-wide
-shared-slice-read-wide c = 
+shared-slice-read-wide c =
     let a = c .before .before .before .before .before .before .before .before .before .before .before .before .before .before .before .before .before .before .before .before .before .before .before .before .args in
     let p = c .before .before .before .before .before .before .before .before .before .before .before .before .before .before .before .before .before .before .before .before .before .before .before .before .pre in
     let k = read-count (a .shift) (a .clusters) (a .map .now) (a .c) (a .width) (itemAt (a .v) (a .width) (a .context) (a .order .now)) (a .t8) (a .symbols .now) (a .at) (a .log .now) (a .g0 .now ∷ a .g1 .now ∷ a .g2 .now ∷ []) (p .0 .channel) (p .0 .column) (p .0 .fine) (a .at + 64 * 2 ^ (a .v .log)) _ _ _ (c .before .before .before .before .before .before .before .before .before .before .before .walk-channel .ensures) (sym (c .before .before .is-stopped .ensures) ∙ c .before .if1 .left) in omega (arith, k .0)
@@ -55,7 +55,7 @@ wide-requires : tie.Need-wide-requires
 wide-requires c κs = search needs
 
 count-over-requires : tie.Need-count-over-requires
-count-over-requires c κs = 
+count-over-requires c κs =
     let a = c .before .before .before .before .before .before .before .before .before .before .before .before .before .before .before .before .before .before .before .before .before .before .before .before .before .args in
     let p = c .before .before .before .before .before .before .before .before .before .before .before .before .before .before .before .before .before .before .before .before .before .before .before .before .before .pre in
     let k = read-count (a .shift) (a .clusters) (a .map .now) (a .c) (a .width) (itemAt (a .v) (a .width) (a .context) (a .order .now)) (a .t8) (a .symbols .now) (a .at) (a .log .now) (a .g0 .now ∷ a .g1 .now ∷ a .g2 .now ∷ []) (p .0 .channel) (p .0 .column) (p .0 .fine) (a .at + 64 * 2 ^ (a .v .log)) _ _ _ (c .before .before .before .before .before .before .before .before .before .before .before .before .walk-channel .ensures) (sym (c .before .before .before .is-stopped .ensures) ∙ c .before .before .if1 .left) in (p .1 .power, rw (c .wide .ensures) (k .1))
@@ -73,7 +73,7 @@ same-length-8 : tie.Need-same-length-8
 same-length-8 c = search needs
 
 returns-2 : tie.Need-returns-2
-returns-2 c = 
+returns-2 c =
     let a = c .before .before .before .before .before .before .before .before .before .before .before .before .before .before .before .before .before .before .before .before .before .before .before .before .before .before .args in
     let p = c .before .before .before .before .before .before .before .before .before .before .before .before .before .before .before .before .before .before .before .before .before .before .before .before .before .before .pre in
     let q = item-size (a .v) (a .width) (a .context) (a .order .now) (p .1 .places) in

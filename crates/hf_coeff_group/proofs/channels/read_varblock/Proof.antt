@@ -18,7 +18,7 @@ order-requires : tie.Need-order-requires
 order-requires c κs = search needs
 
 read-item-requires : tie.Need-read-item-requires
-read-item-requires c κs = 
+read-item-requires c κs =
     let a = c .before .before .before .before .before .before .before .before .before .before .before .before .before .before .args in
     item-asks (a .plan) (a .width) (a .clusters) (a .map .now) (a .store .now) (length (a .symbols .now)) (a .at) (a .shift) (length (a .log .now)) (length (a .g0 .now)) (c .before .before .before .before .before .before .before .before .before .before .before .before .before .before .pre .0) 0 1 (a .at) (a .rows) _ _ _ _ _ (omega arith) (omega arith) (c .before .before .before .before .before .before .before .before .before .before .before .before .before .before .pre .0 .begins) (omega arith) (c .before .before .before .before .before .before .before .before .before .before .before .before .before .before .pre .1) (c .before .before .before .before .order .ensures) refl refl (c .before .before .before .before .before .before .before .before .before .before .before .before .before .before .pre .2) (c .before .before .before .before .before .before .before .before .before .before .before .before .before .before .pre .3)
 
@@ -38,7 +38,7 @@ same-length-4 : tie.Need-same-length-4
 same-length-4 c = search needs
 
 returns : tie.Need-returns
-returns c = 
+returns c =
     let a = c .before .before .before .before .before .before .before .before .before .before .before .before .before .before .before .before .before .before .before .before .before .before .before .before .before .args in
     λ left. first-stop (a .width) (a .symbols .now) (a .shift) (a .clusters) (a .map .now) _ (itemBy (a .plan) (a .width) (a .store .now) 0 1) (ap (λ (o : List ℕ). inChannel 1 (itemAt (a .plan .at) (a .width) (getD (a .plan .contexts) 0 0) o)) (c .before .before .before .before .before .before .before .before .before .before .before .before .before .before .before .order .ensures)) _ _ (a .at + 192 * 2 ^ (a .plan .at .log)) _ _ _ _ (c .before .before .before .before .before .before .before .before .before .before .read-item .ensures left) (itemBy (a .plan) (a .width) (a .store .now) 1 0 ∷ itemBy (a .plan) (a .width) (a .store .now) 2 2 ∷ []) _ (sym (c .before .is-stopped .ensures) ∙ c .if1 .taken)
 
@@ -55,7 +55,7 @@ order-requires-2 : tie.Need-order-requires-2
 order-requires-2 c κs = search needs
 
 read-item-requires-2 : tie.Need-read-item-requires-2
-read-item-requires-2 c κs = 
+read-item-requires-2 c κs =
     let a = c .before .before .before .before .before .before .before .before .before .before .before .before .before .before .before .before .before .before .before .before .before .before .before .before .before .before .before .before .before .before .before .before .args in
     let o1 = shown-on (a .width) (a .symbols .now) (a .at + 64 * 2 ^ (a .plan .at .log)) _ _ _ _ _ (c .before .before .before .before .before .before .before .before .before .before .before .before .before .before .before .before .before .read-item .ensures 0) (sym (c .before .before .before .before .before .before .before .before .is-stopped .ensures) ∙ c .before .before .before .before .before .before .before .if1 .left) in
     let q : c .before .before .before .before .before .before .symbols-read .result ≡ readBy (c .before .before .before .before .before .before .before .before .before .before .before .before .before .before .before .before .before .read-item .result .walk) = c .before .before .before .before .before .before .symbols-read .ensures in
@@ -80,7 +80,7 @@ same-length-8 : tie.Need-same-length-8
 same-length-8 c = c .before .before .before .g22 .given ∙ c .before .before .before .before .before .before .before .before .before .before .before .before .before .before .before .before .before .before .before .before .before .g2 .given
 
 returns-2 : tie.Need-returns-2
-returns-2 c = 
+returns-2 c =
     let a = c .before .before .before .before .before .before .before .before .before .before .before .before .before .before .before .before .before .before .before .before .before .before .before .before .before .before .before .before .before .before .before .before .before .before .before .before .before .before .before .before .before .before .before .args in
     λ left. first-then (a .width) (a .symbols .now) (a .shift) (a .clusters) (a .map .now) _ (itemBy (a .plan) (a .width) (a .store .now) 0 1) (ap (λ (o : List ℕ). inChannel 1 (itemAt (a .plan .at) (a .width) (getD (a .plan .contexts) 0 0) o)) (c .before .before .before .before .before .before .before .before .before .before .before .before .before .before .before .before .before .before .before .before .before .before .before .before .before .before .before .before .before .before .before .before .before .order .ensures)) _ _ (a .at + 192 * 2 ^ (a .plan .at .log)) _ _ _ _ (c .before .before .before .before .before .before .before .before .before .before .before .before .before .before .before .before .before .before .before .before .before .before .before .before .before .before .before .before .read-item .ensures left) (itemBy (a .plan) (a .width) (a .store .now) 1 0 ∷ itemBy (a .plan) (a .width) (a .store .now) 2 2 ∷ []) _ _ _ _ (sym (c .before .before .before .before .before .before .before .before .before .before .before .before .before .before .before .before .before .before .before .is-stopped .ensures) ∙ c .before .before .before .before .before .before .before .before .before .before .before .before .before .before .before .before .before .before .if1 .left)
     (λ l. rw (← (c .before .before .before .before .before .before .before .before .before .before .before .before .before .before .before .before .before .symbols-read .ensures), ← (c .before .before .before .before .before .before .before .before .before .before .before .before .before .before .before .before .rewritten .ensures)) (first-stop (a .width) (a .symbols .now) (a .shift) (a .clusters) (a .map .now) _ (itemBy (a .plan) (a .width) (a .store .now) 1 0) (ap (λ (o : List ℕ). inChannel 0 (itemAt (a .plan .at) (a .width) (getD (a .plan .contexts) 1 0) o)) (c .before .before .before .before .before .before .before .before .before .before .before .before .before .before .before .order2 .ensures)) _ _ (a .at + 192 * 2 ^ (a .plan .at .log)) _ _ _ _ (c .before .before .before .before .before .before .before .before .before .before .read-item2 .ensures l) (itemBy (a .plan) (a .width) (a .store .now) 2 2 ∷ []) _ (sym (c .before .is-stopped2 .ensures) ∙ c .if2 .taken)))
@@ -98,7 +98,7 @@ order-requires-3 : tie.Need-order-requires-3
 order-requires-3 c κs = search needs
 
 read-item-requires-3 : tie.Need-read-item-requires-3
-read-item-requires-3 c κs = 
+read-item-requires-3 c κs =
     let a = c .before .before .before .before .before .before .before .before .before .before .before .before .before .before .before .before .before .before .before .before .before .before .before .before .before .before .before .before .before .before .before .before .before .before .before .before .before .before .before .before .before .before .before .before .before .before .before .before .before .before .args in
     let o1 = shown-on (a .width) (a .symbols .now) (a .at + 64 * 2 ^ (a .plan .at .log)) _ _ _ _ _ (c .before .before .before .before .before .before .before .before .before .before .before .before .before .before .before .before .before .before .before .before .before .before .before .before .before .before .before .before .before .before .before .before .before .before .before .read-item .ensures 0) (sym (c .before .before .before .before .before .before .before .before .before .before .before .before .before .before .before .before .before .before .before .before .before .before .before .before .before .before .is-stopped .ensures) ∙ c .before .before .before .before .before .before .before .before .before .before .before .before .before .before .before .before .before .before .before .before .before .before .before .before .before .if1 .left) in
     let o2 = shown-on (a .width) (a .symbols .now) (c .before .before .before .before .before .before .before .before .before .before .before .before .before .before .before .before .before .before .before .before .before .before .before .before .symbols-read .result + 64 * 2 ^ (a .plan .at .log)) _ _ _ _ _ (c .before .before .before .before .before .before .before .before .before .before .before .before .before .before .before .before .before .read-item2 .ensures 0) (sym (c .before .before .before .before .before .before .before .before .is-stopped2 .ensures) ∙ c .before .before .before .before .before .before .before .if2 .left) in
@@ -123,7 +123,7 @@ same-length-12 : tie.Need-same-length-12
 same-length-12 c = c .before .g23 .given ∙ c .before .before .before .before .before .before .before .before .before .before .before .before .before .before .before .before .before .before .before .g22 .given ∙ c .before .before .before .before .before .before .before .before .before .before .before .before .before .before .before .before .before .before .before .before .before .before .before .before .before .before .before .before .before .before .before .before .before .before .before .before .before .g2 .given
 
 returns-3 : tie.Need-returns-3
-returns-3 c = 
+returns-3 c =
     let a = c .before .before .before .before .before .before .before .before .before .before .before .before .before .before .before .before .before .before .before .before .before .before .before .before .before .before .before .before .before .before .before .before .before .before .before .before .before .before .before .before .before .before .before .before .before .before .before .before .before .before .before .before .before .before .before .before .before .before .before .args in
     let o1 = shown-on (a .width) (a .symbols .now) (a .at + 64 * 2 ^ (a .plan .at .log)) _ _ _ _ _ (c .before .before .before .before .before .before .before .before .before .before .before .before .before .before .before .before .before .before .before .before .before .before .before .before .before .before .before .before .before .before .before .before .before .before .before .before .before .before .before .before .before .before .before .before .read-item .ensures 0) (sym (c .before .before .before .before .before .before .before .before .before .before .before .before .before .before .before .before .before .before .before .before .before .before .before .before .before .before .before .before .before .before .before .before .before .before .before .is-stopped .ensures) ∙ c .before .before .before .before .before .before .before .before .before .before .before .before .before .before .before .before .before .before .before .before .before .before .before .before .before .before .before .before .before .before .before .before .before .before .if1 .left) in
     let o2 = shown-on (a .width) (a .symbols .now) (c .before .before .before .before .before .before .before .before .before .before .before .before .before .before .before .before .before .before .before .before .before .before .before .before .before .before .before .before .before .before .before .before .before .symbols-read .result + 64 * 2 ^ (a .plan .at .log)) _ _ _ _ _ (c .before .before .before .before .before .before .before .before .before .before .before .before .before .before .before .before .before .before .before .before .before .before .before .before .before .before .read-item2 .ensures 0) (sym (c .before .before .before .before .before .before .before .before .before .before .before .before .before .before .before .before .before .is-stopped2 .ensures) ∙ c .before .before .before .before .before .before .before .before .before .before .before .before .before .before .before .before .if2 .left) in

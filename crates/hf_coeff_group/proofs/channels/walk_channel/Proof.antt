@@ -17,7 +17,7 @@ same-length-2 : tie.Need-same-length-2
 same-length-2 c = search needs
 
 returns : tie.Need-returns
-returns c = 
+returns c =
     let a = c .before .before .before .before .before .before .before .before .before .before .before .before .before .before .before .args in
     in-first (a .c) _ _ (λ g. counted (a .shift) (a .clusters) (a .map .now) (itemAt (a .v) (a .width) (a .context) (a .order .now)) (a .row) (drop (a .at) (a .symbols .now)) (a .at) (a .log .now) g) (a .g0 .now) (a .g1 .now) (a .g2 .now) _ (omega arith) (c .before .before .before .before .read-channel .ensures)
 
@@ -31,7 +31,7 @@ same-length-4 : tie.Need-same-length-4
 same-length-4 c = search needs
 
 returns-2 : tie.Need-returns-2
-returns-2 c = 
+returns-2 c =
     let a = c .before .before .before .before .before .before .before .before .before .before .before .before .before .before .before .before .args in
     in-second (a .c) _ _ (λ g. counted (a .shift) (a .clusters) (a .map .now) (itemAt (a .v) (a .width) (a .context) (a .order .now)) (a .row) (drop (a .at) (a .symbols .now)) (a .at) (a .log .now) g) (a .g0 .now) (a .g1 .now) (a .g2 .now) _ (omega arith) (c .before .before .before .before .read-channel2 .ensures)
 
@@ -45,7 +45,7 @@ same-length-6 : tie.Need-same-length-6
 same-length-6 c = search needs
 
 returns-3 : tie.Need-returns-3
-returns-3 c = 
+returns-3 c =
     let a = c .before .before .before .before .before .before .before .before .before .before .before .before .before .before .before .before .args in
     in-third (a .c) _ _ (λ g. counted (a .shift) (a .clusters) (a .map .now) (itemAt (a .v) (a .width) (a .context) (a .order .now)) (a .row) (drop (a .at) (a .symbols .now)) (a .at) (a .log .now) g) (a .g0 .now) (a .g1 .now) (a .g2 .now) _ (omega arith) (c .before .before .before .before .read-channel3 .ensures)
 

@@ -46,21 +46,21 @@ loop2-holds : tie.Need-loop2-holds Inv-loop2 μ-loop2 Inv-loop μ-loop
 loop2-holds c = (refl, refl, refl, refl, omega arith, λ whole d. d)
 
 mul-i : tie.Need-mul-i Inv-loop2 μ-loop2 Inv-loop μ-loop
-mul-i c = 
+mul-i c =
     let a = c .before .before .before .before .before .before .before .before .before .before .before .before .before .before .before .before .args in
     let o = c .before .before .before .loop in
     let l = c .before .loop2 in
     omega (arith, mul-le-mul {n₁ = o .y} {m₁ = a .width} {n₂ = 32} {m₂ = 32} (let h = c .before .before .before .before .before .before .before .before .before .before .before .before .before .before .before .before .pre .0 .below in omega arith) (c .before .before .before .before .before .before .before .before .before .before .before .before .before .before .before .before .pre .0 .across))
 
 add-i : tie.Need-add-i Inv-loop2 μ-loop2 Inv-loop μ-loop
-add-i c = 
+add-i c =
     let a = c .before .before .before .before .before .before .before .before .before .before .before .before .before .before .before .before .args in
     let o = c .before .before .before .loop in
     let l = c .before .loop2 in
     let h = c .before .before .before .before .before .before .before .before .before .before .before .before .before .before .before .before .pre .0 .across in omega (arith, mul-le-mul {n₁ = o .y} {m₁ = a .width} {n₂ = 32} {m₂ = 32} (let h = c .before .before .before .before .before .before .before .before .before .before .before .before .before .before .before .before .pre .0 .below in omega arith) (c .before .before .before .before .before .before .before .before .before .before .before .before .before .before .before .before .pre .0 .across))
 
 shared-slice-read-kind : tie.Need-shared-slice-read-kind Inv-loop2 μ-loop2 Inv-loop μ-loop
-shared-slice-read-kind c = 
+shared-slice-read-kind c =
     let a = c .before .before .before .before .before .before .before .before .before .before .before .before .before .before .before .before .before .args in
     let o = c .before .before .before .before .loop in
     let l = c .before .before .loop2 in
@@ -73,35 +73,35 @@ loop2-less : tie.Need-loop2-less Inv-loop2 μ-loop2 Inv-loop μ-loop
 loop2-less c = search needs
 
 loop2-again : tie.Need-loop2-again Inv-loop2 μ-loop2 Inv-loop μ-loop
-loop2-again c = 
+loop2-again c =
     let a = c .before .before .before .before .before .before .before .before .before .before .before .before .before .before .before .before .before .before .args in
     let o = c .before .before .before .before .before .loop in
     let l = c .before .before .before .loop2 in
     (l .inv .0, l .inv .1, l .inv .2, l .inv .3, omega arith, λ W d. due-skip (a .shift) (a .clusters) (a .map .now) (passOf (a .width) (a .height) (a .kinds .now) (a .muls .now) (a .clusters) (a .lengths) (a .lf-thresholds .now) (a .qf-thresholds .now) (a .block-ctx-map .now) (a .lf-there) (a .lf0 .now) (a .lf1 .now) (a .lf2 .now) (a .store .now)) (a .symbols .now) (192 * (a .width * a .height)) W (l .at) (l .rows) (l .log) (l .g0 ∷ l .g1 ∷ l .g2 ∷ []) (l .x) (o .y) (rowsFrom (passOf (a .width) (a .height) (a .kinds .now) (a .muls .now) (a .clusters) (a .lengths) (a .lf-thresholds .now) (a .qf-thresholds .now) (a .block-ctx-map .now) (a .lf-there) (a .lf0 .now) (a .lf1 .now) (a .lf2 .now) (a .store .now)) (o .y + 1)) (omega arith) (c .if1 .taken) (l .inv .5 W d))
 
 mul-plan-of : tie.Need-mul-plan-of Inv-loop2 μ-loop2 Inv-loop μ-loop
-mul-plan-of c = 
+mul-plan-of c =
     let a = c .before .before .before .before .before .before .before .before .before .before .before .before .before .before .before .before .before .before .args in
     let o = c .before .before .before .before .before .loop in
     let l = c .before .before .before .loop2 in
     omega (arith, mul-le-mul {n₁ = o .y} {m₁ = a .width} {n₂ = 32} {m₂ = 32} (let h = c .before .before .before .before .before .before .before .before .before .before .before .before .before .before .before .before .before .before .pre .0 .below in omega arith) (c .before .before .before .before .before .before .before .before .before .before .before .before .before .before .before .before .before .before .pre .0 .across))
 
 shared-slice-read-plan-of : tie.Need-shared-slice-read-plan-of Inv-loop2 μ-loop2 Inv-loop μ-loop
-shared-slice-read-plan-of c = 
+shared-slice-read-plan-of c =
     let a = c .before .before .before .before .before .before .before .before .before .before .before .before .before .before .before .before .before .before .before .args in
     let o = c .before .before .before .before .before .before .loop in
     let l = c .before .before .before .before .loop2 in
     rw (c .before .before .before .before .before .before .before .before .before .before .before .before .before .before .before .before .before .before .before .pre .0 .layout .mulsLength) (digits-lt (omega arith) (omega arith))
 
 plan-of-requires : tie.Need-plan-of-requires Inv-loop2 μ-loop2 Inv-loop μ-loop
-plan-of-requires c κs = 
+plan-of-requires c κs =
     let a = c .before .before .before .before .before .before .before .before .before .before .before .before .before .before .before .before .before .before .before .args in
     let o = c .before .before .before .before .before .before .loop in
     let l = c .before .before .before .before .loop2 in
     let u = c .before .before .before .before .before .before .before .before .before .before .before .before .before .before .before .before .before .before .before .pre .0 .across in let v = c .before .before .before .before .before .before .before .before .before .before .before .before .before .before .before .before .before .before .before .pre .0 .below in let w = c .before .if1 .left in (omega arith, omega arith, omega arith, omega arith)
 
 read-varblock-requires : tie.Need-read-varblock-requires Inv-loop2 μ-loop2 Inv-loop μ-loop
-read-varblock-requires c κs = 
+read-varblock-requires c κs =
     let a = c .before .before .before .before .before .before .before .before .before .before .before .before .before .before .before .before .before .before .before .before .before .before .before .before .before .args in
     let o = c .before .before .before .before .before .before .before .before .before .before .before .before .loop in
     let l = c .before .before .before .before .before .before .before .before .before .before .loop2 in
@@ -121,35 +121,35 @@ is-stopped-requires : tie.Need-is-stopped-requires Inv-loop2 μ-loop2 Inv-loop �
 is-stopped-requires c κs = search needs
 
 same-length : tie.Need-same-length Inv-loop2 μ-loop2 Inv-loop μ-loop
-same-length c = 
+same-length c =
     let a = c .before .before .before .before .before .before .before .before .before .before .before .before .before .before .before .before .before .before .before .before .before .before .before .before .before .before .before .before .before .before .before .before .before .before .before .before .before .args in
     let o = c .before .before .before .before .before .before .before .before .before .before .before .before .before .before .before .before .before .before .before .before .before .before .before .before .loop in
     let l = c .before .before .before .before .before .before .before .before .before .before .before .before .before .before .before .before .before .before .before .before .before .before .loop2 in
     c .before .before .before .before .before .before .before .before .before .before .log .given ∙ l .inv .0 ∙ o .inv .0
 
 same-length-2 : tie.Need-same-length-2 Inv-loop2 μ-loop2 Inv-loop μ-loop
-same-length-2 c = 
+same-length-2 c =
     let a = c .before .before .before .before .before .before .before .before .before .before .before .before .before .before .before .before .before .before .before .before .before .before .before .before .before .before .before .before .before .before .before .before .before .before .before .before .before .args in
     let o = c .before .before .before .before .before .before .before .before .before .before .before .before .before .before .before .before .before .before .before .before .before .before .before .before .loop in
     let l = c .before .before .before .before .before .before .before .before .before .before .before .before .before .before .before .before .before .before .before .before .before .before .loop2 in
     c .before .before .before .before .before .before .before .before .g0 .given ∙ l .inv .1 ∙ o .inv .1
 
 same-length-3 : tie.Need-same-length-3 Inv-loop2 μ-loop2 Inv-loop μ-loop
-same-length-3 c = 
+same-length-3 c =
     let a = c .before .before .before .before .before .before .before .before .before .before .before .before .before .before .before .before .before .before .before .before .before .before .before .before .before .before .before .before .before .before .before .before .before .before .before .before .before .args in
     let o = c .before .before .before .before .before .before .before .before .before .before .before .before .before .before .before .before .before .before .before .before .before .before .before .before .loop in
     let l = c .before .before .before .before .before .before .before .before .before .before .before .before .before .before .before .before .before .before .before .before .before .before .loop2 in
     c .before .before .before .before .before .before .g1 .given ∙ l .inv .2 ∙ o .inv .2
 
 same-length-4 : tie.Need-same-length-4 Inv-loop2 μ-loop2 Inv-loop μ-loop
-same-length-4 c = 
+same-length-4 c =
     let a = c .before .before .before .before .before .before .before .before .before .before .before .before .before .before .before .before .before .before .before .before .before .before .before .before .before .before .before .before .before .before .before .before .before .before .before .before .before .args in
     let o = c .before .before .before .before .before .before .before .before .before .before .before .before .before .before .before .before .before .before .before .before .before .before .before .before .loop in
     let l = c .before .before .before .before .before .before .before .before .before .before .before .before .before .before .before .before .before .before .before .before .before .before .loop2 in
     c .before .before .before .before .g2 .given ∙ l .inv .3 ∙ o .inv .3
 
 returns : tie.Need-returns Inv-loop2 μ-loop2 Inv-loop μ-loop
-returns c = 
+returns c =
     let a = c .before .before .before .before .before .before .before .before .before .before .before .before .before .before .before .before .before .before .before .before .before .before .before .before .before .before .before .before .before .before .before .before .before .before .before .before .before .args in
     let o = c .before .before .before .before .before .before .before .before .before .before .before .before .before .before .before .before .before .before .before .before .before .before .before .before .loop in
     let l = c .before .before .before .before .before .before .before .before .before .before .before .before .before .before .before .before .before .before .before .before .before .before .loop2 in
@@ -163,7 +163,7 @@ symbols-read-requires : tie.Need-symbols-read-requires Inv-loop2 μ-loop2 Inv-lo
 symbols-read-requires c κs = search needs
 
 rewritten-all-requires : tie.Need-rewritten-all-requires Inv-loop2 μ-loop2 Inv-loop μ-loop
-rewritten-all-requires c κs = 
+rewritten-all-requires c κs =
     let a = c .before .before .before .before .before .before .before .before .before .before .before .before .before .before .before .before .before .before .before .before .before .before .before .before .before .before .before .before .before .before .before .before .before .before .before .before .before .before .args in
     let o = c .before .before .before .before .before .before .before .before .before .before .before .before .before .before .before .before .before .before .before .before .before .before .before .before .before .loop in
     let l = c .before .before .before .before .before .before .before .before .before .before .before .before .before .before .before .before .before .before .before .before .before .before .before .loop2 in
@@ -179,13 +179,13 @@ loop2-less-2 : tie.Need-loop2-less-2 Inv-loop2 μ-loop2 Inv-loop μ-loop
 loop2-less-2 c = search needs
 
 loop2-again-2 : tie.Need-loop2-again-2 Inv-loop2 μ-loop2 Inv-loop μ-loop
-loop2-again-2 c = 
+loop2-again-2 c =
     let a = c .before .before .before .before .before .before .before .before .before .before .before .before .before .before .before .before .before .before .before .before .before .before .before .before .before .before .before .before .before .before .before .before .before .before .before .before .before .before .before .args in
     let o = c .before .before .before .before .before .before .before .before .before .before .before .before .before .before .before .before .before .before .before .before .before .before .before .before .before .before .loop in
     let l = c .before .before .before .before .before .before .before .before .before .before .before .before .before .before .before .before .before .before .before .before .before .before .before .before .loop2 in
     let hx : l .x < a .width = omega (arith, c .before .before .before .before .before .before .before .before .before .before .before .before .before .before .before .before .before .before .before .before .before .before .before .loop2-test) in
     let hy : o .y < a .height = omega (arith, c .before .before .before .before .before .before .before .before .before .before .before .before .before .before .before .before .before .before .before .before .before .before .before .before .before .loop-test) in
-    let k : 2 ≤ K (passOf (a .width) (a .height) (a .kinds .now) (a .muls .now) (a .clusters) (a .lengths) (a .lf-thresholds .now) (a .qf-thresholds .now) (a .block-ctx-map .now) (a .lf-there) (a .lf0 .now) (a .lf1 .now) (a .lf2 .now) (a .store .now)) (l .x) (o .y) = omega (arith, c .before .before .before .before .before .before .before .before .before .before .before .before .before .before .before .before .before .before .before .before .before .if1 .left) in(
+    let k : 2 ≤ K (passOf (a .width) (a .height) (a .kinds .now) (a .muls .now) (a .clusters) (a .lengths) (a .lf-thresholds .now) (a .qf-thresholds .now) (a .block-ctx-map .now) (a .lf-there) (a .lf0 .now) (a .lf1 .now) (a .lf2 .now) (a .store .now)) (l .x) (o .y) = omega (arith, c .before .before .before .before .before .before .before .before .before .before .before .before .before .before .before .before .before .before .before .before .before .if1 .left) in (
       c .before .before .before .before .before .before .before .before .before .before .before .before .log .given ∙ l .inv .0,
       c .before .before .before .before .before .before .before .before .before .before .g0 .given ∙ l .inv .1,
       c .before .before .before .before .before .before .before .before .g1 .given ∙ l .inv .2,
@@ -201,12 +201,17 @@ loop-less : tie.Need-loop-less Inv-loop2 μ-loop2 Inv-loop μ-loop
 loop-less c = search needs
 
 loop-again : tie.Need-loop-again Inv-loop2 μ-loop2 Inv-loop μ-loop
-loop-again c = 
+loop-again c =
     let a = c .before .before .before .before .before .before .before .before .before .before .before .before .before .before .before .before .args in
     let o = c .before .before .before .loop in
-    let l = c .before .loop2 in
-    (l .inv .0 ∙ o .inv .0, l .inv .1 ∙ o .inv .1, l .inv .2 ∙ o .inv .2, l .inv .3 ∙ o .inv .3, omega arith,
-      due-next (a .shift) (a .clusters) (a .map .now) (passOf (a .width) (a .height) (a .kinds .now) (a .muls .now) (a .clusters) (a .lengths) (a .lf-thresholds .now) (a .qf-thresholds .now) (a .block-ctx-map .now) (a .lf-there) (a .lf0 .now) (a .lf1 .now) (a .lf2 .now) (a .store .now)) (a .symbols .now) (192 * (a .width * a .height)) (wholeOf (a .shift) (a .clusters) (a .map .now) (passOf (a .width) (a .height) (a .kinds .now) (a .muls .now) (a .clusters) (a .lengths) (a .lf-thresholds .now) (a .qf-thresholds .now) (a .block-ctx-map .now) (a .lf-there) (a .lf0 .now) (a .lf1 .now) (a .lf2 .now) (a .store .now)) (a .symbols .now) (a .log .now) (a .g0 .now ∷ a .g1 .now ∷ a .g2 .now ∷ [])) (l .at) (l .rows) (l .log) (l .g0 ∷ l .g1 ∷ l .g2 ∷ []) (l .x) (o .y) (omega arith) (l .inv .5 (wholeOf (a .shift) (a .clusters) (a .map .now) (passOf (a .width) (a .height) (a .kinds .now) (a .muls .now) (a .clusters) (a .lengths) (a .lf-thresholds .now) (a .qf-thresholds .now) (a .block-ctx-map .now) (a .lf-there) (a .lf0 .now) (a .lf1 .now) (a .lf2 .now) (a .store .now)) (a .symbols .now) (a .log .now) (a .g0 .now ∷ a .g1 .now ∷ a .g2 .now ∷ [])) (due-row (a .shift) (a .clusters) (a .map .now) (passOf (a .width) (a .height) (a .kinds .now) (a .muls .now) (a .clusters) (a .lengths) (a .lf-thresholds .now) (a .qf-thresholds .now) (a .block-ctx-map .now) (a .lf-there) (a .lf0 .now) (a .lf1 .now) (a .lf2 .now) (a .store .now)) (a .symbols .now) (192 * (a .width * a .height)) (wholeOf (a .shift) (a .clusters) (a .map .now) (passOf (a .width) (a .height) (a .kinds .now) (a .muls .now) (a .clusters) (a .lengths) (a .lf-thresholds .now) (a .qf-thresholds .now) (a .block-ctx-map .now) (a .lf-there) (a .lf0 .now) (a .lf1 .now) (a .lf2 .now) (a .store .now)) (a .symbols .now) (a .log .now) (a .g0 .now ∷ a .g1 .now ∷ a .g2 .now ∷ [])) (o .at) (o .rows) (o .log) (o .g0 ∷ o .g1 ∷ o .g2 ∷ []) (o .y) (omega arith) (o .inv .5))))
+    let l = c .before .loop2 in (
+      l .inv .0 ∙ o .inv .0,
+      l .inv .1 ∙ o .inv .1,
+      l .inv .2 ∙ o .inv .2,
+      l .inv .3 ∙ o .inv .3,
+      omega arith,
+      due-next (a .shift) (a .clusters) (a .map .now) (passOf (a .width) (a .height) (a .kinds .now) (a .muls .now) (a .clusters) (a .lengths) (a .lf-thresholds .now) (a .qf-thresholds .now) (a .block-ctx-map .now) (a .lf-there) (a .lf0 .now) (a .lf1 .now) (a .lf2 .now) (a .store .now)) (a .symbols .now) (192 * (a .width * a .height)) (wholeOf (a .shift) (a .clusters) (a .map .now) (passOf (a .width) (a .height) (a .kinds .now) (a .muls .now) (a .clusters) (a .lengths) (a .lf-thresholds .now) (a .qf-thresholds .now) (a .block-ctx-map .now) (a .lf-there) (a .lf0 .now) (a .lf1 .now) (a .lf2 .now) (a .store .now)) (a .symbols .now) (a .log .now) (a .g0 .now ∷ a .g1 .now ∷ a .g2 .now ∷ [])) (l .at) (l .rows) (l .log) (l .g0 ∷ l .g1 ∷ l .g2 ∷ []) (l .x) (o .y) (omega arith) (l .inv .5 (wholeOf (a .shift) (a .clusters) (a .map .now) (passOf (a .width) (a .height) (a .kinds .now) (a .muls .now) (a .clusters) (a .lengths) (a .lf-thresholds .now) (a .qf-thresholds .now) (a .block-ctx-map .now) (a .lf-there) (a .lf0 .now) (a .lf1 .now) (a .lf2 .now) (a .store .now)) (a .symbols .now) (a .log .now) (a .g0 .now ∷ a .g1 .now ∷ a .g2 .now ∷ [])) (due-row (a .shift) (a .clusters) (a .map .now) (passOf (a .width) (a .height) (a .kinds .now) (a .muls .now) (a .clusters) (a .lengths) (a .lf-thresholds .now) (a .qf-thresholds .now) (a .block-ctx-map .now) (a .lf-there) (a .lf0 .now) (a .lf1 .now) (a .lf2 .now) (a .store .now)) (a .symbols .now) (192 * (a .width * a .height)) (wholeOf (a .shift) (a .clusters) (a .map .now) (passOf (a .width) (a .height) (a .kinds .now) (a .muls .now) (a .clusters) (a .lengths) (a .lf-thresholds .now) (a .qf-thresholds .now) (a .block-ctx-map .now) (a .lf-there) (a .lf0 .now) (a .lf1 .now) (a .lf2 .now) (a .store .now)) (a .symbols .now) (a .log .now) (a .g0 .now ∷ a .g1 .now ∷ a .g2 .now ∷ [])) (o .at) (o .rows) (o .log) (o .g0 ∷ o .g1 ∷ o .g2 ∷ []) (o .y) (omega arith) (o .inv .5))),
+    )
 
 same-length-5 : tie.Need-same-length-5 Inv-loop2 μ-loop2 Inv-loop μ-loop
 same-length-5 c = search needs
@@ -221,7 +226,7 @@ same-length-8 : tie.Need-same-length-8 Inv-loop2 μ-loop2 Inv-loop μ-loop
 same-length-8 c = search needs
 
 returns-2 : tie.Need-returns-2 Inv-loop2 μ-loop2 Inv-loop μ-loop
-returns-2 c = 
+returns-2 c =
     let a = c .before .before .before .before .before .before .before .before .before .before .before .before .before .before .args in
     let o = c .before .loop in
     due-end (a .shift) (a .clusters) (a .map .now) (passOf (a .width) (a .height) (a .kinds .now) (a .muls .now) (a .clusters) (a .lengths) (a .lf-thresholds .now) (a .qf-thresholds .now) (a .block-ctx-map .now) (a .lf-there) (a .lf0 .now) (a .lf1 .now) (a .lf2 .now) (a .store .now)) (a .symbols .now) (192 * (a .width * a .height)) (wholeOf (a .shift) (a .clusters) (a .map .now) (passOf (a .width) (a .height) (a .kinds .now) (a .muls .now) (a .clusters) (a .lengths) (a .lf-thresholds .now) (a .qf-thresholds .now) (a .block-ctx-map .now) (a .lf-there) (a .lf0 .now) (a .lf1 .now) (a .lf2 .now) (a .store .now)) (a .symbols .now) (a .log .now) (a .g0 .now ∷ a .g1 .now ∷ a .g2 .now ∷ [])) (o .at) (o .rows) (o .log) (o .g0 ∷ o .g1 ∷ o .g2 ∷ []) (o .y) (omega arith) (o .inv .5)
