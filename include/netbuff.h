@@ -160,6 +160,32 @@ void netbuff_order(const uint16_t *store, size_t store_length, size_t order, siz
 /* Whether a store has its length, and every place of its 39 lists is inside its order's size. */
 bool netbuff_places_fit(const uint16_t *store, size_t store_length);
 
+/*
+ * The coefficients of a pass group of wide x high blocks (1 to 32 each way): reads the preset number
+ * from the bytes, then counts and coefficients from the symbols, and adds each coefficient, shifted
+ * (0 to 3), to the grid of its channel. kinds and hf_mul are those of a cut; the record is one of
+ * netbuff_block_context, the store one of netbuff_orders. Where lf_there is false the LF grids are
+ * not looked at. *symbols_read receives the symbols read; the log receives the cluster of each.
+ *
+ * Lengths that fit: wide * high for kinds, hf_mul and each LF grid, NETBUFF_STORE_LENGTH for the
+ * store, 495 * num_block_clusters * presets (0 to 256) for the cluster map, 64 * wide * high for each
+ * grid, at least 192 * wide * high for the log. Refused: 2, 11, 12, 1, 18, 13 (a stored place), 3, 14:
+ * nothing is written; 15, 16, 17: what was added and logged before stays.
+ */
+uint32_t netbuff_coefficients(size_t wide, size_t high, const uint8_t *kinds, size_t kinds_length,
+                              const int32_t *hf_mul, size_t hf_mul_length,
+                              uint32_t num_block_clusters, const uint32_t lengths[4],
+                              const int32_t lf_thresholds[45], const uint32_t qf_thresholds[15],
+                              const uint8_t block_ctx_map[2496], bool lf_there, const int32_t *lf0,
+                              size_t lf0_length, const int32_t *lf1, size_t lf1_length,
+                              const int32_t *lf2, size_t lf2_length, const uint16_t *store,
+                              size_t store_length, uint32_t presets, const uint8_t *cluster_map,
+                              size_t cluster_map_length, uint32_t shift, const uint8_t *bytes,
+                              size_t bytes_length, const uint32_t *symbols, size_t symbols_length,
+                              uint8_t *log, size_t log_length, int32_t *grid0, size_t grid0_length,
+                              int32_t *grid1, size_t grid1_length, int32_t *grid2,
+                              size_t grid2_length, size_t *symbols_read, size_t *x, size_t *y);
+
 #ifdef __cplusplus
 }
 #endif

@@ -2,6 +2,7 @@
 //! JPEG XL scan. What each call means, the lengths that fit and the refusals stand in
 //! `include/netbuff.h` and in document 01.
 
+mod coefficients;
 mod contexts;
 mod layout;
 mod orders;
@@ -10,6 +11,7 @@ mod record;
 mod sys;
 mod transform;
 
+pub use coefficients::{coefficients, CoefficientInput, CoefficientOutput};
 pub use contexts::{block_context, BlockContexts};
 pub use layout::{column_count, layout, ColumnCount, Filter, LayoutInput, LayoutOutput, LfGroup};
 pub use orders::{order, orders, places_fit, STORE_LENGTH};

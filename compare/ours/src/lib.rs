@@ -1,11 +1,14 @@
 //! Netbuff's answers, through its safe wrapper, in the words of the comparison.
 
 use calls::{
-    AlikeCall, Answer, ColumnCount, ColumnCountCall, Contexts, ContextsCall, CutCall, GroupBuffers,
-    LayoutBuffers, LayoutCall, OrderCall, OrdersCall, Outcome, ReadCall, ReadKind, Refusal, Store,
-    Transform,
+    AlikeCall, Answer, CoefficientBuffers, CoefficientsCall, ColumnCount, ColumnCountCall,
+    Contexts, ContextsCall, CutCall, GroupBuffers, LayoutBuffers, LayoutCall, OrderCall,
+    OrdersCall, Outcome, ReadCall, ReadKind, Refusal, Store, Transform,
 };
-use netbuff::{BlockContexts, Choice, Filter, LayoutInput, LayoutOutput, LfGroup, Place};
+use netbuff::{
+    BlockContexts, Choice, CoefficientInput, CoefficientOutput, Filter, LayoutInput, LayoutOutput,
+    LfGroup, Place,
+};
 
 fn answer<T>(result: netbuff::Result<T>) -> Answer<T> {
     result.map_err(|netbuff::Refusal { number, x, y }| Refusal { number, x, y })
@@ -174,4 +177,43 @@ pub fn order(call: &OrderCall) -> Outcome<Store, ()> {
 
 pub fn places_fit(store: &Store) -> Outcome<bool, ()> {
     plain(Ok(netbuff::places_fit(store)))
+}
+
+pub fn coefficients(call: &CoefficientsCall) -> Outcome<usize, CoefficientBuffers> {
+    let mut buffers = call.buffers.clone();
+    Outcome {
+        answer: coefficients_into(call, &mut buffers),
+        buffers,
+    }
+}
+
+/// The coefficient call on other buffers than its own.
+pub fn coefficients_into(
+    call: &CoefficientsCall,
+    buffers: &mut CoefficientBuffers,
+) -> Answer<usize> {
+    let contexts = BlockContexts {
+        num_block_clusters: call.contexts.count,
+        lengths: call.contexts.lengths,
+        lf_thresholds: call.contexts.lf,
+        qf_thresholds: call.contexts.qf,
+        block_ctx_map: call.contexts.map,
+    };
+    let lf = call.lf.as_ref();
+    let input = CoefficientInput {
+        group: lent(&call.group),
+        contexts: &contexts,
+        lf: lf.map(|grids| grids.each_ref().map(Vec::as_slice)),
+        store: &call.store,
+        presets: call.presets,
+        cluster_map: &call.cluster_map,
+        shift: call.shift,
+        bytes: &call.bytes,
+        symbols: &call.symbols,
+    };
+    let output = CoefficientOutput {
+        grids: buffers.grids.each_mut().map(Vec::as_mut_slice),
+        log: &mut buffers.log,
+    };
+    answer(netbuff::coefficients(input, output))
 }

@@ -1,8 +1,8 @@
 //! The calls that are compared.
 
 use compare::cases::{
-    AlikeCase, Case, ColumnCountCase, ContextsCase, CutCase, LayoutCase, OrderCase, OrdersCase,
-    PlacesCase, ReaderCase, SignedCase, TransformCase,
+    AlikeCase, Case, CoefficientsCase, ColumnCountCase, ContextsCase, CutCase, LayoutCase,
+    OrderCase, OrdersCase, PlacesCase, ReaderCase, SignedCase, TransformCase,
 };
 
 use crate::options::Options;
@@ -10,7 +10,7 @@ use crate::options::Options;
 /// Compares one call, and tells whether it agrees.
 type Compare = fn(&Options) -> bool;
 
-const CALLS: [(&str, Compare); 11] = [
+const CALLS: [(&str, Compare); 12] = [
     (ColumnCountCase::NAME, |options| {
         compare(options, &ColumnCountCase, ours::column_count)
     }),
@@ -45,6 +45,11 @@ const CALLS: [(&str, Compare); 11] = [
     }),
     (OrdersCase::NAME, |options| {
         compare(options, &OrdersCase, ours::orders)
+    }),
+    (CoefficientsCase::NAME, |options| {
+        compare(options, &CoefficientsCase::new(options.seed), |input| {
+            ours::coefficients(&input.call)
+        })
     }),
 ];
 
