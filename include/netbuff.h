@@ -66,6 +66,126 @@ uint32_t netbuff_read_u32(const uint8_t *bytes, size_t bytes_length, size_t byte
 /* The signed number of u: u / 2 where u is even, -(u + 1) / 2 where it is odd. Never refused. */
 int32_t netbuff_unpack_signed(uint32_t u);
 
+/*
+ * The column count of an LF group of width x height pixels (1 to 2,048 each) with upsampling modes
+ * 0 to 3: 1 plus as many bits as the exponent of the least power of two not below its blocks, from
+ * the first bit on. *bits receives the bits read. Refused: 2, 11, 3.
+ */
+uint32_t netbuff_column_count(const uint8_t *bytes, size_t bytes_length, uint32_t width,
+                              uint32_t height, uint32_t mode0, uint32_t mode1, uint32_t mode2,
+                              uint32_t *count, size_t *bits, size_t *x, size_t *y);
+
+/*
+ * The layout of an LF group. A block is 8 x 8 pixels; bw and bh are the sides divided by 8, rounded
+ * up; bw is made even if a mode is 1 or 2, bh if one is 1 or 3. Columns are lent as two lists of one
+ * length, types and muls; surplus columns are accepted. With the filter on, its multiplier and the
+ * eight look-up numbers (all from -65,504 to 65,504) and the scale (1 to 73,728) give a strength;
+ * with the filter off the multiplier and the sharpness numbers are not looked at.
+ *
+ * Lengths that fit: bw * bh for sharpness, kinds, hf_mul and sigma. Filled, one place per block row
+ * by row: kinds (1 occupied, 2 + type at a varblock's corner), hf_mul (0 off corners), sigma (+0.0
+ * with the filter off). *used receives the number of columns used.
+ *
+ * Refused: 2, 11, 1 (nothing is written), then 4 to 10 (the three lists are all zero).
+ */
+uint32_t netbuff_layout(uint32_t width, uint32_t height, uint32_t mode0, uint32_t mode1,
+                        uint32_t mode2, const int32_t *types, size_t types_length,
+                        const int32_t *muls, size_t muls_length, const int32_t *sharpness,
+                        size_t sharpness_length, bool filter_on, float multiplier,
+                        const float lookup[8], uint32_t scale, uint8_t *kinds, size_t kinds_length,
+                        int32_t *hf_mul, size_t hf_mul_length, float *sigma, size_t sigma_length,
+                        size_t *used, size_t *x, size_t *y);
+
+/*
+ * Cuts the pass group with this index out of a layout of bw x bh blocks (1 to 256 each way): the
+ * 32 x 32 squares of a layout, cut at its edges, are counted row by row from 0. *wide and *high
+ * receive the group's sides in blocks.
+ *
+ * Lengths that fit: bw * bh for kinds and hf_mul, wide * high for out_kinds and out_hf_mul.
+ * Refused: 2 (sides, or an index outside the layout), 1, 18; nothing is written.
+ */
+uint32_t netbuff_cut(size_t bw, size_t bh, const uint8_t *kinds, size_t kinds_length,
+                     const int32_t *hf_mul, size_t hf_mul_length, size_t index, uint8_t *out_kinds,
+                     size_t out_kinds_length, int32_t *out_hf_mul, size_t out_hf_mul_length,
+                     size_t *wide, size_t *high, size_t *x, size_t *y);
+
+/*
+ * Whether two layouts (1 to 256 blocks each way) have the same rectangles and hf_mul; layouts of
+ * different sides are not alike. Lengths that fit: bw * bh of each. Refused: 2, 1, 18, each tried
+ * over both layouts before the next.
+ */
+uint32_t netbuff_alike(size_t bw, size_t bh, const uint8_t *kinds, size_t kinds_length,
+                       const int32_t *hf_mul, size_t hf_mul_length, size_t bw2, size_t bh2,
+                       const uint8_t *kinds2, size_t kinds2_length, const int32_t *hf_mul2,
+                       size_t hf_mul2_length, bool *alike, size_t *x, size_t *y);
+
+/*
+ * The block contexts of a frame. Where the first bit is 1, num_clusters and map are not looked at;
+ * else map must have 39 bytes for each of bsize (the product of the four list lengths, each plus 1),
+ * all below num_clusters, 1 to 16. The record is handed out whole, places that are not used 0:
+ * lengths of the LF lists of channels 0, 1, 2 and of the qf list; the LF thresholds of channel c
+ * from 15 * c on. *bits_read receives the bits read.
+ *
+ * Refused: 3, 12 (bsize above 64), 1, 12; the whole record is then 0.
+ */
+uint32_t netbuff_block_context(const uint8_t *bytes, size_t bytes_length, uint32_t num_clusters,
+                               const uint8_t *map, size_t map_length, uint32_t *num_block_clusters,
+                               uint32_t lengths[4], int32_t lf_thresholds[45],
+                               uint32_t qf_thresholds[15], uint8_t block_ctx_map[2496],
+                               size_t *bits_read, size_t *x, size_t *y);
+
+/* The numbers of a store: x and y of the 393,984 places of 39 lists, by order and channel. */
+#define NETBUFF_STORE_LENGTH 787968
+
+/*
+ * The orders of a pass: which of the 13 are permuted stands in the bytes, their permutations in the
+ * symbols (a length, then that many digits, for each channel). Orders that are not used are the
+ * natural order. Surplus symbols are accepted. *symbols_read receives the symbols read.
+ *
+ * Length that fits: NETBUFF_STORE_LENGTH. Refused: 1, 3 (nothing is written), 13, 15 (the whole
+ * store is zero).
+ */
+uint32_t netbuff_orders(const uint8_t *bytes, size_t bytes_length, const uint32_t *symbols,
+                        size_t symbols_length, uint16_t *store, size_t store_length,
+                        size_t *symbols_read, size_t *x, size_t *y);
+
+/*
+ * Where the list of an order (0 to 12) and channel (0 to 2) stands in a store: its first number and
+ * how many there are, two for each place. An order above 12, a channel above 2 or a store of another
+ * length gets the empty stretch. Never refused.
+ */
+void netbuff_order(const uint16_t *store, size_t store_length, size_t order, size_t channel,
+                   size_t *first, size_t *count);
+
+/* Whether a store has its length, and every place of its 39 lists is inside its order's size. */
+bool netbuff_places_fit(const uint16_t *store, size_t store_length);
+
+/*
+ * The coefficients of a pass group of wide x high blocks (1 to 32 each way): reads the preset number
+ * from the bytes, then counts and coefficients from the symbols, and adds each coefficient, shifted
+ * (0 to 3), to the grid of its channel. kinds and hf_mul are those of a cut; the record is one of
+ * netbuff_block_context, the store one of netbuff_orders. Where lf_there is false the LF grids are
+ * not looked at. *symbols_read receives the symbols read; the log receives the cluster of each.
+ *
+ * Lengths that fit: wide * high for kinds, hf_mul and each LF grid, NETBUFF_STORE_LENGTH for the
+ * store, 495 * num_block_clusters * presets (0 to 256) for the cluster map, 64 * wide * high for each
+ * grid, at least 192 * wide * high for the log. Refused: 2, 11, 12, 1, 18, 13 (a stored place), 3, 14:
+ * nothing is written; 15, 16, 17: what was added and logged before stays.
+ */
+uint32_t netbuff_coefficients(size_t wide, size_t high, const uint8_t *kinds, size_t kinds_length,
+                              const int32_t *hf_mul, size_t hf_mul_length,
+                              uint32_t num_block_clusters, const uint32_t lengths[4],
+                              const int32_t lf_thresholds[45], const uint32_t qf_thresholds[15],
+                              const uint8_t block_ctx_map[2496], bool lf_there, const int32_t *lf0,
+                              size_t lf0_length, const int32_t *lf1, size_t lf1_length,
+                              const int32_t *lf2, size_t lf2_length, const uint16_t *store,
+                              size_t store_length, uint32_t presets, const uint8_t *cluster_map,
+                              size_t cluster_map_length, uint32_t shift, const uint8_t *bytes,
+                              size_t bytes_length, const uint32_t *symbols, size_t symbols_length,
+                              uint8_t *log, size_t log_length, int32_t *grid0, size_t grid0_length,
+                              int32_t *grid1, size_t grid1_length, int32_t *grid2,
+                              size_t grid2_length, size_t *symbols_read, size_t *x, size_t *y);
+
 #ifdef __cplusplus
 }
 #endif

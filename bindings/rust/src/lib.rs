@@ -2,11 +2,21 @@
 //! JPEG XL scan. What each call means, the lengths that fit and the refusals stand in
 //! `include/netbuff.h` and in document 01.
 
+mod coefficients;
+mod contexts;
+mod layout;
+mod orders;
 mod reader;
+mod record;
 mod sys;
 mod transform;
 
+pub use coefficients::{coefficients, CoefficientInput, CoefficientOutput};
+pub use contexts::{block_context, BlockContexts};
+pub use layout::{column_count, layout, ColumnCount, Filter, LayoutInput, LayoutOutput, LfGroup};
+pub use orders::{order, orders, places_fit, STORE_LENGTH};
 pub use reader::{read_bits, read_u32, unpack_signed, Choice, Place, Read};
+pub use record::{alike, cut, Layout, Sides};
 pub use transform::{transform, Transform};
 
 /// A refusal's number, 1 to 18, and its position.

@@ -1,15 +1,15 @@
 /// A lent layout or group: sides in blocks, kinds and hf_mul row by row.
 #[derive(Debug, Clone, Default, PartialEq, Eq)]
 pub struct Layout {
-    pub wide: u32,
-    pub high: u32,
+    pub wide: usize,
+    pub high: usize,
     pub kinds: Vec<u8>,
     pub hf_mul: Vec<i32>,
 }
 
 impl Layout {
     pub fn blocks(&self) -> usize {
-        self.wide as usize * self.high as usize
+        self.wide.saturating_mul(self.high)
     }
 }
 

@@ -7,6 +7,7 @@ mod contexts;
 mod groups;
 mod layout;
 mod orders;
+mod reads;
 
 pub use coefficients::{CoefficientBuffers, CoefficientsCall};
 pub use columns::{ColumnCount, ColumnCountCall};
@@ -14,8 +15,11 @@ pub use contexts::{Contexts, ContextsCall, LIST_MOST, MAP_MOST};
 pub use groups::{AlikeCall, CutCall, GroupBuffers, Layout};
 pub use layout::{LayoutBuffers, LayoutCall};
 pub use orders::{
-    list_length, list_start, OrdersCall, Store, LIST_COUNT, ORDER_COUNT, ORDER_SIZES, STORE_LENGTH,
+    list_length, list_start, OrderCall, OrdersCall, Store, LIST_COUNT, ORDER_COUNT, ORDER_SIZES,
+    STORE_LENGTH,
 };
+
+pub use reads::{ReadCall, ReadKind};
 
 /// A refusal's number and position.
 #[derive(Debug, Copy, Clone, PartialEq, Eq)]

@@ -1,4 +1,5 @@
 use std::fmt;
+use std::sync::Arc;
 
 /// BLOCK_SIZES: width and height of the 13 orders, in cells.
 pub const ORDER_SIZES: [(usize, usize); ORDER_COUNT] = [
@@ -41,6 +42,26 @@ pub const fn list_start(order: usize, channel: usize) -> usize {
 /// How many numbers a list of an order has in the store.
 pub const fn list_length(order: usize) -> usize {
     2 * ORDER_SIZES[order].0 * ORDER_SIZES[order].1
+}
+
+/// The look-up of a list in a store (document 01, Orders).
+#[derive(Clone)]
+pub struct OrderCall {
+    pub store: Arc<Store>,
+    pub order: usize,
+    pub channel: usize,
+}
+
+/// All but the store, of which the length is shown.
+impl fmt::Debug for OrderCall {
+    fn fmt(&self, f: &mut fmt::Formatter<'_>) -> fmt::Result {
+        let Self { order, channel, .. } = self;
+        write!(
+            f,
+            "order {order}, channel {channel}, {} numbers",
+            self.store.len()
+        )
+    }
 }
 
 /// The order call (document 01, Orders).

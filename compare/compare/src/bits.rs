@@ -6,7 +6,8 @@ pub struct Bits {
 
 impl Bits {
     pub fn put(mut self, value: u32, n: usize) -> Self {
-        self.bits.extend((0..n).map(|k| value >> k & 1 != 0));
+        self.bits
+            .extend((0..n).map(|k| k < 32 && value >> k & 1 != 0));
         self
     }
 

@@ -26,13 +26,19 @@ pub fn layout(call: &LayoutCall) -> Outcome<usize, LayoutBuffers> {
     }
 }
 
-/// A record and the bits read for it.
-pub fn contexts(call: &ContextsCall) -> Answer<(Contexts, usize)> {
-    let read = oracle::contexts(call)?;
+/// The bits read, and the record, all zero beside a refusal.
+pub fn contexts(call: &ContextsCall) -> Outcome<usize, Contexts> {
     let refused = |asked| paper::clusters_refused(asked, call.count, &call.map);
-    match read.asked.and_then(refused) {
+    let read = oracle::contexts(call).and_then(|read| match read.asked.and_then(refused) {
         Some(refusal) => Err(refusal),
-        None => Ok((oracle::paper_form(&read.contexts), read.bits_read)),
+        None => Ok(read),
+    });
+    match read {
+        Ok(read) => Outcome {
+            answer: Ok(read.bits_read),
+            buffers: oracle::paper_form(&read.contexts),
+        },
+        Err(refusal) => Outcome::untouched(refusal, Contexts::ZERO),
     }
 }
 

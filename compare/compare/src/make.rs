@@ -46,8 +46,8 @@ pub fn group(call: &LayoutCall) -> Layout {
     let outcome = expected::layout(call);
     assert!(outcome.answer.is_ok(), "{:?}", outcome.answer);
     Layout {
-        wide: bw as u32,
-        high: bh as u32,
+        wide: bw,
+        high: bh,
         kinds: outcome.buffers.kinds,
         hf_mul: outcome.buffers.hf_mul,
     }
@@ -60,8 +60,7 @@ pub fn default_contexts() -> Contexts {
         count: 0,
         map: Vec::new(),
     };
-    let read = expected::contexts(&call);
-    read.expect("the default contexts are accepted").0
+    expected::contexts(&call).buffers
 }
 
 pub fn used_store() -> Store {

@@ -2,7 +2,7 @@ use calls::{CoefficientsCall, Refusal};
 
 use crate::{first_refusal, is_fit, is_layout, places_inside, store_fits};
 
-const GROUP_SIDE_MOST: u32 = 32;
+const GROUP_SIDE_MOST: usize = 32;
 const PRESETS_MOST: u32 = 256;
 const SHIFT_MOST: u32 = 3;
 /// Entries of the cluster map for each preset and cluster.

@@ -38,7 +38,7 @@ const SIDES: [(u8, u8); 27] = [
 const KIND_OCCUPIED: u8 = 1;
 const FIRST_CORNER_KIND: u8 = 2;
 const GROUP_SIDE: usize = 32;
-const LAYOUT_SIDE_MOST: u32 = 256;
+const LAYOUT_SIDE_MOST: usize = 256;
 
 /// The sides of the rectangle that a kind is the corner of.
 pub fn kind_sides(kind: u8) -> Option<(usize, usize)> {
@@ -51,7 +51,7 @@ pub fn kind_sides(kind: u8) -> Option<(usize, usize)> {
 pub type Rectangles = Vec<(usize, usize, usize, usize, i32)>;
 
 fn rectangles(layout: &Layout) -> Rectangles {
-    let wide = layout.wide as usize;
+    let wide = layout.wide;
     let corners = layout.kinds.iter().zip(&layout.hf_mul).enumerate();
     corners
         .filter_map(|(cell, (&kind, &hf_mul))| {
@@ -63,7 +63,7 @@ fn rectangles(layout: &Layout) -> Rectangles {
 
 /// Whether kinds and hf_mul, of the lengths that the sides ask for, are what 18 lets pass.
 pub fn is_layout(layout: &Layout) -> bool {
-    let (wide, high) = (layout.wide as usize, layout.high as usize);
+    let (wide, high) = (layout.wide, layout.high);
     let cells = layout.kinds.iter().zip(&layout.hf_mul);
     let kinds_fit = cells
         .clone()
@@ -93,7 +93,7 @@ fn covered_once(rectangles: &Rectangles, wide: usize, high: usize) -> bool {
 }
 
 /// The cut; the answer is the group's sides.
-pub fn cut(call: &CutCall) -> Outcome<(u32, u32), GroupBuffers> {
+pub fn cut(call: &CutCall) -> Outcome<(usize, usize), GroupBuffers> {
     let buffers = (call.kinds.clone(), call.hf_mul.clone());
     match group_of(call) {
         Err(refusal) => Outcome::untouched(refusal, buffers),
@@ -106,7 +106,7 @@ pub fn cut(call: &CutCall) -> Outcome<(u32, u32), GroupBuffers> {
 
 fn group_of(call: &CutCall) -> Answer<Layout> {
     let layout = &call.layout;
-    let (wide, high) = (layout.wide as usize, layout.high as usize);
+    let (wide, high) = (layout.wide, layout.high);
     let groups_wide = wide.div_ceil(GROUP_SIDE);
     let groups = groups_wide * high.div_ceil(GROUP_SIDE);
     refuse(first_refusal([
@@ -127,8 +127,8 @@ fn group_of(call: &CutCall) -> Answer<Layout> {
         row..row + group_wide
     });
     Ok(Layout {
-        wide: group_wide as u32,
-        high: group_high as u32,
+        wide: group_wide,
+        high: group_high,
         kinds: sources.clone().map(|cell| layout.kinds[cell]).collect(),
         hf_mul: sources.map(|cell| layout.hf_mul[cell]).collect(),
     })

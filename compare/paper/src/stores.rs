@@ -9,8 +9,13 @@ pub fn places_inside(store: &Store) -> bool {
     (0..ORDER_COUNT).all(|order| {
         let (wide, high) = ORDER_SIZES[order];
         let lists = &store[list_start(order, 0)..list_start(order + 1, 0)];
-        lists.chunks_exact(2).fold(true, |inside, place| {
-            inside & (usize::from(place[0]) < wide) & (usize::from(place[1]) < high)
-        })
+        let (x, y) = largest(lists);
+        usize::from(x) < wide && usize::from(y) < high
     })
+}
+
+/// The largest x and the largest y.
+fn largest(places: &[u16]) -> (u16, u16) {
+    let pairs = places.chunks_exact(2);
+    pairs.fold((0, 0), |(x, y), place| (place[0].max(x), place[1].max(y)))
 }

@@ -1,19 +1,15 @@
 -- Rules that hold over the tables of transforms and of order sizes.
-use mathlib.Core.Path.{_≡_, _∙_, ap}
-use mathlib.Core.Bool.{Bool, false}
+use mathlib.Core.Path.{_≡_}
+use mathlib.Core.Bool.{Bool}
 use mathlib.Core.List.{map}
-use Prim.Native.Nat.{ℕ, _+_, _≤_, _<_}
+use Prim.Native.Nat.{ℕ, _≤_, _<_}
 use native.Mathlib.Omega.{arith}
 use lib.Dec.{T}
 use lib.ListN.{getD, List·getD-eq-default}
-use Rattle.laws.specs.Lists.{getD-map, tabulate, getD-tabulate}
+use Rattle.laws.specs.Lists.{getD-map}
 use Rattle.laws.specs.Tables.{each, each-at}
 use Rattle.dct_select.specs.BlockSizes.{BLOCK-SIZES, widthOf, heightOf}
-use Rattle.dct_select.specs.LookUp.{sides, blockSize, carriedBy}
-
--- what the transforms carry, as the code has it
-pub carried-at : (t : ℕ) → t < 27 → getD (tabulate carriedBy 27 0) t (0, 0, 0, false) ≡ carriedBy t
-carried-at t h = let e : 0 + t ≡ t = omega arith in getD-tabulate carriedBy 27 0 t (0, 0, 0, false) h ∙ ap carriedBy e
+use Rattle.dct_select.specs.LookUp.{sides, blockSize}
 
 -- the sizes of the orders, as the code has them
 pub block-size-at : (k : ℕ) → getD (map (λ (s : ℕ × ℕ). sides (s .0) (s .1)) BLOCK-SIZES) k (sides 0 0) ≡ blockSize k

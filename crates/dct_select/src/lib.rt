@@ -4,7 +4,6 @@ use refusal::Refusal;
 pub mod block_sizes;
 
 ghost use mathlib.Core.Path.{_≡_};
-ghost use Prim.Native.Nat.{_<_};
 ghost use Rattle.dct_select.specs.Transforms.{orderOf, turns};
 ghost use Rattle.dct_select.specs.LookUp.{numberOf, lookUp, sizeOf, carriedBy};
 
@@ -54,36 +53,6 @@ pub struct Sides {
 // What a transform carries: width and height in blocks, order, turn.
 struct Carried(usize, usize, usize, bool);
 
-const CARRIED: [Carried; 27] = [
-    Carried(1, 1, 0, true), // Dct8
-    Carried(1, 1, 1, false), // Hornuss
-    Carried(1, 1, 1, false), // Dct2
-    Carried(1, 1, 1, false), // Dct4
-    Carried(2, 2, 2, true), // Dct16
-    Carried(4, 4, 3, true), // Dct32
-    Carried(1, 2, 4, true), // Dct16x8
-    Carried(2, 1, 4, false), // Dct8x16
-    Carried(1, 4, 5, true), // Dct32x8
-    Carried(4, 1, 5, false), // Dct8x32
-    Carried(2, 4, 6, true), // Dct32x16
-    Carried(4, 2, 6, false), // Dct16x32
-    Carried(1, 1, 1, false), // Dct4x8
-    Carried(1, 1, 1, false), // Dct8x4
-    Carried(1, 1, 1, false), // Afv0
-    Carried(1, 1, 1, false), // Afv1
-    Carried(1, 1, 1, false), // Afv2
-    Carried(1, 1, 1, false), // Afv3
-    Carried(8, 8, 7, true), // Dct64
-    Carried(4, 8, 8, true), // Dct64x32
-    Carried(8, 4, 8, false), // Dct32x64
-    Carried(16, 16, 9, true), // Dct128
-    Carried(8, 16, 10, true), // Dct128x64
-    Carried(16, 8, 10, false), // Dct64x128
-    Carried(32, 32, 11, true), // Dct256
-    Carried(16, 32, 12, true), // Dct256x128
-    Carried(32, 16, 12, false), // Dct128x256
-];
-
 impl TransformType {
     pub const COUNT: usize = 27;
 
@@ -124,7 +93,7 @@ impl TransformType {
     }
 
     pub fn number(self) -> usize
-        ensures { λ r. ⌜ (r ≡ numberOf self) × (r < 27) ⌝ }
+        ensures { λ r. ⌜ r ≡ numberOf self ⌝ }
     {
         match self {
             TransformType::Dct8 => 0,
@@ -160,8 +129,35 @@ impl TransformType {
     fn carried(self) -> Carried
         ensures { λ r. ⌜ r ≡ carriedBy (numberOf self) ⌝ }
     {
-        let t = self.number();
-        CARRIED[t]
+        match self {
+            TransformType::Dct8 => Carried(1, 1, 0, true),
+            TransformType::Hornuss => Carried(1, 1, 1, false),
+            TransformType::Dct2 => Carried(1, 1, 1, false),
+            TransformType::Dct4 => Carried(1, 1, 1, false),
+            TransformType::Dct16 => Carried(2, 2, 2, true),
+            TransformType::Dct32 => Carried(4, 4, 3, true),
+            TransformType::Dct16x8 => Carried(1, 2, 4, true),
+            TransformType::Dct8x16 => Carried(2, 1, 4, false),
+            TransformType::Dct32x8 => Carried(1, 4, 5, true),
+            TransformType::Dct8x32 => Carried(4, 1, 5, false),
+            TransformType::Dct32x16 => Carried(2, 4, 6, true),
+            TransformType::Dct16x32 => Carried(4, 2, 6, false),
+            TransformType::Dct4x8 => Carried(1, 1, 1, false),
+            TransformType::Dct8x4 => Carried(1, 1, 1, false),
+            TransformType::Afv0 => Carried(1, 1, 1, false),
+            TransformType::Afv1 => Carried(1, 1, 1, false),
+            TransformType::Afv2 => Carried(1, 1, 1, false),
+            TransformType::Afv3 => Carried(1, 1, 1, false),
+            TransformType::Dct64 => Carried(8, 8, 7, true),
+            TransformType::Dct64x32 => Carried(4, 8, 8, true),
+            TransformType::Dct32x64 => Carried(8, 4, 8, false),
+            TransformType::Dct128 => Carried(16, 16, 9, true),
+            TransformType::Dct128x64 => Carried(8, 16, 10, true),
+            TransformType::Dct64x128 => Carried(16, 8, 10, false),
+            TransformType::Dct256 => Carried(32, 32, 11, true),
+            TransformType::Dct256x128 => Carried(16, 32, 12, true),
+            TransformType::Dct128x256 => Carried(32, 16, 12, false),
+        }
     }
 
     pub fn dct_select_size(self) -> Sides

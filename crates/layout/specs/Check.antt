@@ -45,6 +45,10 @@ visit bw bh K M x y (Until u) = visitCell bw bh (K x y) (M x y) x y u
 unfoldable pub checkRun : ℕ → ℕ → ℕ → Cells → Cells → Covering
 checkRun room bw bh K M = walk (visit bw bh K M) bw bh (Until (replicate room 0))
 
--- whether 18 lets a lent layout pass
+-- whether the walk ends without a fault
 abbrev pub check : ℕ → ℕ → ℕ → List ℕ → List ℕ → Bool
 check room bw bh kinds muls = passes (checkRun room bw bh (at kinds bw) (at muls bw))
+
+-- whether 18 lets a lent layout pass
+abbrev pub isLayout : ℕ → ℕ → List ℕ → List ℕ → Bool
+isLayout bw bh kinds muls = check bw bw bh kinds muls

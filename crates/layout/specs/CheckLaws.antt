@@ -102,9 +102,9 @@ module _ (bw bh k m x y : ℕ) (u : List ℕ) where
   unfolding visitCell
   visit-not-one h n = rw (lt-ltb y (getD u x 0) h, ne-eqb k 1 n)
 
-  pub visit-mul : y < getD u x 0 → k ≡ 1 → (m ≡ 0 → ⊥) → visitCell bw bh k m x y u ≡ Fault
+  pub visit-one : y < getD u x 0 → k ≡ 1 → visitCell bw bh k m x y u ≡ cond (eqb m 0) (Until u) Fault
   unfolding visitCell
-  visit-mul h e n = rw (lt-ltb y (getD u x 0) h, eq-eqb k 1 e, ne-eqb m 0 n)
+  visit-one h e = rw (lt-ltb y (getD u x 0) h, eq-eqb k 1 e)
 
   pub visit-small : getD u x 0 ≤ y → k < 2 → visitCell bw bh k m x y u ≡ Fault
   unfolding visitCell

@@ -1,16 +1,20 @@
 -- Each group of a valid layout is valid; its corners are the layout's.
 use mathlib.Core.Path.{_≡_, refl, ap, sym, _∙_}
 use mathlib.Core.Bool.{Bool, true}
+use mathlib.Core.Logic.{_⊎_, inl, inr}
 use mathlib.Core.List.{List}
 use Prim.Native.Nat.{ℕ, zero, suc, _+_, _*_, _-_, _/_, _%_, min, _≤_, _<_}
+use native.Mathlib.Nat.{mul-zero, mod-lt, div-lt-iff-lt-mul}
 use native.Mathlib.Omega.{arith}
 use lib.Arith.{digits-lt, digits-div, digits-mod}
 use lib.ListN.{length}
+use borrow.Author.Tests.{ltb-true}
+use Rattle.laws.specs.Cases.{le-or-lt}
 use Rattle.layout.specs.Kinds.{wideOf, highOf}
 use Rattle.layout.specs.Grid.{at, gridOf, grid-length, grid-at}
 use Rattle.layout.specs.Valid.{Cells, Covers, Fits, Owned, Valid, Layout}
 use Rattle.layout.specs.Same.{valid-same}
-use Rattle.layout.specs.Cut.{groups, groupX, groupY, side, cutCells, groupWide, groupHigh, cut}
+use Rattle.layout.specs.Cut.{groups, groupX, groupY, hasGroup, side, cutCells, groupWide, groupHigh, cut}
 
 -- a corner that reaches into a square of 32 lies in it
 within : (q i w x : ℕ) → i % 32 + w ≤ 32 → i ≤ 32 * q + x → 32 * q + x < i + w → x < 32 → 32 * q ≤ i
@@ -79,6 +83,23 @@ module _ (bw bh g : ℕ) where
         (λ x y i j. sym (cut-at kinds x y i j)) (λ x y i j. sym (cut-at muls x y i j))
         (cut-valid bw bh (at kinds bw) (at muls bw) (groupX bw g) (groupY bw g) (ok .valid));
   }
+
+-- The first block of a group is in the layout.
+module _ (bw bh g : ℕ) (has : hasGroup bw bh g ≡ true) where
+  some : 0 < groups bw
+  some = go (le-or-lt 1 (groups bw)) (ltb-true g (groups bh * groups bw) has)
+    where
+      go : (1 ≤ groups bw) ⊎ (groups bw < 1) → g < groups bh * groups bw → 0 < groups bw
+      go (inl h) l = h
+      go (inr h) l = let z : groups bh * groups bw ≡ groups bh * 0 = ap (λ (n : ℕ). groups bh * n) (let e : groups bw ≡ 0 = omega arith in e) in absurd (omega (arith, mul-zero (groups bh)))
+
+  pub starts-x : 32 * groupX bw g < bw
+  unfolding groupX
+  starts-x = let h = mod-lt g some in omega arith
+
+  pub starts-y : 32 * groupY bw g < bh
+  unfolding groupY
+  starts-y = let h = div-lt-iff-lt-mul {k = groups bw} some .1 (ltb-true g (groups bh * groups bw) has) in omega arith
 
 -- Each block lies in the group of its square, and in the grid of that group.
 pub groupAt : ℕ → ℕ → ℕ → ℕ

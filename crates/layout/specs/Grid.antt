@@ -3,11 +3,11 @@ use mathlib.Core.Path.{_≡_, refl, ap, sym, _∙_}
 use mathlib.Core.Logic.{_⊎_, inl, inr}
 use mathlib.Core.List.{List, [], _∷_, _++_}
 use Prim.Native.Nat.{ℕ, zero, suc, _+_, _*_, _-_, _/_, _%_, _≤_, _<_}
-use native.Mathlib.Nat.{mul-le-mul-right, suc-mul}
+use native.Mathlib.Nat.{mul-le-mul-right, suc-mul, mul-zero, mul-comm, mod-lt, div-add-mod, div-lt-iff-lt-mul}
 use native.Mathlib.Omega.{arith}
 use lib.Arith.{digits-lt, digits-div, digits-mod}
 use lib.ListN.{length, getD, set, length-set, length-append, List·getD-append}
-use lib.Seq.{getD-set-same, getD-set-other, getD-append-add}
+use lib.Seq.{getD-set-same, getD-set-other, getD-append-add, ext-getD}
 use Rattle.laws.specs.Cases.{eq-or-ne, le-or-lt}
 
 -- the cell (x, y) of a grid that is bw wide
@@ -62,6 +62,24 @@ place-col bw x y a b h l e = sym (digits-mod b l) ∙ ap (λ (i : ℕ). i % bw) 
 
 pub row-below : (bw y b : ℕ) → y < b → y * bw + bw ≤ b * bw
 row-below bw y b h = let e : suc y * bw ≡ y * bw + bw = suc-mul y bw in let m : suc y * bw ≤ b * bw = mul-le-mul-right bw h in omega arith
+
+-- the cell at a place of the grid
+pub record Cell (bw bh i : ℕ) : Type 0 where
+  pub x : ℕ
+  pub y : ℕ
+  pub inX : x < bw
+  pub inY : y < bh
+  pub place : i ≡ y * bw + x
+
+pub cell-at : (bw bh i : ℕ) → i < bh * bw → Cell bw bh i
+cell-at zero bh i h = absurd (omega (arith, mul-zero bh))
+cell-at (suc w) bh i h = record {
+  x = i % suc w;
+  y = i / suc w;
+  inX = mod-lt i (omega arith);
+  inY = div-lt-iff-lt-mul {k = suc w} (omega arith) .1 h;
+  place = sym (div-add-mod i (suc w)) ∙ ap (λ (n : ℕ). n + i % suc w) (mul-comm (suc w) (i / suc w));
+}
 
 -- One cell set.
 pub set-same : (g : List ℕ) (bw bh x y v : ℕ) → length g ≡ bh * bw → x < bw → y < bh → at (set g (y * bw + x) v) bw x y ≡ v
@@ -171,3 +189,10 @@ module _ (f : ℕ → ℕ → ℕ) where
 
   pub grid-at : (w h x y : ℕ) → x < w → y < h → at (gridOf w h) w x y ≡ f x y
   grid-at w h x y p q = let e : 0 + y ≡ y = omega arith in at-grid w h 0 x y p q ∙ ap (λ (i : ℕ). f x i) e
+
+  -- a list with these cells is this grid
+  pub grid-is : (w h : ℕ) (l : List ℕ) → length l ≡ h * w → ((x y : ℕ) → x < w → y < h → at l w x y ≡ f x y) → l ≡ gridOf w h
+  grid-is w h l e same = ext-getD 0 l (gridOf w h) (e ∙ sym (grid-length w h)) (λ i j. go i (cell-at w h i (omega arith)))
+    where
+      go : (i : ℕ) → Cell w h i → getD l i 0 ≡ getD (gridOf w h) i 0
+      go i p = rw (p .place) (same (p .x) (p .y) (p .inX) (p .inY) ∙ sym (grid-at w h (p .x) (p .y) (p .inX) (p .inY)))

@@ -6,6 +6,7 @@ pub mod Stretch
 pub mod Grid
 pub mod Valid
 pub mod Order
+pub mod Fill
 pub mod Check
 pub mod CheckLaws
 pub mod CheckValid
@@ -17,5 +18,8 @@ pub mod Cut
 pub mod Same
 pub mod CutLaws
 pub mod Like
+pub mod LikeLaws
+pub mod Groups
+pub mod Listed
 pub mod Theorems
 pub mod WalkSteps

@@ -1,6 +1,6 @@
 -- The statements that other crates cite.
-use mathlib.Core.Path.{_≡_, refl}
-use mathlib.Core.Bool.{Bool, true}
+use mathlib.Core.Path.{_≡_, refl, sym}
+use mathlib.Core.Bool.{Bool, true, false}
 use mathlib.Core.Logic.{_↔_}
 use mathlib.Core.List.{List}
 use Prim.Native.Nat.{ℕ, _*_, _≤_, _<_}
@@ -8,7 +8,7 @@ use native.Mathlib.Omega.{arith}
 use lib.ListN.{length}
 use Rattle.layout.specs.Grid.{at}
 use Rattle.layout.specs.Valid.{Covers, Owned, Valid, Layout}
-use Rattle.layout.specs.Check.{check}
+use Rattle.layout.specs.Check.{check, isLayout}
 use Rattle.layout.specs.CheckValid.{check-valid}
 use Rattle.layout.specs.ValidCheck.{valid-check}
 use Rattle.layout.specs.Varblocks.{varblocksOf, area}
@@ -17,7 +17,7 @@ use Rattle.layout.specs.Cut.{groupWide, groupHigh, cut}
 use Rattle.layout.specs.CutLaws.{cut-layout}
 
 module _ (bw bh : ℕ) (kinds muls : List ℕ) where
-  -- 18 is refused exactly where it should be
+  -- the walk ends without a fault exactly over layouts
   pub check-iff : (room : ℕ) → bw ≤ room → length kinds ≡ bh * bw → length muls ≡ bh * bw → (check room bw bh kinds muls ≡ true) ↔ Layout bw bh kinds muls
   check-iff room h k m = (
     λ e. record { kindsLength = k; mulsLength = m; valid = check-valid bw bh (at kinds bw) (at muls bw) room h e },
@@ -26,6 +26,22 @@ module _ (bw bh : ℕ) (kinds muls : List ℕ) where
 
   pub layout-check : (room : ℕ) → bw ≤ room → Layout bw bh kinds muls → check room bw bh kinds muls ≡ true
   layout-check room h ok = valid-check bw bh (at kinds bw) (at muls bw) (ok .valid) room h
+
+  -- what 18 lets pass is a layout, and every layout
+  pub layout-iff : length kinds ≡ bh * bw → length muls ≡ bh * bw → (isLayout bw bh kinds muls ≡ true) ↔ Layout bw bh kinds muls
+  layout-iff k m = check-iff bw (omega arith) k m
+
+  -- the room for columns does not matter
+  pub check-room : (room : ℕ) → bw ≤ room → check room bw bh kinds muls ≡ isLayout bw bh kinds muls
+  check-room room h =
+      same (check room bw bh kinds muls) (isLayout bw bh kinds muls)
+      (λ e. valid-check bw bh (at kinds bw) (at muls bw) (check-valid bw bh (at kinds bw) (at muls bw) room h e) bw (omega arith))
+      (λ e. valid-check bw bh (at kinds bw) (at muls bw) (check-valid bw bh (at kinds bw) (at muls bw) bw (omega arith) e) room h)
+    where
+      same : (a b : Bool) → (a ≡ true → b ≡ true) → (b ≡ true → a ≡ true) → a ≡ b
+      same true b f g = sym (f refl)
+      same false true f g = g refl
+      same false false f g = refl
 
   -- rectangles that share a cell of the grid are one
   pub disjoint : Layout bw bh kinds muls → (a b c d x y : ℕ) → x < bw → y < bh → Covers (at kinds bw) a b x y → Covers (at kinds bw) c d x y → (a ≡ c) × (b ≡ d)

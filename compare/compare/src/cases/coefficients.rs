@@ -3,9 +3,11 @@ use std::sync::Arc;
 
 use calls::{CoefficientBuffers, CoefficientsCall, Contexts, Layout, Outcome, LIST_MOST};
 
+use super::coefficient_faults::{damage_call, damage_symbols};
 use super::digits::{lists_count, Digits};
 use super::orders::symbols;
-use super::placing::{damage, fill};
+use super::placing::{fill, single};
+use super::symbol_stream::symbol_stream;
 use super::{plainer, shorter, simpler, variants, Case};
 use crate::expected;
 use crate::make::{self, OrdersAndStore};
@@ -37,6 +39,14 @@ pub const MAP_MOST: usize = 256 * 16 * paper::ENTRIES_PER_CLUSTER;
 /// Short inputs: one Dct8 with default contexts, over lists of these symbols.
 const SHORT_SYMBOLS: [u32; 6] = [0, 1, 2, 3, 63, 64];
 const SHORT_MOST: usize = 6;
+/// At how many places the symbols of each transform end, half of them counted from the end.
+const SHORT_ENDS: usize = 400;
+const TRANSFORMS: usize = 27;
+const SIDES: usize = 32;
+
+fn short_lists() -> usize {
+    lists_count(SHORT_SYMBOLS.len(), SHORT_MOST)
+}
 
 impl CoefficientsCase {
     pub fn new(seed: u64) -> Self {
@@ -55,6 +65,43 @@ impl CoefficientsCase {
         Self {
             orders: orders.into_iter().map(Arc::new).collect(),
         }
+    }
+
+    /// One Dct8 with default contexts, over a list of a few symbols.
+    fn short_list(&self, number: usize) -> CoefficientsInput {
+        let group = single(0);
+        let mut input = self.input(0, group, make::default_contexts());
+        input.call.symbols = Digits::of(number).list(&SHORT_SYMBOLS, SHORT_MOST);
+        input
+    }
+
+    /// One varblock of each transform, its symbols ending at each of the first and last places.
+    fn ending(&self, number: usize) -> CoefficientsInput {
+        let mut digits = Digits::of(number);
+        let transform = digits.next(TRANSFORMS) as u8;
+        let place = digits.next(SHORT_ENDS);
+        let mut rng = Rng::new(number as u64 % TRANSFORMS as u64);
+        let group = single(transform);
+        let which = rng.below(self.orders.len());
+        let mut input = self.input(which, group, make::default_contexts());
+        let symbols = symbol_stream(&mut rng, &input.call.group, 2);
+        let end = match place.checked_sub(SHORT_ENDS / 2) {
+            Some(before_last) => symbols.len().saturating_sub(before_last),
+            None => place.min(symbols.len()),
+        };
+        input.call.symbols = symbols[..end].to_vec();
+        input
+    }
+
+    /// A group of each width and height.
+    fn of_sides(&self, number: usize) -> CoefficientsInput {
+        let (wide, high) = (number % SIDES + 1, number / SIDES + 1);
+        let mut rng = Rng::new(number as u64);
+        let group = fill(&mut rng, wide, high, None).layout;
+        let which = rng.below(self.orders.len());
+        let mut input = self.input(which, group, contexts(&mut rng));
+        input.call.symbols = symbol_stream(&mut rng, &input.call.group, 4);
+        input
     }
 
     fn input(&self, which: usize, group: Layout, contexts: Contexts) -> CoefficientsInput {
@@ -77,19 +124,17 @@ impl Case for CoefficientsCase {
     }
 
     fn short_count(&self) -> usize {
-        lists_count(SHORT_SYMBOLS.len(), SHORT_MOST)
+        short_lists() + SHORT_ENDS * TRANSFORMS + SIDES * SIDES
     }
 
     fn short(&self, number: usize) -> CoefficientsInput {
-        let group = Layout {
-            wide: 1,
-            high: 1,
-            kinds: vec![2],
-            hf_mul: vec![1],
-        };
-        let mut input = self.input(0, group, make::default_contexts());
-        input.call.symbols = Digits::of(number).list(&SHORT_SYMBOLS, SHORT_MOST);
-        input
+        if number < short_lists() {
+            return self.short_list(number);
+        }
+        match number - short_lists() {
+            end if end < SHORT_ENDS * TRANSFORMS => self.ending(end),
+            sides => self.of_sides(sides - SHORT_ENDS * TRANSFORMS),
+        }
     }
 
     fn random(&self, rng: &mut Rng) -> CoefficientsInput {
@@ -101,7 +146,8 @@ impl Case for CoefficientsCase {
         let group = group(rng);
         let mut input = self.input(rng.below(self.orders.len()), group, contexts);
         let call = &mut input.call;
-        call.symbols = symbol_stream(rng, &call.group);
+        let sparseness = rng.pick(&[1, 2, 8, 64]);
+        call.symbols = symbol_stream(rng, &call.group, sparseness);
         call.shift = rng.below(4) as u32;
         presets(rng, call, &input.orders.cluster_map);
         if rng.once_in(2) {
@@ -232,106 +278,4 @@ fn buffers(rng: &mut Rng, blocks: usize) -> CoefficientBuffers {
         grids: std::array::from_fn(|_| grid(rng)),
         log: rng.bytes(192 * blocks + extra),
     }
-}
-
-/// Symbols that read a group to its end: for each varblock and channel a count and its places.
-fn symbol_stream(rng: &mut Rng, group: &Layout) -> Vec<u32> {
-    let mut symbols = Vec::new();
-    let density = rng.pick(&[1, 2, 8, 64]);
-    for &kind in &group.kinds {
-        let Some((wide, high)) = paper::kind_sides(kind) else {
-            continue;
-        };
-        for _ in 0..3 {
-            places(rng, 63 * wide * high, density, &mut symbols);
-        }
-    }
-    symbols
-}
-
-fn places(rng: &mut Rng, places: usize, density: usize, symbols: &mut Vec<u32>) {
-    let most = (places / density).max(1);
-    let count = match rng.below(8) {
-        0 | 1 => 0,
-        2 => most,
-        _ => rng.below(most + 1),
-    };
-    let leftover = usize::from(count > 1 && rng.once_in(16));
-    symbols.push(count as u32);
-    let mut wanted = count - leftover;
-    for place in 0..places {
-        if wanted + leftover == 0 {
-            break;
-        }
-        let filled = wanted > 0 && rng.below(places - place) < wanted;
-        symbols.push(if filled { coefficient(rng) } else { 0 });
-        wanted -= usize::from(filled);
-    }
-}
-
-fn coefficient(rng: &mut Rng) -> u32 {
-    match rng.below(8) {
-        0 => rng.any_u32().max(1),
-        _ => rng.between(1, 9) as u32,
-    }
-}
-
-fn damage_symbols(rng: &mut Rng, symbols: &mut Vec<u32>) {
-    let place = rng.below(symbols.len());
-    match rng.below(5) {
-        0 | 1 => symbols.truncate(place),
-        2 => symbols[place] = rng.pick(&[63, 64, 126, 127, 252, 253, 64_512, 64_513, u32::MAX]),
-        3 => symbols[place] = 0,
-        _ => symbols.extend([3, 0, u32::MAX]),
-    }
-}
-
-fn damage_call(rng: &mut Rng, call: &mut CoefficientsCall) {
-    let channel = rng.below(3);
-    match rng.below(16) {
-        0 => call.group.wide = rng.pick(&[0, 33, u32::MAX]),
-        1 => call.group.high = rng.pick(&[0, 33, u32::MAX]),
-        2 => call.shift = rng.pick(&[4, u32::MAX]),
-        3 => call.presets = rng.pick(&[257, u32::MAX]),
-        4 => call.contexts.count = rng.pick(&[0, 17, u32::MAX, 1]),
-        5 => call.contexts.lengths[rng.below(4)] = rng.pick(&[15, 16, u32::MAX]),
-        6 => call.contexts.qf[0] = rng.pick(&[0, 301, 300, u32::MAX]),
-        7 => call.contexts.map[rng.below(39)] = rng.pick(&[15, 16, 255]),
-        8 => call
-            .cluster_map
-            .resize(rng.misfit(call.cluster_map.len()), 0),
-        9 => misfit_grid(rng, &mut call.buffers.grids[channel]),
-        10 => call
-            .buffers
-            .log
-            .truncate((192 * call.group.blocks()).saturating_sub(1)),
-        11 => call
-            .lf
-            .iter_mut()
-            .for_each(|lf| misfit_grid(rng, &mut lf[channel])),
-        12 => call.group.kinds.push(1),
-        13 => damage_store(rng, call),
-        _ => damage(rng, &mut call.group),
-    }
-}
-
-fn misfit_grid(rng: &mut Rng, grid: &mut Vec<i32>) {
-    grid.resize(rng.misfit(grid.len()), 0);
-}
-
-/// A store of another length, or with one number outside.
-fn damage_store(rng: &mut Rng, call: &mut CoefficientsCall) {
-    let mut store = call.store.to_vec();
-    if rng.once_in(3) {
-        store.resize(rng.misfit(store.len()), 0);
-    } else {
-        let place = rng.below(store.len());
-        store[place] = rng.pick(&[8, 16, 255, 256, u16::MAX]);
-    }
-    let untouched = store == *call.store;
-    if !untouched && paper::store_fits(&store) && paper::places_inside(&store) {
-        // Inside, yet no store of an order call: not compared (document 01, Coefficients).
-        return;
-    }
-    call.store = Arc::new(store);
 }

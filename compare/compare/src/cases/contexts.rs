@@ -20,15 +20,11 @@ const QF_FIELDS: [usize; 4] = [2, 3, 5, 8];
 impl Case for ContextsCase {
     const NAME: &'static str = "contexts";
     type Input = ContextsCall;
-    /// The record and the bits read.
-    type Value = (Contexts, usize);
-    type Buffers = ();
+    type Value = usize;
+    type Buffers = Contexts;
 
-    fn expected(&self, input: &ContextsCall) -> Outcome<(Contexts, usize), ()> {
-        Outcome {
-            answer: expected::contexts(input),
-            buffers: (),
-        }
+    fn expected(&self, input: &ContextsCall) -> Outcome<usize, Contexts> {
+        expected::contexts(input)
     }
 
     fn short_count(&self) -> usize {

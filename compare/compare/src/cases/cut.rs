@@ -9,17 +9,17 @@ use crate::rng::Rng;
 pub struct CutCase;
 
 /// Grids of at most four cells, over all kinds and one beyond; hf_mul as the kinds ask for.
-const SHORT_GRIDS: [(u32, u32); 6] = [(1, 1), (2, 1), (1, 2), (3, 1), (1, 3), (2, 2)];
+const SHORT_GRIDS: [(usize, usize); 6] = [(1, 1), (2, 1), (1, 2), (3, 1), (1, 3), (2, 2)];
 const SHORT_CELLS: usize = 4;
 const SHORT_KINDS: [u8; 13] = [0, 1, 2, 3, 6, 7, 8, 9, 10, 14, 28, 29, 255];
 
 impl Case for CutCase {
     const NAME: &'static str = "cut";
     type Input = CutCall;
-    type Value = (u32, u32);
+    type Value = (usize, usize);
     type Buffers = GroupBuffers;
 
-    fn expected(&self, input: &CutCall) -> Outcome<(u32, u32), GroupBuffers> {
+    fn expected(&self, input: &CutCall) -> Outcome<(usize, usize), GroupBuffers> {
         paper::cut(input)
     }
 
@@ -34,10 +34,10 @@ impl Case for CutCase {
     fn random(&self, rng: &mut Rng) -> CutCall {
         let layout = random_layout(rng);
         let groups = layout.wide.div_ceil(32) * layout.high.div_ceil(32);
-        let group = rng.below(groups as usize);
+        let group = rng.below(groups);
         let mut call = call(layout, group);
         match rng.below(24) {
-            0 => call.group = rng.pick(&[groups as usize, usize::MAX, 64, groups as usize + 1]),
+            0 => call.group = rng.pick(&[groups, usize::MAX, 64, groups + 1]),
             1 => call.kinds.resize(rng.misfit(call.kinds.len()), 0),
             2 => call.hf_mul.resize(rng.misfit(call.hf_mul.len()), 0),
             3 => misfit(rng, &mut call.layout),
@@ -65,9 +65,9 @@ pub fn plain_layouts(layout: &Layout) -> Vec<Layout> {
 }
 
 fn call(layout: Layout, group: usize) -> CutCall {
-    let groups_wide = (layout.wide as usize).div_ceil(32).max(1);
+    let groups_wide = layout.wide.div_ceil(32).max(1);
     let (x, y) = (group % groups_wide * 32, group / groups_wide * 32);
-    let side = |layout: u32, start: usize| (layout as usize).saturating_sub(start).min(32);
+    let side = |layout: usize, start| layout.saturating_sub(start).min(32);
     let cells = side(layout.wide, x) * side(layout.high, y);
     CutCall {
         layout,
@@ -113,8 +113,8 @@ pub fn random_layout(rng: &mut Rng) -> Layout {
 /// Sides outside the limits, or lengths that do not fit.
 pub fn misfit(rng: &mut Rng, layout: &mut Layout) {
     match rng.below(4) {
-        0 => layout.wide = rng.pick(&[0, 257, u32::MAX]),
-        1 => layout.high = rng.pick(&[0, 257, u32::MAX]),
+        0 => layout.wide = rng.pick(&[0, 257, usize::MAX]),
+        1 => layout.high = rng.pick(&[0, 257, usize::MAX]),
         2 => layout.kinds.resize(rng.misfit(layout.kinds.len()), 1),
         _ => layout.hf_mul.resize(rng.misfit(layout.hf_mul.len()), 0),
     }

@@ -88,10 +88,12 @@ impl Case for LayoutCase {
     }
 
     fn smaller(&self, input: &LayoutCall) -> Vec<LayoutCall> {
-        let mut found = variants(input, smaller_sides(input), |call, (width, height)| {
+        let mut found = alone(input);
+        let sides = simpler(&(input.width, input.height), smaller_sides(input));
+        found.extend(variants(input, sides, |call, (width, height)| {
             (call.width, call.height) = (width, height);
             fit_lengths(call);
-        });
+        }));
         let types = input.types.iter().copied();
         let columns: Vec<_> = types.zip(input.muls.iter().copied()).collect();
         let set_columns = |call: &mut LayoutCall, columns: Vec<(i32, i32)>| {
@@ -120,11 +122,33 @@ impl Case for LayoutCase {
     }
 }
 
-fn smaller_sides(call: &LayoutCall) -> Vec<(u32, u32)> {
+/// Each column of a layout of several alone, on a grid of its own size.
+fn alone(call: &LayoutCall) -> Vec<LayoutCall> {
+    const MOST: usize = 64;
+    let columns = call.types.iter().zip(&call.muls).rev().take(MOST);
+    let several = call.types.len() > 1;
+    let grid = |(&number, &mul): (&i32, &i32)| {
+        let kind = (number as u8).checked_add(2)?;
+        let (wide, high) = paper::kind_sides(kind)?;
+        let mut alone = call.clone();
+        (alone.types, alone.muls) = (vec![number], vec![mul]);
+        (alone.width, alone.height) = (8 * wide as u32, 8 * high as u32);
+        fit_lengths(&mut alone);
+        Some(alone)
+    };
+    columns.filter(|_| several).filter_map(grid).collect()
+}
+
+fn smaller_sides(call: &LayoutCall) -> [(u32, u32); 4] {
+    let (width, height) = (call.width, call.height);
     let half = |side: u32| (side / 2).max(1);
-    let sides = (call.width, call.height);
-    let halves = [(half(sides.0), sides.1), (sides.0, half(sides.1))];
-    simpler(&sides, halves)
+    let less = |side: u32| side.saturating_sub(8).max(1);
+    [
+        (half(width), height),
+        (width, half(height)),
+        (less(width), height),
+        (width, less(height)),
+    ]
 }
 
 /// Sets every length to what the sides and modes ask for.

@@ -1,6 +1,7 @@
 //! The calls to compare: what is expected of each, and inputs for it.
 
 mod alike;
+mod coefficient_faults;
 mod coefficients;
 mod column_count;
 mod contexts;
@@ -11,6 +12,8 @@ mod orders;
 mod placing;
 mod reader;
 mod signed;
+mod stores;
+mod symbol_stream;
 mod transform;
 
 use std::fmt::Debug;
@@ -26,8 +29,11 @@ pub use contexts::ContextsCase;
 pub use cut::CutCase;
 pub use layout::LayoutCase;
 pub use orders::OrdersCase;
-pub use reader::{ReadKind, ReaderCase, ReaderInput};
+pub use placing::fill;
+pub use reader::ReaderCase;
 pub use signed::SignedCase;
+pub use stores::{OrderCase, PlacesCase, PlacesInput};
+pub use symbol_stream::symbol_stream;
 pub use transform::TransformCase;
 
 pub trait Case {

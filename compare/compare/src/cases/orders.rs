@@ -88,8 +88,9 @@ fn list(rng: &mut Rng, size: usize, symbols: &mut Vec<u32>) {
     let free = size - size / 64;
     let length = match rng.below(8) {
         0 => 0,
-        1 => free.min(2000),
-        2 if rng.once_in(16) => free,
+        1 => free.min(500),
+        // The Rust's time grows with the square of a long list.
+        2 if free < 5000 || rng.once_in(200) => free,
         _ => rng.below(free.min(200) + 1),
     };
     let style = rng.below(4);

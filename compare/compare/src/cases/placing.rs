@@ -45,11 +45,25 @@ pub fn fill(rng: &mut Rng, wide: usize, high: usize, favoured: Option<u8>) -> Fi
     Filled {
         columns,
         layout: Layout {
-            wide: wide as u32,
-            high: high as u32,
+            wide,
+            high,
             kinds,
             hf_mul,
         },
+    }
+}
+
+/// A group that is one varblock.
+pub fn single(transform: u8) -> Layout {
+    let (wide, high) = sides(transform);
+    let mut kinds = vec![1; wide * high];
+    let mut hf_mul = vec![0; wide * high];
+    (kinds[0], hf_mul[0]) = (2 + transform, 1);
+    Layout {
+        wide,
+        high,
+        kinds,
+        hf_mul,
     }
 }
 

@@ -1,4 +1,4 @@
-use calls::{Answer, Outcome, Refusal};
+use calls::{Answer, Outcome, ReadCall, ReadKind, Refusal};
 use jxl_bitstream::{Bitstream, BitstreamResult, U};
 
 use super::digits::Digits;
@@ -8,22 +8,6 @@ use crate::rng::Rng;
 /// Reads of the bit reader, one at a time, at any place of the lent bytes; compared with the
 /// stand-in for `jxl_bitstream`, which both sides of the other comparisons read with.
 pub struct ReaderCase;
-
-#[derive(Debug, Clone)]
-pub struct ReaderInput {
-    pub bytes: Vec<u8>,
-    /// The first bit to read has the number 8 * byte + bit.
-    pub byte: usize,
-    pub bit: u32,
-    pub read: ReadKind,
-}
-
-#[derive(Debug, Clone, PartialEq)]
-pub enum ReadKind {
-    Bits(u32),
-    /// Offsets and bits of the four choices.
-    U32([(u32, u32); 4]),
-}
 
 /// The value, and the number of the bit behind it.
 pub type ReadValue = (u32, usize);
@@ -47,11 +31,11 @@ const BITS: usize = 10;
 
 impl Case for ReaderCase {
     const NAME: &'static str = "reader";
-    type Input = ReaderInput;
+    type Input = ReadCall;
     type Value = ReadValue;
     type Buffers = ();
 
-    fn expected(&self, input: &ReaderInput) -> Outcome<ReadValue, ()> {
+    fn expected(&self, input: &ReadCall) -> Outcome<ReadValue, ()> {
         Outcome {
             answer: read(input),
             buffers: (),
@@ -62,13 +46,13 @@ impl Case for ReaderCase {
         PATTERNS.len() * (WIDTHS + KINDS.len()) * LENGTHS * LENGTHS * BITS
     }
 
-    fn short(&self, number: usize) -> ReaderInput {
+    fn short(&self, number: usize) -> ReadCall {
         let mut digits = Digits::of(number);
         let read = match digits.next(WIDTHS + KINDS.len()) {
             n if n < WIDTHS => ReadKind::Bits(n as u32),
             kind => KINDS[kind - WIDTHS].clone(),
         };
-        ReaderInput {
+        ReadCall {
             bytes: digits.pick(&PATTERNS)[..digits.next(LENGTHS)].to_vec(),
             byte: digits.next(LENGTHS),
             bit: digits.next(BITS) as u32,
@@ -76,11 +60,11 @@ impl Case for ReaderCase {
         }
     }
 
-    fn random(&self, rng: &mut Rng) -> ReaderInput {
+    fn random(&self, rng: &mut Rng) -> ReadCall {
         let length = rng.below(40);
         let choices = std::array::from_fn(|_| (rng.any_u32(), rng.below(40) as u32));
         let byte = (length + 1).saturating_sub(rng.below(10));
-        ReaderInput {
+        ReadCall {
             bytes: rng.bytes(length),
             byte: if rng.once_in(50) { usize::MAX } else { byte },
             bit: if rng.once_in(20) {
@@ -96,7 +80,7 @@ impl Case for ReaderCase {
         }
     }
 
-    fn smaller(&self, input: &ReaderInput) -> Vec<ReaderInput> {
+    fn smaller(&self, input: &ReadCall) -> Vec<ReadCall> {
         let bits = simpler(&input.bit, [0, input.bit / 2, input.bit.saturating_sub(1)]);
         let mut found = variants(input, shorter(&input.bytes), |i, bytes| i.bytes = bytes);
         found.extend(variants(input, plainer(&input.bytes, 0), |i, bytes| {
@@ -110,7 +94,7 @@ impl Case for ReaderCase {
     }
 }
 
-fn read(input: &ReaderInput) -> Answer<ReadValue> {
+fn read(input: &ReadCall) -> Answer<ReadValue> {
     if input.byte > input.bytes.len() {
         return Err(Refusal::at(3, 0, 0));
     }

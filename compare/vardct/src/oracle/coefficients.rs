@@ -44,7 +44,7 @@ impl<'a> CoefficientsRun<'a> {
 
     pub fn run(&self, buffers: &mut CoefficientBuffers) -> calls::Answer<usize> {
         let call = self.call;
-        let (wide, high) = (call.group.wide as usize, call.group.high as usize);
+        let (wide, high) = (call.group.wide, call.group.high);
         let CoefficientBuffers { grids, log } = buffers;
         let mut output = grids
             .each_mut()

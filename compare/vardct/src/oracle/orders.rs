@@ -1,4 +1,4 @@
-use calls::{Answer, Refusal, Store, ORDER_COUNT};
+use calls::{Answer, Refusal, Store, ORDER_COUNT, STORE_LENGTH};
 use jxl_bitstream::{Bitstream, Coded};
 use jxl_oxide_common::Bundle;
 
@@ -33,24 +33,21 @@ pub fn orders(bytes: &[u8], symbols: &[u32], cluster_map: &[u8]) -> Answer<Order
 }
 
 impl Orders {
-    /// The list of an order and channel: x, y of each place.
-    pub fn list(&self, order: usize, channel: usize) -> impl Iterator<Item = u16> + '_ {
-        let places = self.pass.order(order, channel).iter();
-        places.flat_map(|&(x, y)| [x, y])
-    }
-
-    /// Writes all 39 lists, one behind the other.
-    pub fn write(&self, store: &mut Store) {
-        store.clear();
+    /// Writes all 39 lists into a store of their length, one behind the other.
+    pub fn write(&self, store: &mut [u16]) {
+        let mut places = store.chunks_exact_mut(2);
         for order in 0..ORDER_COUNT {
             for channel in 0..3 {
-                store.extend(self.list(order, channel));
+                let list = self.pass.order(order, channel);
+                for (&(x, y), place) in list.iter().zip(&mut places) {
+                    place.copy_from_slice(&[x, y]);
+                }
             }
         }
     }
 
     pub fn store(&self) -> Store {
-        let mut store = Store::with_capacity(calls::STORE_LENGTH);
+        let mut store = vec![0; STORE_LENGTH];
         self.write(&mut store);
         store
     }

@@ -6,8 +6,6 @@
 #[cfg(live)]
 mod options;
 #[cfg(live)]
-mod ours;
-#[cfg(live)]
 mod table;
 
 #[cfg(live)]

@@ -1,14 +1,27 @@
 //! The calls that are compared.
 
-use compare::cases::{Case, ReaderCase, SignedCase, TransformCase};
+use compare::cases::{
+    AlikeCase, Case, CoefficientsCase, ColumnCountCase, ContextsCase, CutCase, LayoutCase,
+    OrderCase, OrdersCase, PlacesCase, ReaderCase, SignedCase, TransformCase,
+};
 
 use crate::options::Options;
-use crate::ours;
 
 /// Compares one call, and tells whether it agrees.
 type Compare = fn(&Options) -> bool;
 
-const CALLS: [(&str, Compare); 3] = [
+const CALLS: [(&str, Compare); 12] = [
+    (ColumnCountCase::NAME, |options| {
+        compare(options, &ColumnCountCase, ours::column_count)
+    }),
+    (OrderCase::NAME, |options| {
+        compare(options, &OrderCase::new(options.seed), ours::order)
+    }),
+    (PlacesCase::NAME, |options| {
+        compare(options, &PlacesCase::new(), |input| {
+            ours::places_fit(&input.store)
+        })
+    }),
     (TransformCase::NAME, |options| {
         compare(options, &TransformCase, ours::transform)
     }),
@@ -17,6 +30,26 @@ const CALLS: [(&str, Compare); 3] = [
     }),
     (ReaderCase::NAME, |options| {
         compare(options, &ReaderCase, ours::read)
+    }),
+    (LayoutCase::NAME, |options| {
+        compare(options, &LayoutCase, ours::layout)
+    }),
+    (CutCase::NAME, |options| {
+        compare(options, &CutCase, ours::cut)
+    }),
+    (AlikeCase::NAME, |options| {
+        compare(options, &AlikeCase, ours::alike)
+    }),
+    (ContextsCase::NAME, |options| {
+        compare(options, &ContextsCase, ours::contexts)
+    }),
+    (OrdersCase::NAME, |options| {
+        compare(options, &OrdersCase, ours::orders)
+    }),
+    (CoefficientsCase::NAME, |options| {
+        compare(options, &CoefficientsCase::new(options.seed), |input| {
+            ours::coefficients(&input.call)
+        })
     }),
 ];
 

@@ -59,14 +59,15 @@ fn layout_buffers(
     sigma(body, &bits);
 }
 
-pub fn cut(body: &mut Body, call: &CutCall, outcome: &Outcome<(u32, u32), GroupBuffers>) {
+pub fn cut(body: &mut Body, call: &CutCall, outcome: &Outcome<(usize, usize), GroupBuffers>) {
     lent_layout(body, &call.layout);
     body.size(call.group);
     body.lent(&call.kinds);
     body.lent(&call.hf_mul);
     body.answer(&outcome.answer);
     let (wide, high) = outcome.answer.unwrap_or((0, 0));
-    body.numbers([wide, high]);
+    body.size(wide);
+    body.size(high);
     body.left(&outcome.buffers.0);
     body.left(&outcome.buffers.1);
 }
@@ -79,19 +80,19 @@ pub fn alike(body: &mut Body, call: &AlikeCall, outcome: &Outcome<bool, ()>) {
 }
 
 fn lent_layout(body: &mut Body, layout: &Layout) {
-    body.numbers([layout.wide, layout.high]);
+    body.size(layout.wide);
+    body.size(layout.high);
     body.lent(&layout.kinds);
     body.lent(&layout.hf_mul);
 }
 
-pub fn contexts(body: &mut Body, call: &ContextsCall, outcome: &Outcome<(Contexts, usize), ()>) {
+pub fn contexts(body: &mut Body, call: &ContextsCall, outcome: &Outcome<usize, Contexts>) {
     body.lent(&call.bytes);
     body.number(call.count);
     body.lent(&call.map);
     body.answer(&outcome.answer);
-    let nothing = (Contexts::ZERO, 0);
-    let (record, bits) = outcome.answer.as_ref().unwrap_or(&nothing);
-    body.size(*bits);
+    body.size(*outcome.answer.as_ref().unwrap_or(&0));
+    let record = &outcome.buffers;
     record_numbers(body, record);
     body.left(&record.lf);
     body.left(&record.qf);

@@ -2,7 +2,7 @@
 
 use std::collections::BTreeMap;
 
-use calls::{Outcome, STORE_LENGTH};
+use calls::{Layout, Outcome, STORE_LENGTH};
 use compare::cases::{
     AlikeCase, Case, CoefficientsCase, CoefficientsInput, ColumnCountCase, ContextsCase, CutCase,
     LayoutCase, OrdersCase, TransformCase, MAP_MOST,
@@ -17,6 +17,9 @@ const MAGIC: &[u8; 8] = b"NETBUFF1";
 const MADE_BY: &str =
     "cargo run --release -p compare --bin record, in compare/; form: compare/RECORD.md";
 const SEED: u64 = 18_181;
+/// Limits of what is lent to a recorded coefficient call: blocks, and entries of the cluster map.
+const GROUP_MOST: usize = 64;
+const ENTRIES_MOST: usize = 65_536;
 
 pub fn file() -> Vec<u8> {
     let mut file = File {
@@ -35,8 +38,12 @@ pub fn file() -> Vec<u8> {
     file.sample(2, &ColumnCountCase, encode::column_count, all, |_| true);
     let small = quota(10_000, 10, 800);
     file.sample(3, &LayoutCase, encode::layout, small, |_| true);
-    file.sample(4, &CutCase, encode::cut, small, |call| call.group < 100);
-    file.sample(5, &AlikeCase, encode::alike, small, |_| true);
+    file.sample(4, &CutCase, encode::cut, small, |call| {
+        sides_recorded(&call.layout) && call.group < 100
+    });
+    file.sample(5, &AlikeCase, encode::alike, small, |call| {
+        sides_recorded(&call.left) && sides_recorded(&call.right)
+    });
     file.sample(6, &ContextsCase, encode::contexts, small, |_| true);
     let few = quota(1000, 8, 2400);
     file.sample(7, &OrdersCase, encode::orders, few, |call| {
@@ -64,8 +71,8 @@ fn orders() -> [OrdersAndStore; 3] {
     lists.map(|(used, symbols)| OrdersAndStore::new(used, symbols, patterned(MAP_MOST)))
 }
 
-/// Lends buffers that need not be written out; a store that is longer than it should be is not
-/// recorded.
+/// Lends buffers that need not be written out. Large calls, and a store that is longer than it
+/// should be, are not recorded.
 fn pattern_buffers(input: &mut CoefficientsInput) -> bool {
     let buffers = &mut input.call.buffers;
     for grid in &mut buffers.grids {
@@ -76,7 +83,16 @@ fn pattern_buffers(input: &mut CoefficientsInput) -> bool {
     let used = contexts.lengths.iter().map(|&length| length as usize + 1);
     let used_map = used.fold(39, usize::saturating_mul).min(contexts.map.len());
     contexts.map[used_map..].fill(0);
-    input.call.store.len() <= STORE_LENGTH
+    let call = &input.call;
+    let small = call.group.kinds.len() <= GROUP_MOST && call.cluster_map.len() <= ENTRIES_MOST;
+    small && sides_recorded(&call.group) && call.store.len() <= STORE_LENGTH
+}
+
+/// Sides that are numbers of 32 bits.
+fn sides_recorded(layout: &Layout) -> bool {
+    [layout.wide, layout.high]
+        .iter()
+        .all(|&side| side <= u32::MAX as usize)
 }
 
 /// How many inputs are tried, how many are recorded for each answer, and how large a record may be.

@@ -1,0 +1,52 @@
+use calls::LayoutCall;
+use compare::cases::fill;
+use compare::make;
+use compare::rng::Rng;
+use jxl_vardct::oracle::LayoutRun;
+
+use crate::measure::{plain, prepared, Bench};
+
+pub fn benches() -> Vec<Bench> {
+    vec![
+        bench("layout, 2,048 x 2,048, Dct8, filter on", dct8(2048)),
+        bench("layout, 2,048 x 2,048, mixed, filter on", mixed(2048)),
+        bench("layout, 256 x 256, mixed, filter on", mixed(256)),
+    ]
+}
+
+fn bench(name: &str, call: LayoutCall) -> Bench {
+    let call: &'static LayoutCall = Box::leak(Box::new(call));
+    let mut buffers = call.buffers.clone();
+    Bench {
+        name: name.into(),
+        units: (call.sharpness.len(), "block"),
+        ours: plain(move || ours::layout_into(call, &mut buffers)),
+        rust: Some(prepared(
+            || LayoutRun::new(call, call.types.len()),
+            |run| run.run().is_ok(),
+        )),
+    }
+}
+
+fn dct8(side: u32) -> LayoutCall {
+    let blocks = (side / 8 * (side / 8)) as usize;
+    let muls = (0..blocks).map(|block| (0, block as i32 % 200));
+    filtered(make::layout(side, side, &muls.collect::<Vec<_>>()))
+}
+
+fn mixed(side: u32) -> LayoutCall {
+    let blocks = (side / 8) as usize;
+    let columns = fill(&mut Rng::new(7), blocks, blocks, None).columns;
+    filtered(make::layout(side, side, &columns))
+}
+
+fn filtered(mut call: LayoutCall) -> LayoutCall {
+    let mut rng = Rng::new(9);
+    call.filter = Some(0.46);
+    call.lookup = std::array::from_fn(|k| k as f32 / 7.0);
+    call.scale = 5461;
+    for sharpness in &mut call.sharpness {
+        *sharpness = rng.below(8) as i32;
+    }
+    call
+}

@@ -1,0 +1,124 @@
+use calls::CoefficientsCall;
+
+use super::{row, say, Row};
+use crate::expected;
+use crate::make::{self, OrdersAndStore};
+
+/// Three presets of 15 clusters.
+const ENTRIES: usize = 3 * 15 * paper::ENTRIES_PER_CLUSTER;
+
+pub fn rows() -> Vec<Row> {
+    let orders = orders_with_map(|place| place as u8);
+    let zeros = [vec![33], vec![0; 31]].concat();
+    let leftover = [vec![1], vec![0; 65]].concat();
+    let one = |transform, symbols: &[u32]| one_varblock(&orders, transform, symbols);
+    let calls = [
+        ("15: none", one(0, &[]), "refused 15 0 0"),
+        ("16: type 0, 64", one(0, &[64]), "refused 16 1 0"),
+        (
+            "17: type 0: 33, then 31 zeros",
+            one(0, &zeros),
+            "refused 17 32 0",
+        ),
+        (
+            "a leftover count: 1, then 63 zeros",
+            one(0, &leftover),
+            "read 66",
+        ),
+        ("surplus symbols", one(0, &[0, 0, 0, 9]), "read 3"),
+        (
+            "14: presets 0",
+            with_presets(&orders, 0, 0),
+            "refused 14 0 0",
+        ),
+        ("M9: count 252 for type 4", one(4, &[252]), "refused 15 1 0"),
+        ("M9: count 253 for type 4", one(4, &[253]), "refused 16 1 0"),
+        (
+            "M10: three presets, 2",
+            with_presets(&orders, 3, 2),
+            "read 3",
+        ),
+        (
+            "M10: three presets, 3",
+            with_presets(&orders, 3, 3),
+            "refused 14 2 0",
+        ),
+    ];
+    let answer = |call| {
+        let outcome = expected::coefficients(&call, &orders.orders);
+        say(outcome.answer, |read| format!("read {read}"))
+    };
+    let rows = calls
+        .into_iter()
+        .map(|(example, call, said)| row(example, answer(call), said));
+    rows.chain(m11(&orders)).chain(sums(&orders)).collect()
+}
+
+/// What the first place behind the corner, cell (1,0) of a Dct8 that turns, holds in the end.
+fn sums(orders: &OrdersAndStore) -> [Row; 2] {
+    let sum = |start, symbol, shift| {
+        let mut call = one_varblock(orders, 0, &[1, symbol, 0, 0]);
+        call.buffers.grids[1][8] = start;
+        call.shift = shift;
+        let buffers = expected::coefficients(&call, &orders.orders).buffers;
+        buffers.grids[1][8].to_string()
+    };
+    [
+        row(
+            "2^31 - 1 gains 1",
+            sum(i32::MAX, 2, 0),
+            i32::MIN.to_string(),
+        ),
+        row("symbol 2^32 - 2, shift 1", sum(0, u32::MAX - 1, 1), "-2"),
+    ]
+}
+
+fn m11(orders: &OrdersAndStore) -> [Row; 2] {
+    let symbols = [2, 3, 0, 4, 0, 0];
+    let buffers = |orders: &OrdersAndStore| {
+        let call = one_varblock(orders, 0, &symbols);
+        expected::coefficients(&call, &orders.orders).buffers
+    };
+    let low = buffers(orders);
+    let high = buffers(&orders_with_map(|place| (place >> 8) as u8));
+    let grid = low.grids[1].iter().enumerate();
+    let gained: Vec<_> = grid
+        .filter(|(_, &gain)| gain != 0)
+        .map(|(cell, gain)| format!("({},{}) {gain}", cell % 8, cell / 8))
+        .collect();
+    let logged = low.log.iter().zip(&high.log).take(symbols.len());
+    let places: Vec<_> = logged
+        .map(|(&low, &high)| u32::from(high) << 8 | u32::from(low))
+        .collect();
+    let contexts = "[300, 618, 558, 559, 307, 307]";
+    [
+        row(
+            "M11: channel 1 gains",
+            gained.join(", "),
+            "(2,0) 2, (0,1) -2",
+        ),
+        row("M11: contexts", format!("{places:?}"), contexts),
+    ]
+}
+
+fn orders_with_map(byte: impl Fn(usize) -> u8) -> OrdersAndStore {
+    OrdersAndStore::new(0, &[], (0..ENTRIES).map(byte).collect())
+}
+
+/// A coefficient call over a group that is one varblock, with default contexts.
+fn one_varblock(orders: &OrdersAndStore, transform: u8, symbols: &[u32]) -> CoefficientsCall {
+    let sides = expected::transform(transform.into()).expect("a transform");
+    let pixels = |blocks: usize| 8 * blocks as u32;
+    let column = (transform.into(), 0);
+    let layout = make::layout(pixels(sides.wide), pixels(sides.high), &[column]);
+    orders.coefficients(make::group(&layout), make::default_contexts(), symbols)
+}
+
+/// One Dct8 with three counts of 0, read with so many presets and a preset number.
+fn with_presets(orders: &OrdersAndStore, presets: u32, preset: u8) -> CoefficientsCall {
+    let mut call = one_varblock(orders, 0, &[0, 0, 0]);
+    call.presets = presets;
+    call.cluster_map = orders.cluster_map[..presets as usize * ENTRIES / 3].to_vec();
+    call.bytes = vec![preset];
+    call
+}

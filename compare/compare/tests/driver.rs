@@ -1,0 +1,39 @@
+//! The driver finds planted differences and makes their inputs small.
+#![cfg(live)]
+
+use compare::cases::{Case, LayoutCase, OrdersCase};
+use compare::driver::{run, Effort};
+
+#[test]
+fn a_truncated_hf_mul_is_found() {
+    let truncated = |input: &calls::LayoutCall| {
+        let mut outcome = LayoutCase.expected(input);
+        let buffers = &mut outcome.buffers;
+        for (sigma, &hf_mul) in buffers.sigma.iter_mut().zip(&buffers.hf_mul) {
+            if hf_mul > 1 << 24 && hf_mul % 2 != 0 {
+                *sigma = f32::from_bits(sigma.to_bits() ^ 1);
+            }
+        }
+        outcome
+    };
+    let report = run(&LayoutCase, truncated, Effort::Inputs(100_000), 1);
+    let difference = report.difference.expect("a difference");
+    println!("{difference}");
+    assert!(difference.contains("width: 1,"), "not small");
+}
+
+#[test]
+fn a_swapped_place_is_found() {
+    let swapped = |input: &calls::OrdersCall| {
+        let mut outcome = OrdersCase.expected(input);
+        if outcome.answer.is_ok_and(|read| read > 3) {
+            outcome.buffers.swap(2, 3);
+        }
+        outcome
+    };
+    let report = run(&OrdersCase, swapped, Effort::Inputs(1000), 1);
+    let difference = report.difference.expect("a difference");
+    let input = difference.lines().next().expect("a line").to_string();
+    println!("{input}");
+    assert!(input.len() < 200, "not small");
+}

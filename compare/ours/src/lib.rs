@@ -1,0 +1,219 @@
+//! Netbuff's answers, through its safe wrapper, in the words of the comparison.
+
+use calls::{
+    AlikeCall, Answer, CoefficientBuffers, CoefficientsCall, ColumnCount, ColumnCountCall,
+    Contexts, ContextsCall, CutCall, GroupBuffers, LayoutBuffers, LayoutCall, OrderCall,
+    OrdersCall, Outcome, ReadCall, ReadKind, Refusal, Store, Transform,
+};
+use netbuff::{
+    BlockContexts, Choice, CoefficientInput, CoefficientOutput, Filter, LayoutInput, LayoutOutput,
+    LfGroup, Place,
+};
+
+fn answer<T>(result: netbuff::Result<T>) -> Answer<T> {
+    result.map_err(|netbuff::Refusal { number, x, y }| Refusal { number, x, y })
+}
+
+/// The outcome of a call that is lent nothing to write to.
+fn plain<T>(result: netbuff::Result<T>) -> Outcome<T, ()> {
+    Outcome {
+        answer: answer(result),
+        buffers: (),
+    }
+}
+
+pub fn transform(&number: &u32) -> Outcome<Transform, ()> {
+    plain(netbuff::transform(number).map(|read| Transform {
+        wide: read.wide,
+        high: read.high,
+        order: read.order,
+        turns: read.turns,
+    }))
+}
+
+pub fn signed(&u: &u32) -> Outcome<i32, ()> {
+    plain(Ok(netbuff::unpack_signed(u)))
+}
+
+pub fn read(input: &ReadCall) -> Outcome<(u32, usize), ()> {
+    let at = Place {
+        byte: input.byte,
+        bit: input.bit,
+    };
+    let read = match &input.read {
+        ReadKind::Bits(n) => netbuff::read_bits(&input.bytes, at, *n),
+        ReadKind::U32(choices) => {
+            let choices = choices.map(|(offset, bits)| Choice { offset, bits });
+            netbuff::read_u32(&input.bytes, at, choices)
+        }
+    };
+    plain(read.map(|read| (read.value, 8 * read.next.byte + read.next.bit as usize)))
+}
+
+pub fn column_count(call: &ColumnCountCall) -> Outcome<ColumnCount, ()> {
+    let group = LfGroup {
+        width: call.width,
+        height: call.height,
+        modes: call.modes,
+    };
+    plain(
+        netbuff::column_count(&call.bytes, group).map(|read| ColumnCount {
+            count: read.count,
+            bits_read: read.bits_read,
+        }),
+    )
+}
+
+pub fn layout(call: &LayoutCall) -> Outcome<usize, LayoutBuffers> {
+    let mut buffers = call.buffers.clone();
+    Outcome {
+        answer: layout_into(call, &mut buffers),
+        buffers,
+    }
+}
+
+/// The layout call on other buffers than its own.
+pub fn layout_into(call: &LayoutCall, buffers: &mut LayoutBuffers) -> Answer<usize> {
+    let input = LayoutInput {
+        group: LfGroup {
+            width: call.width,
+            height: call.height,
+            modes: call.modes,
+        },
+        types: &call.types,
+        muls: &call.muls,
+        sharpness: &call.sharpness,
+        filter: call.filter.map_or(Filter::Off, Filter::On),
+        lookup: &call.lookup,
+        scale: call.scale,
+    };
+    let output = LayoutOutput {
+        kinds: &mut buffers.kinds,
+        hf_mul: &mut buffers.hf_mul,
+        sigma: &mut buffers.sigma,
+    };
+    answer(netbuff::layout(input, output))
+}
+
+pub fn orders(call: &OrdersCall) -> Outcome<usize, Store> {
+    let mut store = call.store.clone();
+    Outcome {
+        answer: orders_into(call, &mut store),
+        buffers: store,
+    }
+}
+
+/// The order call on another store than its own.
+pub fn orders_into(call: &OrdersCall, store: &mut Store) -> Answer<usize> {
+    answer(netbuff::orders(&call.bytes, &call.symbols, store))
+}
+
+pub fn cut(call: &CutCall) -> Outcome<(usize, usize), GroupBuffers> {
+    let mut buffers = (call.kinds.clone(), call.hf_mul.clone());
+    Outcome {
+        answer: cut_into(call, &mut buffers),
+        buffers,
+    }
+}
+
+/// The cut on other buffers than its own.
+pub fn cut_into(call: &CutCall, (kinds, hf_mul): &mut GroupBuffers) -> Answer<(usize, usize)> {
+    let sides = netbuff::cut(lent(&call.layout), call.group, kinds, hf_mul);
+    answer(sides.map(|sides| (sides.wide, sides.high)))
+}
+
+pub fn alike(call: &AlikeCall) -> Outcome<bool, ()> {
+    plain(netbuff::alike(lent(&call.left), lent(&call.right)))
+}
+
+fn lent(layout: &calls::Layout) -> netbuff::Layout<'_> {
+    netbuff::Layout {
+        wide: layout.wide,
+        high: layout.high,
+        kinds: &layout.kinds,
+        hf_mul: &layout.hf_mul,
+    }
+}
+
+/// A record that holds something, so that zeros beside a refusal show.
+pub const USED_RECORD: BlockContexts = BlockContexts {
+    num_block_clusters: 77,
+    lengths: [9; 4],
+    lf_thresholds: [-7; 45],
+    qf_thresholds: [7; 15],
+    block_ctx_map: [0xA5; 2496],
+};
+
+pub fn contexts(call: &ContextsCall) -> Outcome<usize, Contexts> {
+    let mut record = USED_RECORD;
+    let read = contexts_into(call, &mut record);
+    Outcome {
+        answer: read,
+        buffers: Contexts {
+            count: record.num_block_clusters,
+            lengths: record.lengths,
+            lf: record.lf_thresholds,
+            qf: record.qf_thresholds,
+            map: record.block_ctx_map,
+        },
+    }
+}
+
+/// The context call into a record of the wrapper.
+pub fn contexts_into(call: &ContextsCall, record: &mut BlockContexts) -> Answer<usize> {
+    answer(netbuff::block_context(
+        &call.bytes,
+        call.count,
+        &call.map,
+        record,
+    ))
+}
+
+pub fn order(call: &OrderCall) -> Outcome<Store, ()> {
+    plain(Ok(
+        netbuff::order(&call.store, call.order, call.channel).to_vec()
+    ))
+}
+
+pub fn places_fit(store: &Store) -> Outcome<bool, ()> {
+    plain(Ok(netbuff::places_fit(store)))
+}
+
+pub fn coefficients(call: &CoefficientsCall) -> Outcome<usize, CoefficientBuffers> {
+    let mut buffers = call.buffers.clone();
+    Outcome {
+        answer: coefficients_into(call, &mut buffers),
+        buffers,
+    }
+}
+
+/// The coefficient call on other buffers than its own.
+pub fn coefficients_into(
+    call: &CoefficientsCall,
+    buffers: &mut CoefficientBuffers,
+) -> Answer<usize> {
+    let contexts = BlockContexts {
+        num_block_clusters: call.contexts.count,
+        lengths: call.contexts.lengths,
+        lf_thresholds: call.contexts.lf,
+        qf_thresholds: call.contexts.qf,
+        block_ctx_map: call.contexts.map,
+    };
+    let lf = call.lf.as_ref();
+    let input = CoefficientInput {
+        group: lent(&call.group),
+        contexts: &contexts,
+        lf: lf.map(|grids| grids.each_ref().map(Vec::as_slice)),
+        store: &call.store,
+        presets: call.presets,
+        cluster_map: &call.cluster_map,
+        shift: call.shift,
+        bytes: &call.bytes,
+        symbols: &call.symbols,
+    };
+    let output = CoefficientOutput {
+        grids: buffers.grids.each_mut().map(Vec::as_mut_slice),
+        log: &mut buffers.log,
+    };
+    answer(netbuff::coefficients(input, output))
+}

@@ -1,0 +1,64 @@
+-- A context record as it is lent and handed back: lists in arrays, with their lengths (document 01, Block contexts).
+use mathlib.Core.Bool.{Bool, _&&_}
+use mathlib.Core.List.{List}
+use Prim.Native.Nat.{ℕ, min, _+_, _*_}
+use lib.Dec.{leb, ltb}
+use lib.ListN.{getD, take, drop}
+use Rattle.laws.specs.Tables.{every}
+use Rattle.block_context.specs.declared.HfBlockContext.{HfBlockContext}
+use Rattle.block_context.specs.Contexts.{Contexts}
+
+-- the LF list of channel c, of n thresholds: the first of its 15 places
+abbrev pub lfList : List ℕ → ℕ → ℕ → List ℕ
+lfList lf c n = take n (take 15 (drop (15 * c) lf))
+
+-- lengths: of the LF lists of channels 0, 1, 2, then of the qf list
+abbrev pub lists : ℕ → List ℕ → List ℕ → List ℕ → List ℕ → Contexts
+lists clusters lengths lf qf map =
+    record {
+      clusters = clusters;
+      lf0 = lfList lf 0 (getD lengths 0 0);
+      lf1 = lfList lf 1 (getD lengths 1 0);
+      lf2 = lfList lf 2 (getD lengths 2 0);
+      qf = take (getD lengths 3 0) qf;
+      map = map;
+    }
+
+-- what a record says
+abbrev pub used : HfBlockContext → Contexts
+used R = lists (R .«num_block_clusters») (R .lengths) (R .«lf_thresholds») (R .«qf_thresholds») (R .«block_ctx_map»)
+
+unfoldable pub bsizeOf : List ℕ → ℕ
+bsizeOf lengths =
+    (getD lengths 0 0 + 1) * (getD lengths 1 0 + 1) * (getD lengths 2 0 + 1) * (getD lengths 3 0 + 1)
+
+-- a length above 15 counting as 15
+unfoldable pub cappedBsize : List ℕ → ℕ
+cappedBsize lengths =
+    (min (getD lengths 0 0) 15 + 1)
+    * (min (getD lengths 1 0) 15 + 1)
+    * (min (getD lengths 2 0) 15 + 1)
+    * (min (getD lengths 3 0) 15 + 1)
+
+-- a qf value: 1 to 300
+abbrev pub qfFit : ℕ → Bool
+qfFit v = leb 1 v && leb v 300
+
+abbrev pub bytesBelow : ℕ → List ℕ → Bool
+bytesBelow clusters = every (λ (b : ℕ). ltb b clusters)
+
+-- Not refused with 12. Places behind a list's length, and map bytes from 39 × bsize on, are not looked at.
+unfoldable pub fitOf : ℕ → List ℕ → List ℕ → List ℕ → Bool
+fitOf clusters lengths qf map =
+    leb (getD lengths 0 0) 15
+    && leb (getD lengths 1 0) 15
+    && leb (getD lengths 2 0) 15
+    && leb (getD lengths 3 0) 15
+    && leb (bsizeOf lengths) 64
+    && leb 1 clusters
+    && leb clusters 16
+    && every qfFit (take (getD lengths 3 0) qf)
+    && bytesBelow clusters (take (39 * bsizeOf lengths) map)
+
+abbrev pub fit : HfBlockContext → Bool
+fit R = fitOf (R .«num_block_clusters») (R .lengths) (R .«qf_thresholds») (R .«block_ctx_map»)

@@ -1,0 +1,124 @@
+// The limits of a context record.
+use super::HfBlockContext;
+use super::sizes::lf_size;
+use super::sizes::used;
+ghost use mathlib.Core.Path.{_≡_};
+ghost use Prim.Native.Nat.{max, _≤_};
+ghost use lib.ListN.{take};
+ghost use Rattle.laws.specs.Tables.{every};
+ghost use Rattle.block_context.specs.Largest.{largestFrom};
+ghost use Rattle.block_context.specs.Record.{cappedBsize, qfFit, bytesBelow, fit};
+
+fn wide(x: u8) -> u32
+    ensures { λ r. ⌜ r ≡ x ⌝ }
+{
+    x as u32
+}
+
+fn larger(a: u8, b: u8) -> u8
+    ensures { λ r. ⌜ r ≡ max a b ⌝ }
+{
+    if a < b {
+        return b;
+    }
+    a
+}
+
+fn largest(map: &[u8]) -> u8
+    ensures { λ r. ⌜ r ≡ largestFrom 0 (now (map .entry)) ⌝ }
+{
+    let mut found = 0;
+    let mut k = 0;
+    while k < map.len() {
+        found = larger(found, map[k]);
+        k += 1;
+    }
+    found
+}
+
+// Every byte is below the count: none is, or the largest. (No way out of the loop: it runs many
+// bytes at a time.)
+pub fn all_below(map: &[u8], count: u32) -> bool
+    ensures { λ r. ⌜ r ≡ bytesBelow count (now (map .entry)) ⌝ }
+{
+    if map.len() == 0 {
+        return true;
+    }
+    wide(largest(map)) < count
+}
+
+// Every value is 1 to 300.
+fn all_qf(values: &[u32]) -> bool
+    ensures { λ r. ⌜ r ≡ every qfFit (now (values .entry)) ⌝ }
+{
+    let mut k = 0;
+    while k < values.len() {
+        if values[k] < 1 {
+            return false;
+        }
+        if 300 < values[k] {
+            return false;
+        }
+        k += 1;
+    }
+    true
+}
+
+fn qf_fit(qf_thresholds: &[u32; 15], n: usize) -> bool
+    requires { ⌜ n ≤ 15 ⌝ }
+    ensures { λ r. ⌜ r ≡ every qfFit (take n (now («qf_thresholds» .entry))) ⌝ }
+{
+    let values = &qf_thresholds[..];
+    all_qf(&values[..n])
+}
+
+fn map_fit(block_ctx_map: &[u8; 2496], n: usize, count: u32) -> bool
+    requires { ⌜ n ≤ 2496 ⌝ }
+    ensures { λ r. ⌜ r ≡ bytesBelow count (take n (now («block_ctx_map» .entry))) ⌝ }
+{
+    let map = &block_ctx_map[..];
+    all_below(&map[..n], count)
+}
+
+// The product of the four (length + 1), a length above 15 counting as 15.
+pub fn bsize(lengths: [u32; 4]) -> usize
+    ensures { λ r. ⌜ r ≡ cappedBsize lengths ⌝ }
+{
+    let qfs = used(lengths[3]) + 1;
+    lf_size(lengths) * qfs
+}
+
+// A lent record is not refused with 12.
+pub fn is_fit(ctx: HfBlockContext) -> bool
+    ensures { λ r. ⌜ r ≡ fit ctx ⌝ }
+{
+    let lengths = ctx.lengths;
+    if 15 < lengths[0] {
+        return false;
+    }
+    if 15 < lengths[1] {
+        return false;
+    }
+    if 15 < lengths[2] {
+        return false;
+    }
+    if 15 < lengths[3] {
+        return false;
+    }
+    let size = bsize(lengths);
+    if 64 < size {
+        return false;
+    }
+    let clusters = ctx.num_block_clusters;
+    if clusters < 1 {
+        return false;
+    }
+    if 16 < clusters {
+        return false;
+    }
+    let n = lengths[3] as usize;
+    if !qf_fit(&ctx.qf_thresholds, n) {
+        return false;
+    }
+    map_fit(&ctx.block_ctx_map, 39 * size, clusters)
+}

@@ -1,0 +1,24 @@
+use Rattle.block_record.specs.Laws.{area}
+use borrow.Author.Needs.{needs}
+use native.Mathlib.Omega.{arith}
+use Rattle.block_record.proofs.cut.has_group.Statement.{statement}
+use Rattle.block_record.proofs.cut.has_group.Tie as tie
+
+groups-along-requires : tie.Need-groups-along-requires
+groups-along-requires c κs = search needs
+
+groups-along-requires-2 : tie.Need-groups-along-requires-2
+groups-along-requires-2 c κs = search needs
+
+mul-result : tie.Need-mul-result
+mul-result c =
+    let a = c .before .groups-along .ensures in
+    let b = c .groups-along2 .ensures in
+    omega (arith, area (c .groups-along2 .result) (c .before .groups-along .result) (omega arith) (omega arith))
+
+returns : tie.Need-returns
+returns c = rw (c .before .groups-along .ensures, c .groups-along2 .ensures)
+
+pub has-group-spec : {M : Type 1} → statement M
+has-group-spec =
+    tie.close (tie.spec groups-along-requires groups-along-requires-2 mul-result returns)

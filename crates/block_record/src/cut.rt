@@ -1,0 +1,177 @@
+// The cut of a lent layout into pass groups, counted row by row from 0.
+use crate::Checked;
+use crate::Group;
+use crate::check::in_limits;
+use crate::check::is_layout;
+use crate::check::lengths_fit;
+use refusal::Refusal;
+ghost use mathlib.Core.Path.{_≡_};
+ghost use mathlib.Core.Bool.{true};
+ghost use Prim.Native.Nat.{_+_, _*_, _≤_, _<_};
+ghost use lib.ListN.{length};
+ghost use Rattle.layout.specs.Grid.{at, gridOf};
+ghost use Rattle.layout.specs.Cut.{groups, groupX, groupY, hasGroup, side, groupWide, groupHigh};
+ghost use Rattle.block_record.specs.Calls.{saidCheck, saidCut, group, outcome, inLimits, cutCheck, cutOf};
+
+// What the cut answers: the sides of the group.
+pub enum CutAnswer {
+    Accepted(Group),
+    Refused(Refusal),
+}
+
+// Groups along a side of n blocks.
+fn groups_along(n: usize) -> usize
+    requires { ⌜ n ≤ 256 ⌝ }
+    ensures { λ r. ⌜ r ≡ groups n ⌝ }
+{
+    (n + 31) / 32
+}
+
+// The layout has a group of this index.
+fn has_group(bw: usize, bh: usize, index: usize) -> bool
+    requires { ⌜ (bw ≤ 256) × (bh ≤ 256) ⌝ }
+    ensures { λ r. ⌜ r ≡ hasGroup bw bh index ⌝ }
+{
+    let down = groups_along(bh);
+    let across = groups_along(bw);
+    index < down * across
+}
+
+// Column of a group among the groups.
+fn group_x(bw: usize, index: usize) -> usize
+    requires { ⌜ (1 ≤ bw) × (bw ≤ 256) ⌝ }
+    ensures { λ r. ⌜ r ≡ groupX bw index ⌝ }
+{
+    let across = groups_along(bw);
+    index % across
+}
+
+// Row of a group among the groups.
+fn group_y(bw: usize, index: usize) -> usize
+    requires { ⌜ (1 ≤ bw) × (bw ≤ 256) ⌝ }
+    ensures { λ r. ⌜ r ≡ groupY bw index ⌝ }
+{
+    let across = groups_along(bw);
+    index / across
+}
+
+// Blocks of the q-th group along a side of n blocks.
+fn blocks_along(n: usize, q: usize) -> usize
+    requires { ⌜ (32 * q ≤ n) × (n ≤ 256) ⌝ }
+    ensures { λ r. ⌜ r ≡ side n q ⌝ }
+{
+    let left = n - 32 * q;
+    if left < 32 {
+        return left;
+    }
+    32
+}
+
+// The sides of a group that the layout has.
+fn sides_of(bw: usize, bh: usize, index: usize) -> Group
+    requires { ⌜ (inLimits 256 bw bh ≡ true) × (hasGroup bw bh index ≡ true) ⌝ }
+    ensures { λ r. ⌜ r ≡ group (groupWide bw index) (groupHigh bw bh index) ⌝ }
+{
+    let gx = group_x(bw, index);
+    let gy = group_y(bw, index);
+    let wide = blocks_along(bw, gx);
+    let high = blocks_along(bh, gy);
+    Group { wide, high }
+}
+
+// What comes before the cut: sides and index (2), lengths (1), 18.
+fn cut_check(
+    bw: usize,
+    bh: usize,
+    kinds: &[u8],
+    muls: &[u32],
+    index: usize,
+    out_kinds: usize,
+    out_muls: usize,
+) -> Checked
+    ensures { λ r. ⌜ saidCheck r ≡ cutCheck bw bh (now (kinds .entry)) (now (muls .entry)) index «out_kinds» «out_muls» ⌝ }
+{
+    if !in_limits(256, bw, bh) {
+        return Checked::Refused(Refusal::Size);
+    }
+    if !has_group(bw, bh, index) {
+        return Checked::Refused(Refusal::Size);
+    }
+    if !lengths_fit(bw, bh, kinds.len(), muls.len()) {
+        return Checked::Refused(Refusal::Length);
+    }
+    let group = sides_of(bw, bh, index);
+    if !lengths_fit(group.wide, group.high, out_kinds, out_muls) {
+        return Checked::Refused(Refusal::Length);
+    }
+    if !is_layout(bw, bh, kinds, muls) {
+        return Checked::Refused(Refusal::Layout);
+    }
+    Checked::Fine
+}
+
+// The wide x high cells from (left, top) on are copied.
+fn copy_cells(
+    bw: usize,
+    kinds: &[u8],
+    muls: &[u32],
+    left: usize,
+    top: usize,
+    wide: usize,
+    high: usize,
+    out_kinds: &mut [u8],
+    out_muls: &mut [u32],
+)
+    requires { ⌜ (left + wide ≤ bw) × (top + high ≤ 256) × ((top + high) * bw ≤ length (now kinds)) × (length (now muls) ≡ length (now kinds)) × (length (now «out_kinds») ≡ high * wide) × (length (now «out_muls») ≡ high * wide) ⌝ }
+    ensures { λ r. ⌜ (now («out_kinds» .exit) ≡ gridOf (λ x y. at (now (kinds .entry)) bw (left + x) (top + y)) wide high) × (now («out_muls» .exit) ≡ gridOf (λ x y. at (now (muls .entry)) bw (left + x) (top + y)) wide high) ⌝ }
+{
+    let mut y = 0;
+    while y < high {
+        let mut x = 0;
+        while x < wide {
+            let i = (top + y) * bw + (left + x);
+            let j = y * wide + x;
+            out_kinds[j] = kinds[i];
+            out_muls[j] = muls[i];
+            x += 1;
+        }
+        y += 1;
+    }
+}
+
+// Group `index` of a lent layout: its sides, its kinds and hf_mul into buffers of exactly its cells. A refusal writes nothing.
+pub fn cut(
+    bw: usize,
+    bh: usize,
+    kinds: &[u8],
+    muls: &[u32],
+    index: usize,
+    out_kinds: &mut [u8],
+    out_muls: &mut [u32],
+) -> CutAnswer
+    ensures { λ r. ⌜ outcome (saidCut r) (now («out_kinds» .exit)) (now («out_muls» .exit)) ≡ cutOf bw bh (now (kinds .entry)) (now (muls .entry)) index (now («out_kinds» .entry)) (now («out_muls» .entry)) ⌝ }
+{
+    let checked = cut_check(bw, bh, kinds, muls, index, out_kinds.len(), out_muls.len());
+    match checked {
+        Checked::Refused(r) => CutAnswer::Refused(r),
+        Checked::Fine => {
+            let gx = group_x(bw, index);
+            let gy = group_y(bw, index);
+            let group = sides_of(bw, bh, index);
+            let wide = group.wide;
+            let high = group.high;
+            copy_cells(
+                bw,
+                kinds,
+                muls,
+                32 * gx,
+                32 * gy,
+                wide,
+                high,
+                out_kinds,
+                out_muls,
+            );
+            CutAnswer::Accepted(group)
+        }
+    }
+}

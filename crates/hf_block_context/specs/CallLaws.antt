@@ -1,0 +1,159 @@
+-- The ways out of the context call.
+use mathlib.Core.Path.{_≡_, refl, ap, sym, _∙_}
+use mathlib.Core.Bool.{true, false}
+use mathlib.Core.List.{List, [], _∷_, _++_}
+use Prim.Native.Nat.{ℕ, _+_, _*_, _%_, _≤_, _<_}
+use native.Mathlib.Omega.{arith}
+use lib.ListN.{length}
+use borrow.Author.Tests.{le-leb, lt-leb, eq-eqb, ne-eqb}
+use Rattle.refusal.specs.declared.Refusal.the-variants.{Length, BitsEnd, Context}
+use Rattle.bits.specs.declared.Place.{Place}
+use Rattle.bits.specs.Bits.{Read, Value, Ended, readBits}
+use Rattle.bits.specs.Numbers.{Bytes}
+use Rattle.bits.specs.Reads.{passed, placeAt}
+use Rattle.bits.specs.Laws.{passed-at}
+use Rattle.block_context.specs.declared.HfBlockContext.{HfBlockContext}
+use Rattle.block_context.specs.Record.{bsizeOf, bytesBelow}
+use Rattle.hf_block_context.specs.declared.ContextResult.{ContextResult}
+use Rattle.hf_block_context.specs.declared.thresholds.ListStep.the-variants as listStep
+use Rattle.hf_block_context.specs.declared.thresholds.Thresholds.{Thresholds}
+use Rattle.hf_block_context.specs.Reading.{Reading, Is, Short, reading, Lists, listsOf, lfValue, qfValue, readList, readLists}
+use Rattle.hf_block_context.specs.Call.{pad, recordOf, stored, accepted, refused, judged, judgedLists, orEnded, noLists, DEFAULT-MAP, parsed}
+use Rattle.hf_block_context.specs.Steps.{thresholdsOf}
+use Rattle.hf_block_context.specs.ListLaws.{list-near}
+
+-- The tests behind the bits.
+module _ (count : ℕ) (map lengths : List ℕ) (R : HfBlockContext) (at : ℕ) where
+  pub judged-size : 64 < bsizeOf lengths → refused Context ≡ judged count map lengths R at
+  unfolding judged
+  judged-size h = rw (lt-leb (bsizeOf lengths) 64 h)
+
+  module _ (s : bsizeOf lengths ≤ 64) where
+    pub judged-length : (length map ≡ 39 * bsizeOf lengths → ⊥) → refused Length ≡ judged count map lengths R at
+    unfolding judged
+    judged-length h = rw (le-leb (bsizeOf lengths) 64 s, ne-eqb (length map) (39 * bsizeOf lengths) h)
+
+    module _ (l : length map ≡ 39 * bsizeOf lengths) where
+      pub judged-none : count < 1 → refused Context ≡ judged count map lengths R at
+      unfolding judged
+      judged-none h = rw (le-leb (bsizeOf lengths) 64 s, eq-eqb (length map) (39 * bsizeOf lengths) l, lt-leb 1 count h)
+
+      module _ (m : 1 ≤ count) where
+        pub judged-many : 16 < count → refused Context ≡ judged count map lengths R at
+        unfolding judged
+        judged-many h =
+            rw (le-leb (bsizeOf lengths) 64 s, eq-eqb (length map) (39 * bsizeOf lengths) l, le-leb 1 count m, lt-leb count 16 h)
+
+        module _ (f : count ≤ 16) where
+          pub judged-bytes : bytesBelow count map ≡ false → refused Context ≡ judged count map lengths R at
+          unfolding judged
+          judged-bytes e =
+              rw
+              (le-leb (bsizeOf lengths) 64 s, eq-eqb (length map) (39 * bsizeOf lengths) l, le-leb 1 count m, le-leb count 16 f, e)
+
+          pub judged-fit : bytesBelow count map ≡ true → accepted at R ≡ judged count map lengths R at
+          unfolding judged
+          judged-fit e =
+              rw
+              (le-leb (bsizeOf lengths) 64 s, eq-eqb (length map) (39 * bsizeOf lengths) l, le-leb 1 count m, le-leb count 16 f, e)
+
+-- What a list's thresholds say of the reading.
+pub record WasList (s : List ℕ) (value : ℕ → Read) (p : ℕ) (t : Thresholds) (n : ℕ) (q : Place) : Type 0 where
+  pub vs : List ℕ
+  pub at : ℕ
+  pub is : readList s value p ≡ Is vs at
+  pub count : length vs ≡ n
+  pub values : t .values ≡ pad 15 vs
+  pub place : passed q ≡ at
+  pub bit : q .bit < 8
+  pub few : n ≤ 15
+  pub near : at ≤ p + 514
+
+listed : (r : Reading (List ℕ)) (t : Thresholds) (n : ℕ) (q : Place) → t ≡ thresholdsOf r → t .step ≡ listStep.Listed n q
+    → (s : List ℕ) (value : ℕ → Read) (p : ℕ) → readList s value p ≡ r
+    → ((vs : List ℕ) (at : ℕ) → r ≡ Is vs at → (length vs ≤ 15) × (at ≤ p + 514)) → WasList s value p t n q
+listed (Short at) t n q e f s value p i near = absurd (let z : _≡_ {A = ℕ} 0 1 = cc (ap (λ (x : Thresholds). x .step) e) in omega arith)
+listed (Is vs at) t n q e f s value p i near =
+    let g : listStep.Listed (length vs) (placeAt at) ≡ listStep.Listed n q = sym (ap (λ (x : Thresholds). x .step) e) ∙ f in
+    let a : length vs ≡ n = cc in
+    let b : placeAt at ≡ q = cc in
+    let k = near vs at refl in
+    let c : q .bit ≡ at % 8 = ap (λ (x : Place). x .bit) (sym b) in
+    record {
+      vs = vs;
+      at = at;
+      is = i;
+      count = a;
+      values = ap (λ (x : Thresholds). x .values) e;
+      place = ap passed (sym b) ∙ passed-at at;
+      bit = omega (arith, c);
+      few = omega (arith, k .0);
+      near = k .1;
+    }
+
+module _ (s : List ℕ) (value : ℕ → Read) (p : ℕ) where
+  pub was-list : (near : (p v at : ℕ) → value p ≡ Value v at → at ≤ p + 34) → Bytes s → (t : Thresholds) (n : ℕ) (q : Place)
+      → t ≡ thresholdsOf (readList s value p) → t .step ≡ listStep.Listed n q → WasList s value p t n q
+  was-list near h t n q e f = listed (readList s value p) t n q e f s value p refl (λ vs at i. list-near value near s h p vs at i)
+
+  pub was-short : (t : Thresholds) (at : ℕ) → t ≡ thresholdsOf (readList s value p) → t .step ≡ listStep.End at → readList s value p ≡ Short at
+  was-short t at e f = go (readList s value p) (sym (ap (λ (x : Thresholds). x .step) e) ∙ f)
+    where
+      go : (r : Reading (List ℕ)) → thresholdsOf r .step ≡ listStep.End at → r ≡ Short at
+      go (Is vs q) g = absurd (let z : _≡_ {A = ℕ} 0 1 = cc in omega arith)
+      go (Short q) g = let a : q ≡ at = cc in ap (λ (x : ℕ). Short x) a
+
+-- The four lists one after the other.
+module _ (s : List ℕ) (p : ℕ) where
+  pub short0 : (at : ℕ) → readList s (lfValue s) p ≡ Short at → readLists s p ≡ Short at
+  unfolding readLists
+  short0 at e = rw e
+
+  module _ (a : List ℕ) (at0 : ℕ) (e0 : readList s (lfValue s) p ≡ Is a at0) where
+    pub short1 : (at : ℕ) → readList s (lfValue s) at0 ≡ Short at → readLists s p ≡ Short at
+    unfolding readLists
+    short1 at e = rw (e0, e)
+
+    module _ (b : List ℕ) (at1 : ℕ) (e1 : readList s (lfValue s) at0 ≡ Is b at1) where
+      pub short2 : (at : ℕ) → readList s (lfValue s) at1 ≡ Short at → readLists s p ≡ Short at
+      unfolding readLists
+      short2 at e = rw (e0, e1, e)
+
+      module _ (c : List ℕ) (at2 : ℕ) (e2 : readList s (lfValue s) at1 ≡ Is c at2) where
+        pub short3 : (at : ℕ) → readList s (qfValue s) at2 ≡ Short at → readLists s p ≡ Short at
+        unfolding readLists
+        short3 at e = rw (e0, e1, e2, e)
+
+        pub whole : (d : List ℕ) (at3 : ℕ) → readList s (qfValue s) at2 ≡ Is d at3 → readLists s p ≡ Is (listsOf a b c d) at3
+        unfolding readLists
+        whole d at3 e = rw (e0, e1, e2, e)
+
+-- the arrays of the lists make the record of the lists
+pub judged-arrays : (count : ℕ) (map a b c d v0 v1 v2 v3 lf : List ℕ) (n0 n1 n2 n3 at t : ℕ)
+    → length a ≡ n0 → length b ≡ n1 → length c ≡ n2 → length d ≡ n3
+    → v0 ≡ pad 15 a → v1 ≡ pad 15 b → v2 ≡ pad 15 c → v3 ≡ pad 15 d → lf ≡ v0 ++ (v1 ++ v2) → t ≡ at
+    → judged count map (n0 ∷ n1 ∷ n2 ∷ n3 ∷ []) (recordOf count (n0 ∷ n1 ∷ n2 ∷ n3 ∷ []) lf v3 (pad 2496 map)) t ≡ judgedLists count map (listsOf a b c d) at
+unfolding stored
+judged-arrays count map a b c d v0 v1 v2 v3 lf n0 n1 n2 n3 at t h0 h1 h2 h3 e0 e1 e2 e3 f g =
+    rw (← h0, ← h1, ← h2, ← h3, f, e0, e1, e2, e3, g)
+
+pub or-ended : (r : Reading Lists) (k : Lists → ℕ → ContextResult) (at : ℕ) → r ≡ Short at → refused (BitsEnd at) ≡ orEnded r k
+or-ended r k at e = rw e
+
+pub or-judged : (r : Reading Lists) (k : Lists → ℕ → ContextResult) (l : Lists) (at : ℕ) → r ≡ Is l at → k l at ≡ orEnded r k
+or-judged r k l at e = rw e
+
+-- The first bit.
+module _ (s : List ℕ) (count : ℕ) (map : List ℕ) where
+  pub parsed-ended : (at : ℕ) → readBits s 0 1 ≡ Ended at → refused (BitsEnd at) ≡ parsed s count map
+  unfolding parsed
+  parsed-ended at e = rw e
+
+  module _ (v at : ℕ) (e : readBits s 0 1 ≡ Value v at) where
+    pub parsed-default : v ≡ 1 → accepted at (stored 15 noLists DEFAULT-MAP) ≡ parsed s count map
+    unfolding parsed
+    parsed-default h = rw (e, eq-eqb v 1 h)
+
+    pub parsed-lists : (v ≡ 1 → ⊥) → orEnded (readLists s at) (judgedLists count map) ≡ parsed s count map
+    unfolding parsed
+    parsed-lists h = rw (e, ne-eqb v 1 h)

@@ -1,0 +1,95 @@
+// The context call (`HfBlockContext::parse` of `lf.rs`).
+mod judge;
+mod record;
+mod thresholds;
+
+use bits::Place;
+use block_context::HfBlockContext;
+use judge::default_contexts;
+use judge::judge;
+use judge::refuse;
+use record::joined;
+use refusal::Refusal;
+use thresholds::Kind;
+use thresholds::ListStep;
+use thresholds::Step;
+use thresholds::field;
+use thresholds::read_list;
+ghost use mathlib.Core.Path.{_≡_};
+ghost use Prim.Native.Nat.{_≤_, _<_};
+ghost use Rattle.bits.specs.Reads.{passed};
+ghost use Rattle.hf_block_context.specs.Reading.{readLists};
+ghost use Rattle.hf_block_context.specs.Call.{judgedLists, orEnded, parsed};
+
+// Accepted: the bits read.
+pub enum ContextAnswer {
+    Accepted(usize),
+    Refused(Refusal),
+}
+
+// The record is all zero beside a refusal.
+pub struct ContextResult {
+    pub answer: ContextAnswer,
+    pub contexts: HfBlockContext,
+}
+
+// First bit 0: three LF lists, then one qf list.
+fn by_lists<'a>(bytes: &'a [u8], p: Place, num_clusters: u32, map: &'a [u8]) -> ContextResult
+    requires { ⌜ (p .bit < 8) × (passed p ≤ 16) ⌝ }
+    ensures { λ r. ⌜ r ≡ orEnded (readLists (now (bytes .entry)) (passed p)) (judgedLists «num_clusters» (now (map .entry))) ⌝ }
+{
+    let lf0 = read_list(bytes, p, Kind::Lf);
+    let step0 = lf0.step;
+    match step0 {
+        ListStep::End(at) => refuse(Refusal::BitsEnd(at)),
+        ListStep::Listed(n0, p0) => {
+            let lf1 = read_list(bytes, p0, Kind::Lf);
+            let step1 = lf1.step;
+            match step1 {
+                ListStep::End(at) => refuse(Refusal::BitsEnd(at)),
+                ListStep::Listed(n1, p1) => {
+                    let lf2 = read_list(bytes, p1, Kind::Lf);
+                    let step2 = lf2.step;
+                    match step2 {
+                        ListStep::End(at) => refuse(Refusal::BitsEnd(at)),
+                        ListStep::Listed(n2, p2) => {
+                            let qf = read_list(bytes, p2, Kind::Qf);
+                            let step3 = qf.step;
+                            match step3 {
+                                ListStep::End(at) => refuse(Refusal::BitsEnd(at)),
+                                ListStep::Listed(n3, p3) => {
+                                    let lf = joined(&lf0.values, &lf1.values, &lf2.values);
+                                    let values = qf.values;
+                                    judge(
+                                        num_clusters,
+                                        map,
+                                        [n0, n1, n2, n3],
+                                        lf,
+                                        values,
+                                        p3.bits_read(),
+                                    )
+                                }
+                            }
+                        }
+                    }
+                }
+            }
+        }
+    }
+}
+
+// First bit 1: the lent count and map are not looked at.
+pub fn parse<'a>(bytes: &'a [u8], num_clusters: u32, map: &'a [u8]) -> ContextResult
+    ensures { λ r. ⌜ r ≡ parsed (now (bytes .entry)) «num_clusters» (now (map .entry)) ⌝ }
+{
+    let first = field(bytes, Place::start(), 1);
+    match first {
+        Step::End(at) => refuse(Refusal::BitsEnd(at)),
+        Step::Value(bit, next) => {
+            if bit == 1 {
+                return default_contexts(next.bits_read());
+            }
+            by_lists(bytes, next, num_clusters, map)
+        }
+    }
+}

@@ -1,0 +1,157 @@
+-- The coefficient call (document 01, Coefficients and Refused).
+use mathlib.Core.Bool.{Bool, true, false, cond, _&&_, not}
+use mathlib.Core.List.{List, [], _∷_}
+use Prim.Native.Nat.{ℕ, _+_, _*_}
+use lib.Dec.{ltb, leb, eqb}
+use lib.ListN.{length, getD, take, drop, replicate}
+use Rattle.refusal.specs.declared.Refusal.{Refusal}
+use Rattle.refusal.specs.declared.Refusal.the-variants.{Size, Parameter, Context, Length, Layout, StoredPlace, BitsEnd, Preset}
+use Rattle.bits.specs.Bits.{Read, Value, Ended, readBits}
+use Rattle.bits.specs.Exponent.{exponent}
+use Rattle.layout.specs.Check.{isLayout}
+use Rattle.block_record.specs.Calls.{inLimits}
+use Rattle.hf_pass_store.specs.Store.{PLACES, placesFit}
+use Rattle.block_context.specs.declared.HfBlockContext.{HfBlockContext}
+use Rattle.block_context.specs.Record.{fit}
+use Rattle.hf_coeff.specs.declared.CoeffAnswer.{CoeffAnswer}
+use Rattle.hf_coeff.specs.declared.CoeffAnswer.the-variants.{Accepted, Refused}
+use Rattle.hf_coeff_group.specs.Pass.{Pass, varblocks}
+use Rattle.hf_coeff_group.specs.Group.{Grids, Reading, going, refused, group, leftOf}
+
+-- what is lent
+pub record Lent : Type 0 where
+  pub pass : Pass
+  pub presets : ℕ
+  pub clusterMap : List ℕ
+  pub shift : ℕ
+  -- the bytes of the preset number
+  pub bytes : List ℕ
+  pub symbols : List ℕ
+  pub log : List ℕ
+  pub grids : Grids
+
+abbrev pub passWith : (width height : ℕ) (kinds muls : List ℕ) (contexts : HfBlockContext) (lfThere : Bool) (lf0 lf1 lf2 store : List ℕ) → Pass
+passWith width height kinds muls contexts lfThere lf0 lf1 lf2 store =
+    record {
+      width = width;
+      height = height;
+      kinds = kinds;
+      muls = muls;
+      contexts = contexts;
+      lfThere = lfThere;
+      lf0 = lf0;
+      lf1 = lf1;
+      lf2 = lf2;
+      store = store;
+    }
+
+abbrev pub lent : Pass → (presets : ℕ) (clusterMap : List ℕ) (shift : ℕ) (bytes symbols log g0 g1 g2 : List ℕ) → Lent
+lent pass presets clusterMap shift bytes symbols log g0 g1 g2 =
+    record {
+      pass = pass;
+      presets = presets;
+      clusterMap = clusterMap;
+      shift = shift;
+      bytes = bytes;
+      symbols = symbols;
+      log = log;
+      grids = g0 ∷ g1 ∷ g2 ∷ [];
+    }
+
+-- the answer, and what is left in the log and in the grids
+pub record Outcome : Type 0 where
+  pub answer : CoeffAnswer
+  pub log : List ℕ
+  pub grids : Grids
+
+abbrev pub leaves : CoeffAnswer → (log g0 g1 g2 : List ℕ) → Outcome
+leaves r log g0 g1 g2 = record { answer = r; log = log; grids = g0 ∷ g1 ∷ g2 ∷ [] }
+
+abbrev pub blocks : Pass → ℕ
+blocks P = P .height * P .width
+
+abbrev pub clustersOf : Pass → ℕ
+clustersOf P = P .contexts .«num_block_clusters»
+
+-- Checks before work.
+abbrev pub sidesFit : Pass → Bool
+sidesFit P = inLimits 32 (P .width) (P .height)
+
+abbrev pub parametersFit : ℕ → ℕ → Bool
+parametersFit shift presets = leb shift 3 && leb presets 256
+
+-- the LF grids, if there are any
+abbrev pub lfFits : Pass → Bool
+lfFits P = eqb (length (P .lf0)) (blocks P) && eqb (length (P .lf1)) (blocks P) && eqb (length (P .lf2)) (blocks P)
+
+abbrev pub passFits : Pass → Bool
+passFits P =
+    eqb (length (P .kinds)) (blocks P)
+    && eqb (length (P .muls)) (blocks P)
+    && cond (P .lfThere) (lfFits P) true
+    && eqb (length (P .store)) (2 * PLACES)
+
+abbrev pub gridsFit : Pass → Grids → Bool
+gridsFit P G =
+    eqb (length (getD G 0 [])) (64 * blocks P)
+    && eqb (length (getD G 1 [])) (64 * blocks P)
+    && eqb (length (getD G 2 [])) (64 * blocks P)
+
+abbrev pub lengthsFit : Lent → Bool
+lengthsFit L =
+    passFits (L .pass)
+    && eqb (length (L .clusterMap)) (495 * clustersOf (L .pass) * L .presets)
+    && gridsFit (L .pass) (L .grids)
+    && leb (192 * blocks (L .pass)) (length (L .log))
+
+-- 18: what passes is a layout (crate layout, Theorems, check-iff)
+abbrev pub layoutFits : Pass → Bool
+layoutFits P = isLayout (P .width) (P .height) (P .kinds) (P .muls)
+
+-- The work.
+-- three rows of counts, each as wide as the group
+abbrev pub rowsOf : Pass → Grids
+rowsOf P = replicate (P .width) 0 ∷ replicate (P .width) 0 ∷ replicate (P .width) 0 ∷ []
+
+-- the stretch of a preset in the cluster map
+abbrev pub presetMap : Lent → ℕ → List ℕ
+presetMap L preset = take (495 * clustersOf (L .pass)) (drop (495 * clustersOf (L .pass) * preset) (L .clusterMap))
+
+unfoldable pub reading : Lent → ℕ → Reading
+reading L preset =
+    group (L .shift) (clustersOf (L .pass)) (presetMap L preset) (L .pass) (varblocks (L .pass))
+    (going (L .symbols) 0 (L .log) (L .grids) (rowsOf (L .pass)) 0)
+
+-- symbols read; 15 to 17 keep what was added and logged
+abbrev pub outcome : Reading → Outcome
+outcome (going us at log grids rows left) = record { answer = Accepted at; log = log; grids = grids }
+outcome (refused why at log grids) = record { answer = Refused (why at); log = log; grids = grids }
+
+-- a refusal that writes nothing
+abbrev pub refuse : Lent → Refusal → Outcome
+refuse L why = record { answer = Refused why; log = L .log; grids = L .grids }
+
+abbrev pub readPreset : Lent → Read
+readPreset L = readBits (L .bytes) 0 (exponent (L .presets))
+
+abbrev pub withPreset : Lent → Read → Outcome
+withPreset L (Ended at) = refuse L (BitsEnd at)
+withPreset L (Value preset at) = cond (ltb preset (L .presets)) (outcome (reading L preset)) (refuse L (Preset at))
+
+unfoldable pub call : Lent → Outcome
+call L =
+    cond (not (sidesFit (L .pass))) (refuse L Size)
+    (cond (not (parametersFit (L .shift) (L .presets))) (refuse L Parameter)
+    (cond (not (fit (L .pass .contexts))) (refuse L Context)
+    (cond (not (lengthsFit L)) (refuse L Length)
+    (cond (not (layoutFits (L .pass))) (refuse L Layout)
+    (cond (not (placesFit (L .pass .store))) (refuse L StoredPlace)
+    (withPreset L (readPreset L)))))))
+
+-- counts that were not used up, in all
+abbrev pub leftoverAt : Lent → Read → ℕ
+leftoverAt L (Ended at) = 0
+leftoverAt L (Value preset at) = leftOf (reading L preset)
+
+abbrev pub leftover : Lent → ℕ
+leftover L = leftoverAt L (readPreset L)

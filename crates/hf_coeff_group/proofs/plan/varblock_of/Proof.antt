@@ -1,0 +1,53 @@
+use Rattle.hf_coeff_group.specs.Plans.{varblock-at}
+use borrow.Author.Needs.{needs}
+use mathlib.Core.Path.{_∙_, sym}
+use Prim.Native.Nat.{_-_}
+use Rattle.hf_coeff_group.proofs.plan.varblock_of.Statement.{statement}
+use Rattle.hf_coeff_group.proofs.plan.varblock_of.Tie as tie
+
+sub-from-number : tie.Need-sub-from-number
+sub-from-number c = search needs
+
+cast-from-number : tie.Need-cast-from-number
+cast-from-number c = search needs
+
+from-number-requires : tie.Need-from-number-requires
+from-number-requires c κs = search needs
+
+enum-known-looked : tie.Need-enum-known-looked
+enum-known-looked c = search needs
+
+dct-select-size-requires : tie.Need-dct-select-size-requires
+dct-select-size-requires c κs = search needs
+
+need-transpose-requires : tie.Need-need-transpose-requires
+need-transpose-requires c κs = search needs
+
+log-blocks-requires : tie.Need-log-blocks-requires
+log-blocks-requires c κs = search needs
+
+enum-told : tie.Need-enum-told
+enum-told c = search needs
+
+returns : tie.Need-returns
+returns c =
+    let a = c .before .before .before .before .before .before .before .args in
+    rw (c .log-blocks .ensures, c .before .need-transpose .ensures, c .before .before .dct-select-size .ensures) (varblock-at (a .x) (a .y) (a .kind - 2) _ (sym (c .before .before .before .before .before .before .from-number .ensures) ∙ c .before .before .before .before .looked .given .1))
+
+returns-2 : tie.Need-returns-2
+returns-2 c = let a = c .before .before .before .args in varblock-at (a .x) (a .y) (a .kind - 2) _ (sym (c .before .before .from-number .ensures) ∙ c .enum-told .given .1)
+
+pub varblock-of-spec : {M : Type 1} → statement M
+varblock-of-spec =
+    tie.close
+    (tie.spec
+    sub-from-number
+    cast-from-number
+    from-number-requires
+    enum-known-looked
+    dct-select-size-requires
+    need-transpose-requires
+    log-blocks-requires
+    enum-told
+    returns
+    returns-2)

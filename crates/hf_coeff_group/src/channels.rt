@@ -1,0 +1,265 @@
+// One channel, and the three channels of a varblock.
+use crate::is_stopped;
+use crate::plan::Plan;
+use crate::symbols_read;
+use hf_coeff_walk::Walk;
+use hf_coeff_walk::count::count_over;
+use hf_coeff_walk::count::rewritten;
+use hf_coeff_walk::item::Varblock;
+use hf_coeff_walk::item::read_channel;
+use hf_pass_store::order;
+ghost use mathlib.Core.Path.{_≡_};
+ghost use mathlib.Core.List.{[], _∷_};
+ghost use Prim.Native.Nat.{ℕ, _+_, _*_, _^_, _≤_, _<_};
+ghost use lib.ListN.{length, getD, set, drop};
+ghost use Rattle.hf_coeff_walk.specs.Item.{counted, rowOf};
+ghost use Rattle.hf_coeff_walk.specs.Items.{ItemReady, itemAt};
+ghost use Rattle.hf_coeff_group.specs.Group.{going, item, read};
+ghost use Rattle.hf_coeff_group.specs.Steps.{InGrid, ItemFits, Shown, cut, Rows, rowsBy};
+ghost use Rattle.hf_coeff_group.specs.Plans.{inChannel, itemsBy, PlanReady};
+
+// The walk of channel c, in its grid.
+fn walk_channel<'a>(
+    c: usize,
+    v: Varblock,
+    width: usize,
+    context: usize,
+    clusters: usize,
+    map: &'a [u8],
+    order: &'a [u16],
+    row: [u32; 32],
+    symbols: &'a [u32],
+    at: usize,
+    shift: u32,
+    log: &mut [u8],
+    g0: &mut [u32],
+    g1: &mut [u32],
+    g2: &mut [u32],
+) -> Walk
+    requires { ⌜ (c < 3) × ItemReady v width context clusters (now map) (now order) row (length (now symbols)) at shift (length (now log)) (length (now g0)) × (length (now g1) ≡ length (now g0)) × (length (now g2) ≡ length (now g0)) ⌝ }
+    ensures { λ r. ⌜ InGrid c (now (g0 .entry) ∷ now (g1 .entry) ∷ now (g2 .entry) ∷ []) r (now (log .exit)) (now (g0 .exit) ∷ now (g1 .exit) ∷ now (g2 .exit) ∷ []) (λ g. counted shift clusters (now (map .entry)) (itemAt v width context (now (order .entry))) row (drop at (now (symbols .entry))) at (now (log .entry)) g) ⌝ }
+{
+    if c == 0 {
+        return read_channel(
+            v,
+            width,
+            context,
+            clusters,
+            map,
+            order,
+            row,
+            symbols,
+            at,
+            shift,
+            log,
+            g0,
+        );
+    }
+    if c == 1 {
+        return read_channel(
+            v,
+            width,
+            context,
+            clusters,
+            map,
+            order,
+            row,
+            symbols,
+            at,
+            shift,
+            log,
+            g1,
+        );
+    }
+    read_channel(
+        v,
+        width,
+        context,
+        clusters,
+        map,
+        order,
+        row,
+        symbols,
+        at,
+        shift,
+        log,
+        g2,
+    )
+}
+
+fn wide(x: u32) -> usize
+    ensures { λ r. ⌜ r ≡ x ⌝ }
+{
+    x as usize
+}
+
+// How a channel's walk ended, and its count over the varblock's blocks.
+pub struct ChannelRead {
+    pub walk: Walk,
+    pub count: u32,
+}
+
+// Channel c of a varblock.
+fn read_item<'a>(
+    c: usize,
+    v: Varblock,
+    width: usize,
+    context: usize,
+    clusters: usize,
+    map: &'a [u8],
+    order: &'a [u16],
+    rows: [[u32; 32]; 3],
+    symbols: &'a [u32],
+    at: usize,
+    shift: u32,
+    log: &mut [u8],
+    g0: &mut [u32],
+    g1: &mut [u32],
+    g2: &mut [u32],
+) -> ChannelRead
+    requires { ⌜ ItemFits c v width rows × ItemReady v width context clusters (now map) (now order) (getD rows c []) (length (now symbols)) at shift (length (now log)) (length (now g0)) × (length (now g1) ≡ length (now g0)) × (length (now g2) ≡ length (now g0)) ⌝ }
+    ensures { λ r. ⌜ ((left : ℕ) → Shown width (now (symbols .entry)) (at + 64 * 2 ^ (v .log)) (r .walk) (set rows c (rowOf (getD rows c []) (v .x) (v .wide) (r .count))) (now (log .exit)) (now (g0 .exit) ∷ now (g1 .exit) ∷ now (g2 .exit) ∷ []) (item shift clusters (now (map .entry)) (inChannel c (itemAt v width context (now (order .entry)))) (going (drop at (now (symbols .entry))) at (now (log .entry)) (now (g0 .entry) ∷ now (g1 .entry) ∷ now (g2 .entry) ∷ []) (cut width rows) left))) ⌝ }
+{
+    let row = rows[c];
+    let walk = walk_channel(
+        c,
+        v,
+        width,
+        context,
+        clusters,
+        map,
+        order,
+        row,
+        symbols,
+        at,
+        shift,
+        log,
+        g0,
+        g1,
+        g2,
+    );
+    if is_stopped(walk) {
+        return ChannelRead { walk, count: 0 };
+    }
+    let count = count_over(wide(symbols[at]), v.log);
+    ChannelRead { walk, count }
+}
+
+// How a varblock's reading ended, and its counts over its blocks in channels 1, 0, 2.
+pub struct VarblockRead {
+    pub walk: Walk,
+    pub counts: [u32; 3],
+}
+
+// The rows after a varblock of this corner's column and width.
+pub fn rewritten_all(
+    rows: [[u32; 32]; 3],
+    x: usize,
+    wide: usize,
+    counts: [u32; 3],
+) -> [[u32; 32]; 3]
+    requires { ⌜ x + wide ≤ 32 ⌝ }
+    ensures { λ r. ⌜ r ≡ rowsBy rows x wide counts ⌝ }
+{
+    let y = rewritten(rows, 1, x, wide, counts[0]);
+    let xy = rewritten(y, 0, x, wide, counts[1]);
+    rewritten(xy, 2, x, wide, counts[2])
+}
+
+// The three channels of a varblock: 1, 0, 2.
+pub fn read_varblock<'a>(
+    plan: Plan,
+    width: usize,
+    clusters: usize,
+    map: &'a [u8],
+    store: &'a [u16],
+    symbols: &'a [u32],
+    at: usize,
+    rows: [[u32; 32]; 3],
+    shift: u32,
+    log: &mut [u8],
+    g0: &mut [u32],
+    g1: &mut [u32],
+    g2: &mut [u32],
+) -> VarblockRead
+    requires { ⌜ PlanReady plan width clusters (now map) (now store) (length (now symbols)) at shift (length (now log)) (length (now g0)) × Rows rows × (length (now g1) ≡ length (now g0)) × (length (now g2) ≡ length (now g0)) ⌝ }
+    ensures { λ r. ⌜ ((left : ℕ) → Shown width (now (symbols .entry)) (at + 192 * 2 ^ (plan .at .log)) (r .walk) (rowsBy rows (plan .at .x) (plan .at .wide) (r .counts)) (now (log .exit)) (now (g0 .exit) ∷ now (g1 .exit) ∷ now (g2 .exit) ∷ []) (read shift clusters (now (map .entry)) (itemsBy plan width (now (store .entry))) (going (drop at (now (symbols .entry))) at (now (log .entry)) (now (g0 .entry) ∷ now (g1 .entry) ∷ now (g2 .entry) ∷ []) (cut width rows) left))) ⌝ }
+{
+    let v = plan.at;
+    let contexts = plan.contexts;
+    let number = plan.order;
+    let y = read_item(
+        1,
+        v,
+        width,
+        contexts[0],
+        clusters,
+        map,
+        order(store, number, 1),
+        rows,
+        symbols,
+        at,
+        shift,
+        log,
+        g0,
+        g1,
+        g2,
+    );
+    let walk = y.walk;
+    if is_stopped(walk) {
+        return VarblockRead {
+            walk,
+            counts: [0, 0, 0],
+        };
+    }
+    let at = symbols_read(walk);
+    let rows = rewritten(rows, 1, v.x, v.wide, y.count);
+    let x = read_item(
+        0,
+        v,
+        width,
+        contexts[1],
+        clusters,
+        map,
+        order(store, number, 0),
+        rows,
+        symbols,
+        at,
+        shift,
+        log,
+        g0,
+        g1,
+        g2,
+    );
+    let walk = x.walk;
+    if is_stopped(walk) {
+        return VarblockRead {
+            walk,
+            counts: [0, 0, 0],
+        };
+    }
+    let at = symbols_read(walk);
+    let rows = rewritten(rows, 0, v.x, v.wide, x.count);
+    let b = read_item(
+        2,
+        v,
+        width,
+        contexts[2],
+        clusters,
+        map,
+        order(store, number, 2),
+        rows,
+        symbols,
+        at,
+        shift,
+        log,
+        g0,
+        g1,
+        g2,
+    );
+    let walk = b.walk;
+    VarblockRead {
+        walk,
+        counts: [y.count, x.count, b.count],
+    }
+}

@@ -1,0 +1,181 @@
+use Prim.Native.Nat.{_%_, _^_, _+_, _*_}
+use Rattle.hf_coeff_walk.specs.Items.{walk-ready, channel-goes, handed-by, itemAt, counted-15, counted-16}
+use Rattle.hf_coeff_walk.specs.Counts.{few-le, shifted-left, power-le, count-entry, predicted-le}
+use mathlib.Core.Path.{refl, _≡_, _∙_, ap}
+use lib.Pow.{pow-pos}
+use Rattle.hf_coeff_walk.specs.Item.{predicted, countIndex}
+use Rattle.hf_coeff_walk.specs.Outcome.{ends}
+use borrow.Author.Needs.{needs}
+use native.Mathlib.Omega.{arith}
+use lib.ListN.{getD, length-set}
+use Rattle.hf_coeff_walk.proofs.item.read_channel.Statement.{statement}
+use Rattle.hf_coeff_walk.proofs.item.read_channel.Tie as tie
+
+returns : tie.Need-returns
+returns c = let a = c .before .before .before .before .before .before .args in ends _ _ _ (counted-15 (a .shift) (a .clusters) (a .map .now) (itemAt (a .v) (a .width) (a .context) (a .order .now)) (a .t7) (a .symbols .now) (a .at) (a .log .now) (a .grid .now) (omega arith)) refl
+
+mul-wide : tie.Need-mul-wide
+mul-wide c = search needs
+
+shared-slice-read-wide : tie.Need-shared-slice-read-wide
+shared-slice-read-wide c = search needs
+
+wide-requires : tie.Need-wide-requires
+wide-requires c κs = search needs
+
+predict-requires : tie.Need-predict-requires
+predict-requires c κs = search needs
+
+count-index-requires : tie.Need-count-index-requires
+count-index-requires c κs = search needs
+
+mul-entry : tie.Need-mul-entry
+mul-entry c =
+    let a = c .before .before .before .before .before .before .before .before .before .before .before .args in
+    let e : c .count-index .result ≡ countIndex (predicted (a .t7) (a .v .x) (a .v .y)) = c .count-index .ensures ∙ ap countIndex (c .before .predict .ensures) in
+    let l = c .before .before .before .before .before .before .before .before .before .before .before .pre .few in
+    rw e (omega (arith, count-entry (a .context) (a .clusters) (predicted (a .t7) (a .v .x) (a .v .y)) (c .before .before .before .before .before .before .before .before .before .before .before .pre .cluster) (predicted-le (a .t7) (a .v .x) (a .v .y) (c .before .before .before .before .before .before .before .before .before .before .before .pre .counts))))
+
+add-entry : tie.Need-add-entry
+add-entry c =
+    let a = c .before .before .before .before .before .before .before .before .before .before .before .args in
+    let e : c .count-index .result ≡ countIndex (predicted (a .t7) (a .v .x) (a .v .y)) = c .count-index .ensures ∙ ap countIndex (c .before .predict .ensures) in
+    let l = c .before .before .before .before .before .before .before .before .before .before .before .pre .few in
+    rw e (omega (arith, count-entry (a .context) (a .clusters) (predicted (a .t7) (a .v .x) (a .v .y)) (c .before .before .before .before .before .before .before .before .before .before .before .pre .cluster) (predicted-le (a .t7) (a .v .x) (a .v .y) (c .before .before .before .before .before .before .before .before .before .before .before .pre .counts))))
+
+shared-slice-read-log : tie.Need-shared-slice-read-log
+shared-slice-read-log c =
+    let a = c .before .before .before .before .before .before .before .before .before .before .before .before .args in
+    let e : c .before .count-index .result ≡ countIndex (predicted (a .t7) (a .v .x) (a .v .y)) = c .before .count-index .ensures ∙ ap countIndex (c .before .before .predict .ensures) in
+    let l = c .before .before .before .before .before .before .before .before .before .before .before .before .pre .entries in
+    rw e (omega (arith, count-entry (a .context) (a .clusters) (predicted (a .t7) (a .v .x) (a .v .y)) (c .before .before .before .before .before .before .before .before .before .before .before .before .pre .cluster) (predicted-le (a .t7) (a .v .x) (a .v .y) (c .before .before .before .before .before .before .before .before .before .before .before .before .pre .counts))))
+
+slice-write-log : tie.Need-slice-write-log
+slice-write-log c = let a = c .before .before .before .before .before .before .before .before .before .before .before .before .args in let r = c .before .before .before .before .before .before .before .before .before .before .before .before .pre .room in omega (arith, pow-pos (a .v .log))
+
+add-next : tie.Need-add-next
+add-next c = search needs
+
+shl-if2 : tie.Need-shl-if2
+shl-if2 c = search needs
+
+same-length : tie.Need-same-length
+same-length c = search needs
+
+returns-2 : tie.Need-returns-2
+returns-2 c =
+    let a = c .before .before .before .before .before .before .before .before .before .before .before .before .before .before .args in
+    let e : c .before .before .before .count-index .result ≡ countIndex (predicted (a .t7) (a .v .x) (a .v .y)) = c .before .before .before .count-index .ensures ∙ ap countIndex (c .before .before .before .before .predict .ensures) in
+    let n : c .before .before .before .before .before .before .wide .result ≡ getD (a .symbols .now) (a .at) 0 = c .before .before .before .before .before .before .wide .ensures in
+    let t = c .if2 .taken in
+    rw e (ends _ _ _ (counted-16 (a .shift) (a .clusters) (a .map .now) (itemAt (a .v) (a .width) (a .context) (a .order .now)) (a .t7) (a .symbols .now) (a .at) (a .log .now) (a .grid .now) (omega arith) (omega (arith, shifted-left 63 (a .v .log) (omega arith) (c .before .before .before .before .before .before .before .before .before .before .before .before .before .before .pre .power)))) refl)
+
+is-few-requires : tie.Need-is-few-requires
+is-few-requires c κs = search needs
+
+mul-begin : tie.Need-mul-begin
+mul-begin c = search needs
+
+mul-coefficients : tie.Need-mul-coefficients
+mul-coefficients c = search needs
+
+mul-begin-2 : tie.Need-mul-begin-2
+mul-begin-2 c = search needs
+
+shl-low : tie.Need-shl-low
+shl-low c = search needs
+
+mul-begin-3 : tie.Need-mul-begin-3
+mul-begin-3 c = search needs
+
+mul-begin-4 : tie.Need-mul-begin-4
+mul-begin-4 c = search needs
+
+add-begin : tie.Need-add-begin
+add-begin c = search needs
+
+add-end : tie.Need-add-end
+add-end c = search needs
+
+mul-coefficients-2 : tie.Need-mul-coefficients-2
+mul-coefficients-2 c = let a = c .before .before .before .before .before .before .before .before .before .before .before .before .before .before .before .before .before .before .args in omega (arith, shifted-left 2 (a .v .log) (omega arith) (c .before .before .before .before .before .before .before .before .before .before .before .before .before .before .before .before .before .before .pre .power), power-le (a .v .log) (c .before .before .before .before .before .before .before .before .before .before .before .before .before .before .before .before .before .before .pre .power))
+
+sub-coefficients : tie.Need-sub-coefficients
+sub-coefficients c = search needs
+
+part-coefficients-start : tie.Need-part-coefficients-start
+part-coefficients-start c = search needs
+
+part-coefficients-end : tie.Need-part-coefficients-end
+part-coefficients-end c = search needs
+
+sub-coefficients-2 : tie.Need-sub-coefficients-2
+sub-coefficients-2 c = search needs
+
+part-coefficients-start-2 : tie.Need-part-coefficients-start-2
+part-coefficients-start-2 c = search needs
+
+part-coefficients-end-2 : tie.Need-part-coefficients-end-2
+part-coefficients-end-2 c = search needs
+
+coefficients-requires : tie.Need-coefficients-requires
+coefficients-requires c κs =
+    let a = c .before .before .before .before .before .before .before .before .before .before .before .before .before .before .before .before .before .before .before .before .before .before .args in
+    let t = c .before .before .before .before .before .before .before .before .if2 .left in
+    walk-ready (a .v) (a .width) (a .context) (a .clusters) (a .map .now) (a .order .now) (a .t7) (a .symbols .now) (a .at) (a .shift) (a .log .now) (a .grid .now) (2 * 2 ^ (a .v .log) % 2 ^ 64) (a .context * 458 + 37 * a .clusters) (a .context * 458 + 37 * a .clusters + 458) (a .at + 1) (c .before .before .before .before .before .before .before .before .before .before .before .before .before .before .wide .result) (c .before .before .before .before .before .before .before .is-few .result) (a .context + c .before .before .before .before .before .before .before .before .before .before .before .count-index .result * a .clusters) (c .before .before .before .before .before .before .before .before .before .before .before .before .before .before .before .before .before .before .before .before .before .before .pre) (shifted-left 2 (a .v .log) (omega arith) (c .before .before .before .before .before .before .before .before .before .before .before .before .before .before .before .before .before .before .before .before .before .before .pre .power)) refl refl refl (omega arith)
+    (omega (arith, shifted-left 63 (a .v .log) (omega arith) (c .before .before .before .before .before .before .before .before .before .before .before .before .before .before .before .before .before .before .before .before .before .before .pre .power))) (rw (c .before .before .before .before .before .before .before .is-few .ensures) (few-le (c .before .before .before .before .before .before .before .before .before .before .before .before .before .before .wide .result) (4 * 2 ^ (a .v .log)))) _ (simp length-set)
+
+same-length-2 : tie.Need-same-length-2
+same-length-2 c = simp length-set at (c .before .before .before .log .given)
+
+same-length-3 : tie.Need-same-length-3
+same-length-3 c = search needs
+
+returns-3 : tie.Need-returns-3
+returns-3 c =
+    let a = c .before .before .before .before .before .before .before .before .before .before .before .before .before .before .before .before .before .before .before .before .before .before .before .before .before .before .before .args in
+    let t = c .before .before .before .before .before .before .before .before .before .before .before .before .before .if2 .left in
+    let e : c .before .before .before .before .before .before .before .before .before .before .before .before .before .before .before .before .count-index .result ≡ countIndex (predicted (a .t7) (a .v .x) (a .v .y)) = c .before .before .before .before .before .before .before .before .before .before .before .before .before .before .before .before .count-index .ensures ∙ ap countIndex (c .before .before .before .before .before .before .before .before .before .before .before .before .before .before .before .before .before .predict .ensures) in
+    let u = c .before .before .before .before .before .before .before .before .before .before .before .before .before .before .before .before .before .before .before .before .before .if1 .left in
+    handed-by _ _ _ _ _ (c .before .before .before .before .coefficients .ensures)
+    (channel-goes (a .v) (a .width) (a .context) (a .clusters) (a .map .now) (a .order .now) (a .t7) (a .symbols .now) (a .at) (a .shift) (a .log .now) (a .grid .now) (2 * 2 ^ (a .v .log) % 2 ^ 64) (a .context * 458 + 37 * a .clusters) (a .context * 458 + 37 * a .clusters + 458) (a .at + 1) (c .before .before .before .before .before .before .before .before .before .before .before .before .before .before .before .before .before .before .before .wide .result) (c .before .before .before .before .before .before .before .before .before .before .before .before .is-few .result) (a .context + c .before .before .before .before .before .before .before .before .before .before .before .before .before .before .before .before .count-index .result * a .clusters) (shifted-left 2 (a .v .log) (omega arith) (c .before .before .before .before .before .before .before .before .before .before .before .before .before .before .before .before .before .before .before .before .before .before .before .before .before .before .before .pre .power)) refl refl (omega arith) (c .before .before .before .before .before .before .before .before .before .before .before .before .before .before .before .before .before .before .before .wide .ensures)
+    (omega (arith, shifted-left 63 (a .v .log) (omega arith) (c .before .before .before .before .before .before .before .before .before .before .before .before .before .before .before .before .before .before .before .before .before .before .before .before .before .before .before .pre .power))) refl (c .before .before .before .before .before .before .before .before .before .before .before .before .is-few .ensures) (rw e))
+
+pub read-channel-spec : {M : Type 1} → statement M
+read-channel-spec =
+    tie.close
+    (tie.spec
+    returns
+    mul-wide
+    shared-slice-read-wide
+    wide-requires
+    predict-requires
+    count-index-requires
+    mul-entry
+    add-entry
+    shared-slice-read-log
+    slice-write-log
+    add-next
+    shl-if2
+    same-length
+    returns-2
+    is-few-requires
+    mul-begin
+    mul-coefficients
+    mul-begin-2
+    shl-low
+    mul-begin-3
+    mul-begin-4
+    add-begin
+    add-end
+    mul-coefficients-2
+    sub-coefficients
+    part-coefficients-start
+    part-coefficients-end
+    sub-coefficients-2
+    part-coefficients-start-2
+    part-coefficients-end-2
+    coefficients-requires
+    same-length-2
+    same-length-3
+    returns-3)

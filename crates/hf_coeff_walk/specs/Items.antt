@@ -1,0 +1,131 @@
+-- What the code of one channel requires, and its outcomes.
+use mathlib.Core.Path.{_≡_, ap, sym, subst, _∙_}
+use mathlib.Core.List.{List, [], _∷_}
+use Prim.Native.Nat.{ℕ, zero, suc, _+_, _*_, _-_, _/_, _%_, _^_, _<_, _≤_}
+use native.Mathlib.Omega.{arith}
+use native.Mathlib.Numerals.{add-one}
+use mathlib.Core.Bool.{cond}
+use borrow.Author.Tests.{le-leb, lt-leb}
+use lib.Dec.{leb}
+use lib.ListN.{length, getD, set, take, drop, length-drop, drop-of-length-le}
+use lib.Pow.{pow-pos}
+use lib.Seq.{drop-cons, length-take-le, take-all}
+use Rattle.refusal.specs.declared.Refusal.the-variants.{SymbolsEnd, Count}
+use Rattle.hf_coeff_walk.specs.Walk.{Walked, stopped, walk}
+use Rattle.hf_coeff_walk.specs.Places.{paired, placesOf}
+use Rattle.hf_coeff_walk.specs.Item.{Item, predicted, countIndex, countCluster, coeffPart, counted}
+use Rattle.hf_coeff_walk.specs.Counts.{Counts, part-entry}
+use Rattle.hf_coeff_walk.specs.Outcome.{Ready, Handed}
+use Rattle.hf_coeff_walk.specs.PlaceLaws.{paired-drop}
+use Rattle.hf_coeff_walk.specs.declared.Walk.{Walk}
+use Rattle.hf_coeff_walk.specs.declared.item.Varblock.{Varblock}
+
+-- the item of a varblock in a group of `width` blocks to a row, in a channel of this block context and order
+abbrev pub itemAt : Varblock → ℕ → ℕ → List ℕ → Item
+itemAt v width context order = record {
+  channel = 0;
+  x = v .x;
+  y = v .y;
+  wide = v .wide;
+  blocks = 2 ^ (v .log);
+  context = context;
+  places = placesOf (v .turn) (8 * width) (8 * v .x) (8 * v .y) (drop (2 ^ (v .log)) (paired order));
+}
+
+pub record ItemReady (v : Varblock) (width context clusters : ℕ) (map order row : List ℕ) (symbols at shift log grid : ℕ) : Type 0 where
+  pub left : v .x < 32
+  pub top : v .y < 32
+  pub power : v .log ≤ 10
+  pub across : width ≤ 32
+  pub cluster : context < clusters
+  pub few : clusters ≤ 16
+  pub entries : length map ≡ 495 * clusters
+  pub places : length order ≡ 128 * 2 ^ (v .log)
+  pub counts : Counts row
+  pub begins : at ≤ symbols
+  pub shifts : shift ≤ 3
+  pub room : at + 64 * 2 ^ (v .log) ≤ log
+  pub inside : (k : ℕ) → k < 63 * 2 ^ (v .log) → getD (itemAt v width context order .places) k 0 < grid
+
+-- outcomes by what is read first
+module _ (shift clusters : ℕ) (stretch : List ℕ) (it : Item) (row symbols : List ℕ) (at : ℕ) (log g : List ℕ) where
+  pub counted-15 : length symbols ≤ at → counted shift clusters stretch it row (drop at symbols) at log g ≡ stopped SymbolsEnd at log g
+  unfolding counted
+  counted-15 h = rw (drop-of-length-le symbols h)
+
+  module _ (h : at < length symbols) where
+    pub counted-16 : 63 * it .blocks < getD symbols at 0
+        → counted shift clusters stretch it row (drop at symbols) at log g ≡ stopped Count (at + 1) (set log at (countCluster clusters stretch it row)) g
+    unfolding counted
+    counted-16 l = rw (drop-cons symbols at 0 h, lt-leb (getD symbols at 0) (63 * it .blocks) l)
+
+    pub counted-goes : getD symbols at 0 ≤ 63 * it .blocks
+        → counted shift clusters stretch it row (drop at symbols) at log g
+        ≡ walk shift (it .blocks) (coeffPart clusters stretch it) (it .places) 0 (cond (leb (getD symbols at 0) (4 * it .blocks)) 1 0) (getD symbols at 0)
+        (drop (at + 1) symbols) (at + 1) (set log at (countCluster clusters stretch it row)) g
+    unfolding counted
+    counted-goes l = rw (drop-cons symbols at 0 h, le-leb (getD symbols at 0) (63 * it .blocks) l, add-one at)
+
+whole-rest : (l : List ℕ) (k : ℕ) → take (length l - k) (drop k l) ≡ drop k l
+whole-rest l k = take-all (length l - k) (drop k l) (rw (length-drop k l) (omega arith))
+
+-- one channel of a varblock, as the code takes it apart: low places are left out, the part runs from begin to end
+module _ (v : Varblock) (width context clusters : ℕ) (map order row symbols : List ℕ) (at shift : ℕ) (log g : List ℕ) (low begin end next n first entry : ℕ) where
+  abbrev it : Item
+  it = itemAt v width context order
+
+  abbrev rest : List ℕ
+  rest = take (length order - low) (drop low order)
+
+  abbrev part : List ℕ
+  part = take (end - begin) (drop begin map)
+
+  module _ (e : low ≡ 2 * 2 ^ (v .log)) where
+    rest-places : placesOf (v .turn) (8 * width) (8 * v .x) (8 * v .y) (paired rest) ≡ it .places
+    rest-places =
+        let f : paired rest ≡ drop (2 ^ (v .log)) (paired order) = ap paired (whole-rest order low) ∙ rw e (paired-drop (2 ^ (v .log)) order) in
+        rw f
+
+    pub rest-length : length order ≡ 128 * 2 ^ (v .log) → length rest / 2 ≡ 63 * 2 ^ (v .log)
+    rest-length h = rw (whole-rest order low, length-drop low order) (omega arith)
+
+    module _ (b : begin ≡ context * 458 + 37 * clusters) (f : end ≡ begin + 458) where
+      part-is : part ≡ coeffPart clusters map it
+      part-is = let z : end - begin ≡ 458 = omega arith in rw (z, b)
+
+      pub part-length : context < clusters → length map ≡ 495 * clusters → length part ≡ 458
+      part-length h l = let z : end - begin ≡ 458 = omega arith in rw z (length-take-le 458 (drop begin map) (rw (length-drop begin map) (omega (arith, part-entry context clusters h))))
+
+      pub channel-goes : at < length symbols → n ≡ getD symbols at 0 → n ≤ 63 * 2 ^ (v .log) → next ≡ at + 1
+          → first ≡ cond (leb n (4 * 2 ^ (v .log))) 1 0 → entry ≡ context + countIndex (predicted row (v .x) (v .y)) * clusters
+          → walk shift (2 ^ (v .log)) part (placesOf (v .turn) (8 * width) (8 * v .x) (8 * v .y) (paired rest)) 0 first n (drop next symbols) next (set log at (getD map entry 0)) g
+          ≡ counted shift clusters map it row (drop at symbols) at log g
+      channel-goes h en l es ef ee =
+          rw (rest-places, part-is, ef, es, ee, en) (sym (counted-goes shift clusters map it row symbols at log g h (rw en at l)))
+
+  -- what the walk over the rest requires
+  pub walk-ready : ItemReady v width context clusters map order row (length symbols) at shift (length log) (length g)
+      → low ≡ 2 * 2 ^ (v .log) → begin ≡ context * 458 + 37 * clusters → end ≡ begin + 458 → next ≡ at + 1 → at < length symbols → n ≤ 63 * 2 ^ (v .log) → first ≤ 1
+      → (logged : ℕ) → logged ≡ length log
+      → Ready (record { row = 8 * width; x = 8 * v .x; y = 8 * v .y; log = v .log; turn = v .turn }) rest (length symbols) next n first (length part) shift logged (length g)
+  walk-ready r e b f en h l m logged k =
+      let o : length rest / 2 ≡ 63 * 2 ^ (v .log) = rest-length e (r .places) in
+      let x = r .left in let y = r .top in let w = r .across in let p = r .room in
+      let q = pow-pos (v .log) in
+      record {
+        row = omega arith;
+        left = omega arith;
+        top = omega arith;
+        power = r .power;
+        begins = omega arith;
+        counted = l;
+        flagged = m;
+        fits = omega arith;
+        entries = part-length e b f (r .cluster) (r .entries);
+        shifts = r .shifts;
+        room = omega arith;
+        inside = λ j d. rw (rest-places e) (r .inside j (omega arith));
+      }
+
+pub handed-by : (r : Walk) (log g : List ℕ) (w v : Walked) → Handed r log g w → w ≡ v → Handed r log g v
+handed-by r log g w v h e = subst (λ (x : Walked). Handed r log g x) e h

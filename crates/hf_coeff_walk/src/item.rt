@@ -1,0 +1,83 @@
+// One channel of a varblock (`hf_coeff.rs`).
+use crate::Walk;
+use crate::coefficients;
+use crate::count::count_index;
+use crate::count::is_few;
+use crate::count::predict;
+use crate::place::Spot;
+use refusal::Refusal;
+ghost use mathlib.Core.Path.{_≡_};
+ghost use Prim.Native.Nat.{_+_, _*_, _^_, _≤_, _<_};
+ghost use lib.ListN.{length, drop};
+ghost use Rattle.hf_coeff_walk.specs.Item.{counted};
+ghost use Rattle.hf_coeff_walk.specs.Outcome.{Handed};
+ghost use Rattle.hf_coeff_walk.specs.Items.{ItemReady, itemAt};
+
+// A varblock: its corner x, y and its width in blocks, whether it turns; 2 to the power `log` blocks.
+pub struct Varblock {
+    pub x: usize,
+    pub y: usize,
+    pub wide: usize,
+    pub log: usize,
+    pub turn: bool,
+}
+
+fn wide(x: u32) -> usize
+    ensures { λ r. ⌜ r ≡ x ⌝ }
+{
+    x as usize
+}
+
+// A count, then coefficients. `width` blocks to a row, `context` the block context, `map` the preset's stretch of the
+// cluster map, `order` the order of this channel, `row` its row of counts, `at` the symbols read.
+pub fn read_channel<'a>(
+    v: Varblock,
+    width: usize,
+    context: usize,
+    clusters: usize,
+    map: &'a [u8],
+    order: &'a [u16],
+    row: [u32; 32],
+    symbols: &'a [u32],
+    at: usize,
+    shift: u32,
+    log: &mut [u8],
+    grid: &mut [u32],
+) -> Walk
+    requires { ⌜ ItemReady v width context clusters (now map) (now order) row (length (now symbols)) at shift (length (now log)) (length (now grid)) ⌝ }
+    ensures { λ r. ⌜ Handed r (now (log .exit)) (now (grid .exit)) (counted shift clusters (now (map .entry)) (itemAt v width context (now (order .entry))) row (drop at (now (symbols .entry))) at (now (log .entry)) (now (grid .entry))) ⌝ }
+{
+    if symbols.len() <= at {
+        return Walk::Stopped(Refusal::SymbolsEnd(at));
+    }
+    let n = wide(symbols[at]);
+    let entry = context + count_index(predict(&row, v.x, v.y)) * clusters;
+    log[at] = map[entry];
+    let next = at + 1;
+    if 63 << v.log < n {
+        return Walk::Stopped(Refusal::Count(next));
+    }
+    let first = is_few(n, v.log);
+    let spot = Spot {
+        row: 8 * width,
+        x: 8 * v.x,
+        y: 8 * v.y,
+        log: v.log,
+        turn: v.turn,
+    };
+    let low = 2 << v.log;
+    let begin = context * 458 + 37 * clusters;
+    let end = begin + 458;
+    coefficients(
+        &order[low..],
+        spot,
+        symbols,
+        next,
+        n,
+        first,
+        &map[begin..end],
+        shift,
+        log,
+        grid,
+    )
+}

@@ -1,0 +1,120 @@
+// One channel of a varblock: its count, then its coefficients (`hf_coeff.rs`). For `hf_coeff` alone, which meets what is required here.
+use crate::context::coeff_context;
+use crate::place::Spot;
+use crate::place::cell;
+use refusal::Refusal;
+
+pub mod context;
+pub mod count;
+pub mod item;
+pub mod place;
+
+ghost use mathlib.Core.Path.{_≡_};
+ghost use Prim.Native.Nat.{_+_, _*_, _%_, _^_, _≤_, _<_};
+ghost use lib.ListN.{length, drop};
+ghost use Rattle.bits.specs.Signed.{unpackSigned};
+ghost use Rattle.hf_coeff_walk.specs.Walk.{flag, walk};
+ghost use Rattle.hf_coeff_walk.specs.Places.{paired, placesOf};
+ghost use Rattle.hf_coeff_walk.specs.Outcome.{Ready, Handed, lessOf, gainCell};
+
+// How a reading ended.
+pub enum Walk {
+    // Symbols read so far.
+    Ended(usize),
+    Stopped(Refusal),
+}
+
+// What a symbol leaves of a count.
+fn less(left: usize, u: u32) -> usize
+    ensures { λ r. ⌜ r ≡ lessOf u left ⌝ }
+{
+    if u == 0 {
+        return left;
+    }
+    if left == 0 {
+        return 0;
+    }
+    left - 1
+}
+
+fn flagged(u: u32) -> usize
+    ensures { λ r. ⌜ r ≡ flag u ⌝ }
+{
+    if u == 0 {
+        return 0;
+    }
+    1
+}
+
+fn unpack_signed(u: u32) -> u32
+    ensures { λ r. ⌜ r ≡ unpackSigned u ⌝ }
+{
+    if u % 2 == 0 {
+        u / 2
+    } else {
+        4294967295 - u / 2
+    }
+}
+
+fn shifted(x: u32, shift: u32) -> u32
+    requires { ⌜ shift ≤ 3 ⌝ }
+    ensures { λ r. ⌜ r ≡ x * 2 ^ shift % 2 ^ 32 ⌝ }
+{
+    x << shift
+}
+
+// A cell after symbol u.
+fn gained(old: u32, u: u32, shift: u32) -> u32
+    requires { ⌜ shift ≤ 3 ⌝ }
+    ensures { λ r. ⌜ r ≡ gainCell shift old u ⌝ }
+{
+    if u == 0 {
+        return old;
+    }
+    std::num::wrapping_add_u32(old, shifted(unpack_signed(u), shift))
+}
+
+// The coefficients of an order's places, until `count` of them were not 0.
+pub fn coefficients(
+    order: &[u16],
+    spot: Spot,
+    symbols: &[u32],
+    start: usize,
+    count: usize,
+    first: usize,
+    part: &[u8],
+    shift: u32,
+    log: &mut [u8],
+    grid: &mut [u32],
+) -> Walk
+    requires { ⌜ Ready spot (now order) (length (now symbols)) start count first (length (now part)) shift (length (now log)) (length (now grid)) ⌝ }
+    ensures { λ r. ⌜ Handed r (now (log .exit)) (now (grid .exit)) (walk shift (2 ^ (spot .log)) (now (part .entry)) (placesOf (spot .turn) (spot .row) (spot .x) (spot .y) (paired (now (order .entry)))) 0 first count (drop start (now (symbols .entry))) start (now (log .entry)) (now (grid .entry))) ⌝ }
+{
+    let mut at = start;
+    let mut left = count;
+    let mut prev = first;
+    let mut k = 0;
+    let end = order.len() / 2;
+    while k < end {
+        if left == 0 {
+            return Walk::Ended(at);
+        }
+        let context = coeff_context(spot.log, left - 1, k, prev);
+        if 458 <= context {
+            return Walk::Stopped(Refusal::TooManyZeros(at));
+        }
+        if symbols.len() <= at {
+            return Walk::Stopped(Refusal::SymbolsEnd(at));
+        }
+        let u = symbols[at];
+        let p = cell(order, k, spot);
+        log[at] = part[context];
+        let v = gained(grid[p], u, shift);
+        grid[p] = v;
+        left = less(left, u);
+        prev = flagged(u);
+        at += 1;
+        k += 1;
+    }
+    Walk::Ended(at)
+}

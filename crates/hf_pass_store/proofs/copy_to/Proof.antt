@@ -1,0 +1,76 @@
+use Rattle.hf_pass_store.specs.Naturals.{copy-turn, copy-start}
+use lib.Seq.{paste}
+use borrow.Author.Needs.{needs}
+use native.Mathlib.Omega.{arith}
+use mathlib.Core.Path.{_≡_, _∙_, ap, sym}
+use mathlib.Core.List.{_++_}
+use Prim.Native.Nat.{ℕ, _≤_, _<_, _-_, _+_, _*_}
+use lib.ListN.{length, getD, take, drop, set, length-set}
+use Rattle.hf_pass_store.proofs.copy_to.Statement.{statement}
+use Rattle.hf_pass_store.proofs.copy_to.Tie as tie
+use Rattle.hf_pass_store.proofs.copy_to.Reads as reads
+use Rattle.hf_pass_store.proofs.copy_to.Lts as lts
+
+abbrev Inv-loop : tie.InvT-loop
+Inv-loop list₀ to n j₀ list j = (j ≤ n) × (length list ≡ length list₀) × (list ≡ paste list₀ to list₀ j)
+
+abbrev μ-loop : tie.MeasureT-loop
+μ-loop list₀ to n j₀ list j = n - j
+
+loop-holds : tie.Need-loop-holds Inv-loop μ-loop
+loop-holds c = (omega arith, omega arith, copy-start (c .args .list .now) (c .args .to))
+
+mul-v : tie.Need-mul-v Inv-loop μ-loop
+mul-v c = search needs
+
+slice-read-v : tie.Need-slice-read-v Inv-loop μ-loop
+slice-read-v c = search needs
+
+add-list : tie.Need-add-list Inv-loop μ-loop
+add-list c = search needs
+
+mul-list : tie.Need-mul-list Inv-loop μ-loop
+mul-list c = search needs
+
+slice-write-list : tie.Need-slice-write-list Inv-loop μ-loop
+slice-write-list c = search needs
+
+add-j : tie.Need-add-j Inv-loop μ-loop
+add-j c = search needs
+
+loop-less : tie.Need-loop-less Inv-loop μ-loop
+loop-less c = search needs
+
+loop-again : tie.Need-loop-again Inv-loop μ-loop
+loop-again c =
+    let a = c .before .before .before .args in
+    let l = c .before .before .loop in
+    (omega arith, search needs, copy-turn (a .list .now) (l .list) (a .to) (a .n) (l .j) (omega arith) (omega arith) (omega arith) (l .inv .2))
+
+same-length : tie.Need-same-length Inv-loop μ-loop
+same-length c = search needs
+
+returns : tie.Need-returns Inv-loop μ-loop
+returns c =
+    let a = c .before .before .args in
+    let l = c .before .loop in
+    let e : l .j ≡ a .n = omega arith in
+    l .inv .2 ∙ ap (λ (j : ℕ). paste (a .list .now) (a .to) (a .list .now) j) e
+
+pub copy-to-spec : {M : Type 1} → statement M
+copy-to-spec =
+    tie.close
+    (tie.spec
+    Inv-loop
+    μ-loop
+    loop-holds
+    mul-v
+    slice-read-v
+    add-list
+    mul-list
+    slice-write-list
+    add-j
+    loop-less
+    loop-again
+    same-length
+    returns)

@@ -1,0 +1,24 @@
+use Rattle.hf_pass_store.specs.LookedUp.{starts, starts-at}
+use borrow.Author.Needs.{needs}
+use native.Mathlib.Omega.{arith}
+use mathlib.Core.Path.{_≡_, _∙_, ap, sym}
+use mathlib.Core.List.{_++_}
+use Prim.Native.Nat.{ℕ, _≤_, _<_, _-_, _+_, _*_}
+use lib.ListN.{length, getD, take, drop, set, length-set}
+use Rattle.hf_pass_store.proofs.start_of.Statement.{statement}
+use Rattle.hf_pass_store.proofs.start_of.Tie as tie
+use Rattle.hf_pass_store.proofs.start_of.Reads as reads
+use Rattle.hf_pass_store.proofs.start_of.Lts as lts
+
+mul-result : tie.Need-mul-result
+mul-result c = search needs
+
+array-read-result : tie.Need-array-read-result
+array-read-result c = search needs
+
+returns : tie.Need-returns
+unfolding starts
+returns c = starts-at (c .args .order) (omega arith)
+
+pub start-of-spec : {M : Type 1} → statement M
+start-of-spec = tie.close (tie.spec mul-result array-read-result returns)

@@ -1,0 +1,73 @@
+use Rattle.hf_pass_store.specs.LookedUp.{stretch-order, stretch-channel, stretch-length, spot, found}
+use Rattle.natural_order.specs.Filling.{sided}
+use borrow.Author.Needs.{needs}
+use native.Mathlib.Omega.{arith}
+use mathlib.Core.Path.{_≡_, _∙_, ap, sym}
+use mathlib.Core.List.{_++_}
+use Prim.Native.Nat.{ℕ, _≤_, _<_, _-_, _+_, _*_}
+use lib.ListN.{length, getD, take, drop, set, length-set}
+use Rattle.hf_pass_store.proofs.stretch_of.Statement.{statement}
+use Rattle.hf_pass_store.proofs.stretch_of.Tie as tie
+use Rattle.hf_pass_store.proofs.stretch_of.Reads as reads
+use Rattle.hf_pass_store.proofs.stretch_of.Lts as lts
+use Rattle.dct_select.proofs.block_sizes.block_size.Reads as block-size-reads
+use Rattle.hf_pass_store.proofs.start_of.Reads as start-of-reads
+
+returns : tie.Need-returns
+returns c = let a = c .before .args in stretch-order (a .numbers) (a .order) (a .channel) (c .if1 .taken)
+
+returns-2 : tie.Need-returns-2
+returns-2 c = let a = c .before .before .args in stretch-channel (a .numbers) (a .order) (a .channel) (c .if2 .taken)
+
+returns-3 : tie.Need-returns-3
+returns-3 c = let a = c .before .before .before .args in stretch-length (a .numbers) (a .order) (a .channel) (c .if3 .taken)
+
+block-size-requires : tie.Need-block-size-requires
+block-size-requires c κs = search needs
+
+mul-n : tie.Need-mul-n
+mul-n c = let s = sided (c .before .before .before .before .args .order) (c .block-size .result) (c .block-size .ensures) (omega arith) in omega (arith, s .small)
+
+mul-n-2 : tie.Need-mul-n-2
+mul-n-2 c = let s = sided (c .before .before .before .before .args .order) (c .block-size .result) (c .block-size .ensures) (omega arith) in omega (arith, s .small)
+
+start-of-requires : tie.Need-start-of-requires
+start-of-requires c κs = search needs
+
+mul-first : tie.Need-mul-first
+mul-first c =
+    let a = c .before .before .before .before .before .args in
+    let t = c .before .block-size in
+    let o = c .start-of in
+    let s = spot (a .order) (a .channel) (omega arith) (omega arith) (t .result) (t .ensures) (o .result) (o .ensures) in
+    omega (arith, s .room)
+
+add-first : tie.Need-add-first
+add-first c =
+    let a = c .before .before .before .before .before .args in
+    let t = c .before .block-size in
+    let o = c .start-of in
+    let s = spot (a .order) (a .channel) (omega arith) (omega arith) (t .result) (t .ensures) (o .result) (o .ensures) in
+    omega (arith, s .room)
+
+returns-4 : tie.Need-returns-4
+returns-4 c =
+    let a = c .before .before .before .before .before .args in
+    let t = c .before .block-size in
+    let o = c .start-of in
+    found (a .order) (a .channel) (omega arith) (omega arith) (t .result) (t .ensures) (o .result) (o .ensures) (a .numbers) (c .before .before .if3 .left)
+
+pub stretch-of-spec : {M : Type 1} → statement M
+stretch-of-spec =
+    tie.close
+    (tie.spec
+    returns
+    returns-2
+    returns-3
+    block-size-requires
+    mul-n
+    mul-n-2
+    start-of-requires
+    mul-first
+    add-first
+    returns-4)

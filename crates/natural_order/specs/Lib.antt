@@ -1,0 +1,17 @@
+-- the natural order, and the laws of an order for size as a parameter
+pub mod Places
+pub mod Natural
+pub mod Sizes
+pub mod Bools
+pub mod Counts
+pub mod Rows
+pub mod Square
+pub mod Keep
+pub mod Whole
+pub mod Listing
+pub mod Order
+pub mod Facts
+pub mod Beyond
+pub mod Turns
+pub mod Filled
+pub mod Filling

@@ -1,0 +1,191 @@
+-- Turns of the loops that write the natural order.
+use mathlib.Core.Path.{_≡_, refl, ap, sym, _∙_}
+use mathlib.Core.Bool.{Bool, true, false, cond}
+use mathlib.Core.List.{List, [], _∷_, _++_, append-nil}
+use Prim.Native.Nat.{ℕ, zero, suc, _+_, _*_, _-_, _/_, _%_, _<_, _≤_}
+use native.Mathlib.Numerals.{add-one}
+use native.Mathlib.Omega.{arith}
+use lib.Dec.{eqb}
+use lib.ListN.{length, set, length-append, drop-of-length-le}
+use lib.Seq.{sets, sets-eq}
+use Rattle.natural_order.specs.Places.{Place, run, joins, flat}
+use Rattle.natural_order.specs.Natural.{spot, cell, diagonal, square, listed, keep, rows, natural}
+use Rattle.natural_order.specs.Sizes.{Size}
+use Rattle.natural_order.specs.Facts.{natural-facts}
+
+-- runs and joined lists from o to e
+pub run-from : (f : ℕ → Place) (o e : ℕ) → o < e → run f (e - o) o ≡ f o ∷ run f (e - (o + 1)) (o + 1)
+run-from f o e h =
+    let n : e - o ≡ suc (e - (o + 1)) = omega arith in
+    ap (λ (k : ℕ). run f k o) n ∙ ap (λ (k : ℕ). f o ∷ run f (e - (o + 1)) k) (sym (add-one o))
+
+pub run-end : (f : ℕ → Place) (o e : ℕ) → e ≤ o → run f (e - o) o ≡ []
+run-end f o e h = let n : e - o ≡ 0 = omega arith in rw n
+
+pub joins-from : (g : ℕ → List Place) (o e : ℕ) → o < e → joins g (e - o) o ≡ g o ++ joins g (e - (o + 1)) (o + 1)
+joins-from g o e h =
+    let n : e - o ≡ suc (e - (o + 1)) = omega arith in
+    ap (λ (k : ℕ). joins g k o) n ∙ ap (λ (k : ℕ). g o ++ joins g (e - (o + 1)) k) (sym (add-one o))
+
+pub joins-end : (g : ℕ → List Place) (o e : ℕ) → e ≤ o → joins g (e - o) o ≡ []
+joins-end g o e h = let n : e - o ≡ 0 = omega arith in rw n
+
+pub keep-append : (w s : ℕ) (l m : List Place) → keep w s (l ++ m) ≡ keep w s l ++ keep w s m
+keep-append w s [] m = refl
+keep-append w s (p ∷ l) m = ap (λ (r : List Place). cond (listed w s p) ((p .0, p .1 / s) ∷ r) r) (keep-append w s l m) ∙ go (listed w s p)
+  where
+    go : (b : Bool) → cond b ((p .0, p .1 / s) ∷ (keep w s l ++ keep w s m)) (keep w s l ++ keep w s m) ≡ cond b ((p .0, p .1 / s) ∷ keep w s l) (keep w s l) ++ keep w s m
+    go true = refl
+    go false = refl
+
+pub flat-append : (l m : List Place) → flat (l ++ m) ≡ flat l ++ flat m
+flat-append [] m = refl
+flat-append (p ∷ l) m = ap (λ (r : List ℕ). p .0 ∷ p .1 ∷ r) (flat-append l m)
+
+pub cond-lt : (b : Bool) (x y m : ℕ) → x < m → y < m → cond b x y < m
+cond-lt true x y m h l = h
+cond-lt false x y m h l = l
+
+cell-by : (b : Bool) (x y : ℕ) → _≡_ {A = Place} (cond b (x, y) (y, x)) (cond b x y, cond b y x)
+cell-by true x y = refl
+cell-by false x y = refl
+
+-- what a cell of the square adds to the store
+unfoldable pub onePlace : ℕ → ℕ → ℕ → ℕ → List ℕ
+onePlace w s x y = flat (keep w s ((x, y) ∷ []))
+
+pub onePlace-in : (w s x y : ℕ) → listed w s (x, y) ≡ true → onePlace w s x y ≡ x ∷ (y / s) ∷ []
+unfolding onePlace
+onePlace-in w s x y e = rw e
+
+pub onePlace-out : (w s x y : ℕ) → listed w s (x, y) ≡ false → onePlace w s x y ≡ []
+unfolding onePlace
+onePlace-out w s x y e = rw e
+
+-- what is left of a diagonal, of the square
+unfoldable pub restOfDiagonal : ℕ → ℕ → ℕ → ℕ → ℕ → List ℕ
+restOfDiagonal w s d e o = flat (keep w s (run (cell d) (e - o) o))
+
+unfoldable pub restOfSquare : ℕ → ℕ → ℕ → ℕ → List ℕ
+restOfSquare w s b d = flat (keep w s (joins (diagonal b) (2 * b - d) d))
+
+unfoldable pub restOfRow : ℕ → ℕ → ℕ → List ℕ
+restOfRow w y x = flat (run (spot y) (w - x) x)
+
+unfoldable pub restOfRows : ℕ → ℕ → ℕ → List ℕ
+restOfRows w h y = flat (joins (λ y. run (spot y) w 0) (h - y) y)
+
+pub sets-append : (vs us st : List ℕ) (at : ℕ) → sets st at (vs ++ us) ≡ sets (sets st at vs) (at + length vs) us
+sets-append [] us st at = let e : at + 0 ≡ at = omega arith in rw e
+sets-append (v ∷ vs) us st at =
+    let e : suc at + length vs ≡ at + suc (length vs) = omega arith in
+    sets-append vs us (set st at v) (suc at) ∙ ap (λ (p : ℕ). sets (sets (set st at v) (suc at) vs) p us) e
+
+-- a piece written, then the rest
+pub laid : (st st' : List ℕ) (at r : ℕ) (piece rest whole : List ℕ) → whole ≡ piece ++ rest → r ≡ at + length piece → st' ≡ sets st at piece → sets st' r rest ≡ sets st at whole
+laid st st' at r piece rest whole w er es = rw (er, es, w) (sym (sets-append piece rest st at))
+
+pub grown : (at r n : ℕ) (piece rest whole : List ℕ) → whole ≡ piece ++ rest → r ≡ at + length piece → at + length whole ≡ n → r + length rest ≡ n
+grown at r n piece rest whole w er en = omega (arith, ap length w, length-append piece rest)
+
+pub diagonal-turn : (w s d e o : ℕ) → o < e
+    → restOfDiagonal w s d e o ≡ onePlace w s (cond (eqb (d % 2) 1) o (d - 1 - o)) (cond (eqb (d % 2) 1) (d - 1 - o) o) ++ restOfDiagonal w s d e (o + 1)
+unfolding restOfDiagonal onePlace
+diagonal-turn w s d e o h =
+    let rest = run (cell d) (e - (o + 1)) (o + 1) in
+    ap (λ (l : List Place). flat (keep w s l)) (run-from (cell d) o e h)
+    ∙ ap flat (keep-append w s (cell d o ∷ []) rest)
+    ∙ flat-append (keep w s (cell d o ∷ [])) (keep w s rest)
+    ∙ ap (λ (p : Place). flat (keep w s (p ∷ [])) ++ flat (keep w s rest)) (cell-by (eqb (d % 2) 1) o (d - 1 - o))
+
+pub diagonal-start : (w s b d : ℕ) → restOfDiagonal w s d (d - (d - b)) (d - b) ≡ flat (keep w s (diagonal b d))
+unfolding restOfDiagonal
+diagonal-start w s b d = refl
+
+pub diagonal-end : (w s d e o : ℕ) → e ≤ o → restOfDiagonal w s d e o ≡ []
+unfolding restOfDiagonal
+diagonal-end w s d e o h = ap (λ (l : List Place). flat (keep w s l)) (run-end (cell d) o e h)
+
+pub square-turn : (w s b d : ℕ) → d < 2 * b → restOfSquare w s b d ≡ flat (keep w s (diagonal b d)) ++ restOfSquare w s b (d + 1)
+unfolding restOfSquare
+square-turn w s b d h =
+    let rest = joins (diagonal b) (2 * b - (d + 1)) (d + 1) in
+    ap (λ (l : List Place). flat (keep w s l)) (joins-from (diagonal b) d (2 * b) h)
+    ∙ ap flat (keep-append w s (diagonal b d) rest)
+    ∙ flat-append (keep w s (diagonal b d)) (keep w s rest)
+
+pub square-start : (w s b : ℕ) → restOfSquare w s b 1 ≡ flat (keep w s (square b))
+unfolding restOfSquare
+square-start w s b = refl
+
+pub square-end : (w s b d : ℕ) → 2 * b ≤ d → restOfSquare w s b d ≡ []
+unfolding restOfSquare
+square-end w s b d h = ap (λ (l : List Place). flat (keep w s l)) (joins-end (diagonal b) d (2 * b) h)
+
+pub diagonal-turn-at : (w s d e o x y : ℕ) → o < e → x ≡ cond (eqb (d % 2) 1) o (d - 1 - o) → y ≡ cond (eqb (d % 2) 1) (d - 1 - o) o
+    → restOfDiagonal w s d e o ≡ onePlace w s x y ++ restOfDiagonal w s d e (o + 1)
+diagonal-turn-at w s d e o x y h ex ey = rw (ex, ey) (diagonal-turn w s d e o h)
+
+-- a piece of what is left fits
+pub piece-fits : (at n m : ℕ) (piece rest whole : List ℕ) → whole ≡ piece ++ rest → at + length whole ≡ n → n ≤ m → at + length piece ≤ m
+piece-fits at n m piece rest whole w en h = omega (arith, ap length w, length-append piece rest)
+
+-- nothing is left
+pub all-laid : (st st₀ : List ℕ) (at start : ℕ) (rest whole : List ℕ) → rest ≡ [] → at + length rest ≡ start + length whole → sets st at rest ≡ sets st₀ start whole → (at ≡ start + length whole) × (st ≡ sets st₀ start whole)
+all-laid st st₀ at start rest whole e n s = (omega (arith, ap length e), rw e at s)
+
+pub row-turn : (w y x : ℕ) → x < w → restOfRow w y x ≡ (x ∷ y ∷ []) ++ restOfRow w y (x + 1)
+unfolding restOfRow
+row-turn w y x h = ap flat (run-from (spot y) x w h)
+
+pub row-end : (w y x : ℕ) → w ≤ x → restOfRow w y x ≡ []
+unfolding restOfRow
+row-end w y x h = ap flat (run-end (spot y) x w h)
+
+row-whole : (w y : ℕ) → restOfRow w y 0 ≡ flat (run (spot y) w 0)
+unfolding restOfRow
+row-whole w y = let e : w - 0 ≡ w = omega arith in rw e
+
+pub rows-turn : (w h y : ℕ) → y < h → restOfRows w h y ≡ restOfRow w y 0 ++ restOfRows w h (y + 1)
+unfolding restOfRows
+rows-turn w h y k =
+    let g : ℕ → List Place = λ y. run (spot y) w 0 in
+    ap flat (joins-from g y h k) ∙ flat-append (g y) (joins g (h - (y + 1)) (y + 1)) ∙ rw (row-whole w y)
+
+pub rows-start : (w h : ℕ) → restOfRows w h 0 ≡ flat (rows w h)
+unfolding restOfRows
+rows-start w h = let e : h - 0 ≡ h = omega arith in rw e
+
+pub rows-end : (w h y : ℕ) → h ≤ y → restOfRows w h y ≡ []
+unfolding restOfRows
+rows-end w h y k = ap flat (joins-end (λ y. run (spot y) w 0) y h k)
+
+-- the corner, then the square
+pub natural-parts : (bw bh : ℕ) → flat (natural bw bh) ≡ flat (rows (bw / 8) (bh / 8)) ++ flat (keep (bw / 8) (bw / bh) (square bw))
+unfolding natural
+natural-parts bw bh = flat-append (rows (bw / 8) (bh / 8)) (keep (bw / 8) (bw / bh) (square bw))
+
+pub flat-length : (l : List Place) → length (flat l) ≡ 2 * length l
+flat-length [] = refl
+flat-length (p ∷ l) = let r = flat-length l in omega arith
+
+pub natural-numbers : (bw bh : ℕ) → Size bw bh → length (flat (natural bw bh)) ≡ 2 * (bw * bh)
+natural-numbers bw bh z = flat-length (natural bw bh) ∙ ap (λ (n : ℕ). 2 * n) (natural-facts bw bh z .long)
+
+pub natural-sum : (bw bh : ℕ) → Size bw bh → length (flat (rows (bw / 8) (bh / 8))) + length (flat (keep (bw / 8) (bw / bh) (square bw))) ≡ 2 * (bw * bh)
+natural-sum bw bh z =
+    omega (
+      arith,
+      natural-numbers bw bh z,
+      ap length (natural-parts bw bh),
+      length-append (flat (rows (bw / 8) (bh / 8))) (flat (keep (bw / 8) (bw / bh) (square bw))),
+    )
+
+pub sets-all : (l vs : List ℕ) → length vs ≡ length l → sets l 0 vs ≡ vs
+sets-all l vs e =
+    let z : length l ≤ 0 + length vs = omega arith in
+    sets-eq vs l 0 (omega arith) ∙ ap (λ (r : List ℕ). vs ++ r) (drop-of-length-le l z) ∙ append-nil vs
+
+-- the whole list is the natural order
+pub natural-laid : (bw bh : ℕ) → Size bw bh → (l m : List ℕ) → length l ≡ 2 * (bw * bh) → m ≡ sets l 0 (flat (natural bw bh)) → m ≡ flat (natural bw bh)
+natural-laid bw bh z l m n e = e ∙ sets-all l (flat (natural bw bh)) (natural-numbers bw bh z ∙ sym n)

@@ -1,0 +1,13 @@
+pub mod Symbols
+pub mod Sequence
+pub mod Places
+pub mod Contexts
+pub mod Channel
+pub mod Premises
+pub mod Whole
+pub mod Existence
+pub mod OneToOne
+pub mod Spread
+pub mod Corners
+pub mod Items
+pub mod Demand3

@@ -1,0 +1,82 @@
+use Rattle.permutation.specs.Leading.{leading-start, leading-turn, leading-stop, leading-end}
+use Rattle.permutation.specs.Permuted.{leading}
+use borrow.Author.Needs.{needs}
+use native.Mathlib.Omega.{arith}
+use mathlib.Core.Path.{_≡_, _∙_, ap, sym}
+use mathlib.Core.List.{_++_}
+use Prim.Native.Nat.{ℕ, _≤_, _<_, _-_, _+_, _*_}
+use lib.ListN.{length, getD, take, drop, set, length-set}
+use Rattle.permutation.proofs.digits_below.Statement.{statement}
+use Rattle.permutation.proofs.digits_below.Tie as tie
+use Rattle.permutation.proofs.digits_below.Reads as reads
+use Rattle.permutation.proofs.digits_below.Lts as lts
+use Rattle.permutation.proofs.wide.Reads as wide-reads
+
+abbrev Inv-loop : tie.InvT-loop
+Inv-loop digits left k₀ k = (k ≤ length digits) × (k + leading (drop k digits) (left - k) ≡ leading digits left)
+
+abbrev μ-loop : tie.MeasureT-loop
+μ-loop digits left k₀ k = length digits - k
+
+loop-holds : tie.Need-loop-holds Inv-loop μ-loop
+loop-holds c = let a = c .before .args in (omega arith, omega (arith, leading-start (a .digits .now) (a .left)))
+
+returns : tie.Need-returns Inv-loop μ-loop
+returns c =
+    let a = c .before .before .before .before .args in
+    let l = c .before .before .loop in
+    omega (arith, leading-stop (a .digits .now) (a .left) (l .k) (omega arith) (omega arith))
+
+mul-wide : tie.Need-mul-wide Inv-loop μ-loop
+mul-wide c = search needs
+
+shared-slice-read-wide : tie.Need-shared-slice-read-wide Inv-loop μ-loop
+shared-slice-read-wide c = search needs
+
+wide-requires : tie.Need-wide-requires Inv-loop μ-loop
+wide-requires c κs = search needs
+
+sub-if2 : tie.Need-sub-if2 Inv-loop μ-loop
+sub-if2 c = search needs
+
+returns-2 : tie.Need-returns-2 Inv-loop μ-loop
+returns-2 c =
+    let a = c .before .before .before .before .before .before .before .args in
+    let l = c .before .before .before .before .before .loop in
+    omega (arith, leading-stop (a .digits .now) (a .left) (l .k) (omega arith) (omega arith))
+
+add-k : tie.Need-add-k Inv-loop μ-loop
+add-k c = search needs
+
+loop-less : tie.Need-loop-less Inv-loop μ-loop
+loop-less c = search needs
+
+loop-again : tie.Need-loop-again Inv-loop μ-loop
+loop-again c =
+    let a = c .before .before .before .before .before .before .before .args in
+    let l = c .before .before .before .before .before .loop in
+    (omega arith, omega (arith, leading-turn (a .digits .now) (a .left) (l .k) (omega arith) (omega arith)))
+
+returns-3 : tie.Need-returns-3 Inv-loop μ-loop
+returns-3 c =
+    let a = c .before .before .before .args in
+    let l = c .before .loop in
+    omega (arith, leading-end (a .digits .now) (a .left) (l .k) (omega arith))
+
+pub digits-below-spec : {M : Type 1} → statement M
+digits-below-spec =
+    tie.close
+    (tie.spec
+    Inv-loop
+    μ-loop
+    loop-holds
+    returns
+    mul-wide
+    shared-slice-read-wide
+    wide-requires
+    sub-if2
+    returns-2
+    add-k
+    loop-less
+    loop-again
+    returns-3)

@@ -1,0 +1,72 @@
+-- Digits counted from the front, and numbers tested one by one.
+use mathlib.Core.Path.{_≡_, refl, ap, sym, _∙_}
+use mathlib.Core.Bool.{Bool, true, false, cond}
+use mathlib.Core.List.{List, [], _∷_}
+use Prim.Native.Nat.{ℕ, zero, suc, _+_, _-_, _<_, _≤_}
+use native.Mathlib.Numerals.{add-one}
+use native.Mathlib.Omega.{arith}
+use lib.Dec.{ltb}
+use lib.ListN.{length, getD, drop, drop-of-length-le}
+use lib.Seq.{drop-cons}
+use borrow.Author.Tests.{lt-ltb, le-ltb, ltb-true}
+use Rattle.permutation.specs.Digits.{Below}
+use Rattle.permutation.specs.Permuted.{leading, allBelow}
+
+pub leading-most : (ds : List ℕ) (left : ℕ) → leading ds left ≤ length ds
+unfolding leading
+leading-most [] left = omega arith
+leading-most (d ∷ ds) left = go (ltb d left) (leading-most ds (left - 1))
+  where
+    go : (b : Bool) → leading ds (left - 1) ≤ length ds → cond b (suc (leading ds (left - 1))) 0 ≤ suc (length ds)
+    go true h = omega arith
+    go false h = omega arith
+
+-- all of them
+pub leading-below : (ds : List ℕ) (left : ℕ) → leading ds left ≡ length ds → Below ds left
+unfolding leading
+leading-below [] left e = tt
+leading-below (d ∷ ds) left e = go (ltb d left) refl e (leading-below ds (left - 1))
+  where
+    go : (b : Bool) → ltb d left ≡ b → cond b (suc (leading ds (left - 1))) 0 ≡ suc (length ds) → (leading ds (left - 1) ≡ length ds → Below ds (left - 1)) → (d < left) × Below ds (left - 1)
+    go true t e r = (ltb-true d left t, r (omega arith))
+    go false t e r = absurd (omega arith)
+
+-- one turn, and the ways out, of a count from the front
+module _ (ds : List ℕ) (left k : ℕ) where
+  pub leading-turn : k < length ds → getD ds k 0 < left - k → leading (drop k ds) (left - k) ≡ suc (leading (drop (k + 1) ds) (left - (k + 1)))
+  unfolding leading
+  leading-turn h b =
+      let e : left - k - 1 ≡ left - (k + 1) = omega arith in
+      rw (drop-cons ds k 0 h, lt-ltb (getD ds k 0) (left - k) b, e, add-one k)
+
+  pub leading-stop : k < length ds → left - k ≤ getD ds k 0 → leading (drop k ds) (left - k) ≡ 0
+  unfolding leading
+  leading-stop h b = rw (drop-cons ds k 0 h, le-ltb (getD ds k 0) (left - k) b)
+
+  pub leading-end : length ds ≤ k → leading (drop k ds) (left - k) ≡ 0
+  unfolding leading
+  leading-end h = rw (drop-of-length-le ds h)
+
+pub leading-start : (ds : List ℕ) (left : ℕ) → leading (drop 0 ds) (left - 0) ≡ leading ds left
+leading-start ds left = let e : left - 0 ≡ left = omega arith in rw e
+
+-- a test of every number, one turn and the ways out
+module _ (n : ℕ) (l : List ℕ) (i : ℕ) where
+  pub below-turn : i < length l → getD l i 0 < n → allBelow n (drop i l) ≡ allBelow n (drop (i + 1) l)
+  unfolding allBelow
+  below-turn h b = rw (drop-cons l i 0 h, lt-ltb (getD l i 0) n b, add-one i)
+
+  pub below-stop : i < length l → n ≤ getD l i 0 → allBelow n (drop i l) ≡ false
+  unfolding allBelow
+  below-stop h b = rw (drop-cons l i 0 h, le-ltb (getD l i 0) n b)
+
+  pub below-end : length l ≤ i → allBelow n (drop i l) ≡ true
+  unfolding allBelow
+  below-end h = rw (drop-of-length-le l h)
+
+-- the next digit is below what remains
+pub below-next : (ds : List ℕ) (left k : ℕ) → k < length ds → Below (drop k ds) (left - k) → (getD ds k 0 < left - k) × Below (drop (k + 1) ds) (left - (k + 1))
+below-next ds left k h b =
+    let e : left - k - 1 ≡ left - (k + 1) = omega arith in
+    let f : drop (suc k) ds ≡ drop (k + 1) ds = ap (λ (n : ℕ). drop n ds) (sym (add-one k)) in
+    rw f at (rw e at (rw (drop-cons ds k 0 h) at b))

@@ -1,0 +1,10 @@
+-- digits that choose an order, and what they choose
+pub mod Digits
+pub mod Permuted
+pub mod Chosen
+pub mod Inverse
+pub mod Numbers
+pub mod Leading
+pub mod Flat
+pub mod Moves
+pub mod Permuting
