@@ -9,8 +9,8 @@ use Rattle.filter_strength.specs.declared.Filter.the-variants.{Off, On}
 use Rattle.column_count.specs.Count.{Counted, count, refused}
 use Rattle.hf_metadata.specs.Call.{Answer, accepted, refused as refusedWith, answered, Outcome, leaves}
 use Rattle.hf_metadata.specs.declared.LayoutAnswer.{LayoutAnswer}
-use Rattle.netbuff.specs.declared.layout.LayoutHanded.{LayoutHanded}
-use Rattle.netbuff.specs.declared.layout.CountHanded.{CountHanded}
+use Rattle.netbuff.specs.declared.metadata.LayoutHanded.{LayoutHanded}
+use Rattle.netbuff.specs.declared.metadata.CountHanded.{CountHanded}
 
 -- with the filter off the multiplier is not looked at
 abbrev pub filterOf : Bool → Float → Filter

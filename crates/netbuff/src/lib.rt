@@ -3,7 +3,7 @@
 // through x and y.
 pub mod coefficients;
 pub mod contexts;
-pub mod layout;
+pub mod metadata;
 pub mod orders;
 pub mod reader;
 pub mod record;

@@ -1,6 +1,6 @@
 use borrow.Author.Needs.{needs}
-use Rattle.netbuff.proofs.layout.layout_handed.Statement.{statement}
-use Rattle.netbuff.proofs.layout.layout_handed.Tie as tie
+use Rattle.netbuff.proofs.metadata.layout_handed.Statement.{statement}
+use Rattle.netbuff.proofs.metadata.layout_handed.Tie as tie
 
 enum-known-answer : tie.Need-enum-known-answer
 enum-known-answer c = search needs

@@ -1,8 +1,8 @@
 use Rattle.netbuff.specs.Layout.{handedCount}
 use borrow.Author.Needs.{needs}
 use mathlib.Core.Path.{_∙_, ap}
-use Rattle.netbuff.proofs.layout.netbuff_column_count.Statement.{statement}
-use Rattle.netbuff.proofs.layout.netbuff_column_count.Tie as tie
+use Rattle.netbuff.proofs.metadata.netbuff_column_count.Statement.{statement}
+use Rattle.netbuff.proofs.metadata.netbuff_column_count.Tie as tie
 
 column-count-requires : tie.Need-column-count-requires
 column-count-requires c κs = search needs

@@ -4,8 +4,8 @@ use Rattle.filter_strength.specs.declared.Filter.{Filter}
 use mathlib.Core.List.{[], _∷_}
 use borrow.Author.Needs.{needs}
 use mathlib.Core.Path.{_∙_, ap}
-use Rattle.netbuff.proofs.layout.netbuff_layout.Statement.{statement}
-use Rattle.netbuff.proofs.layout.netbuff_layout.Tie as tie
+use Rattle.netbuff.proofs.metadata.netbuff_layout.Statement.{statement}
+use Rattle.netbuff.proofs.metadata.netbuff_layout.Tie as tie
 
 filter-of-requires : tie.Need-filter-of-requires
 filter-of-requires c κs = search needs

@@ -1,5 +1,5 @@
-use Rattle.netbuff.proofs.layout.filter_of.Statement.{statement}
-use Rattle.netbuff.proofs.layout.filter_of.Tie as tie
+use Rattle.netbuff.proofs.metadata.filter_of.Statement.{statement}
+use Rattle.netbuff.proofs.metadata.filter_of.Tie as tie
 
 returns : tie.Need-returns
 returns c = rw (c .if1 .taken)
