@@ -11,3 +11,4 @@ pub mod Spread
 pub mod Corners
 pub mod Items
 pub mod Demand3
+pub mod Chain

@@ -1,0 +1,93 @@
+-- Demand 3 from the calls' own answers (document 00): an accepted layout, cut; accepted contexts; orders as an accepted order call wrote them.
+use mathlib.Core.Path.{_≡_}
+use mathlib.Core.Bool.{true}
+use mathlib.Core.Logic.{_↔_}
+use mathlib.Core.List.{List}
+use Prim.Native.Nat.{ℕ, _*_, _^_, _<_, _≤_}
+use lib.ListN.{length, getD}
+use lib.Ieee.{Float}
+use Rattle.bits.specs.Bits.{Value}
+use Rattle.bits.specs.Numbers.{Bytes}
+use Rattle.layout.specs.Grid.{at}
+use Rattle.layout.specs.Valid.{Layout, Covers}
+use Rattle.layout.specs.Theorems.{disjoint}
+use Rattle.layout.specs.Cut.{cut, groupWide, groupHigh}
+use Rattle.layout.specs.CutLaws.{cut-layout}
+use Rattle.hf_metadata.specs.Call.{Inputs, layoutOf, accepted}
+use Rattle.accepted_layout.specs.Theorems.{bwOf, bhOf, accepted-layout}
+use Rattle.block_context.specs.Record.{fit}
+use Rattle.hf_block_context.specs.declared.ContextAnswer.the-variants.{Accepted}
+use Rattle.hf_block_context.specs.Call.{parsed}
+use Rattle.hf_block_context.specs.Accepted.{accepted-fit}
+use Rattle.hf_coeff_group.specs.Group.{Grids}
+use Rattle.hf_coeff.specs.Call.{Lent, sidesFit, lengthsFit, readPreset}
+use Rattle.one_to_one.specs.Places.{Words}
+use Rattle.one_to_one.specs.Premises.{cell}
+use Rattle.one_to_one.specs.Demand3.{Written, Fixed, Filling, Fills, theSequence, one-sequence}
+
+-- What the calls before this one gave; the symbols of L do not count.
+pub record Given (L : Lent) : Type 0 where
+  -- group g of what an accepted layout call wrote
+  pub inputs : Inputs
+  pub kinds : List ℕ
+  pub hfMul : List ℕ
+  pub sigma : List Float
+  pub used : ℕ
+  pub layout : layoutOf inputs kinds hfMul sigma .answer ≡ accepted used
+  pub g : ℕ
+  pub isWide : L .pass .width ≡ groupWide (bwOf inputs) g
+  pub isHigh : L .pass .height ≡ groupHigh (bwOf inputs) (bhOf inputs) g
+  pub kindsAre : L .pass .kinds ≡ cut (bwOf inputs) (bhOf inputs) g (layoutOf inputs kinds hfMul sigma .kinds)
+  pub mulsAre : L .pass .muls ≡ cut (bwOf inputs) (bhOf inputs) g (layoutOf inputs kinds hfMul sigma .hfMul)
+  -- the record of an accepted context call
+  pub bytes : List ℕ
+  pub areBytes : Bytes bytes
+  pub count : ℕ
+  pub map : List ℕ
+  pub bitsRead : ℕ
+  pub contexts : parsed bytes count map .answer ≡ Accepted bitsRead
+  pub record-is : L .pass .contexts ≡ parsed bytes count map .contexts
+  -- the rest as in Fixed
+  pub sides : sidesFit (L .pass) ≡ true
+  pub orders : Written (L .pass .store)
+  pub few : L .presets ≤ 256
+  pub preset : ℕ
+  pub bits : ℕ
+  pub readWhole : readPreset L ≡ Value preset bits
+  pub below : preset < L .presets
+  pub lengths : lengthsFit L ≡ true
+  pub three : length (L .grids) ≡ 3
+  pub start : (c p : ℕ) → cell (L .grids) c p < 2 ^ 32
+  pub shift : L .shift ≡ 0
+
+module _ (L : Lent) (given : Given L) where
+  -- the cut of an accepted layout is a layout, and an accepted record is fit
+  pub fixed-by-calls : Fixed L
+  fixed-by-calls = record {
+    sides = given .sides;
+    layout =
+        rw (given .isWide, given .isHigh, given .kindsAre, given .mulsAre)
+        (cut-layout (bwOf (given .inputs)) (bhOf (given .inputs)) (given .g) (layoutOf (given .inputs) (given .kinds) (given .hfMul) (given .sigma) .kinds) (layoutOf (given .inputs) (given .kinds) (given .hfMul) (given .sigma) .hfMul)
+        (accepted-layout (given .inputs) (given .kinds) (given .hfMul) (given .sigma) (given .used) (given .layout)));
+    contexts = rw (given .record-is) (accepted-fit (given .bytes) (given .areBytes) (given .count) (given .map) (given .bitsRead) (given .contexts));
+    orders = given .orders;
+    few = given .few;
+    preset = given .preset;
+    bits = given .bits;
+    readWhole = given .readWhole;
+    below = given .below;
+    lengths = given .lengths;
+    three = given .three;
+    start = given .start;
+    shift = given .shift;
+  }
+
+  -- one sequence and only one, from the calls' answers
+  pub one-sequence-by-calls : (W : Grids) → Filling L W → Words (theSequence L W) × ((s : List ℕ) → Words s → Fills L s W ↔ (s ≡ theSequence L W))
+  one-sequence-by-calls W filling = one-sequence L fixed-by-calls W filling
+
+-- the varblocks are disjoint: rectangles that share a block of the group are one
+module _ (L : Lent) (fixed : Fixed L) where
+  pub apart : (a b c d x y : ℕ) → x < L .pass .width → y < L .pass .height → Covers (at (L .pass .kinds) (L .pass .width)) a b x y
+      → Covers (at (L .pass .kinds) (L .pass .width)) c d x y → (a ≡ c) × (b ≡ d)
+  apart = disjoint (L .pass .width) (L .pass .height) (L .pass .kinds) (L .pass .muls) (fixed .layout)
