@@ -4,6 +4,8 @@
 //! `bench [NAMES..]`: only rows whose name contains one of the names.
 
 #[cfg(live)]
+mod coefficients;
+#[cfg(live)]
 mod contexts;
 #[cfg(live)]
 mod layouts;
@@ -24,6 +26,7 @@ fn main() {
         records::benches(),
         contexts::benches(),
         orders::benches(),
+        coefficients::benches(),
     ];
     for bench in benches.into_iter().flatten() {
         if wanted(&bench.name) {

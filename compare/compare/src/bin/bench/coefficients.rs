@@ -1,0 +1,64 @@
+use calls::{CoefficientsCall, Layout};
+use compare::cases::symbol_stream;
+use compare::make::{self, OrdersAndStore};
+use compare::rng::Rng;
+use jxl_vardct::oracle::CoefficientsRun;
+
+use crate::measure::{plain, Bench};
+
+const DCT8: u8 = 0;
+const DCT32: u8 = 5;
+const DCT64: u8 = 18;
+const DCT256: u8 = 24;
+
+pub fn benches() -> Vec<Bench> {
+    let map = Rng::new(2).bytes(paper::ENTRIES_PER_CLUSTER * 15);
+    let orders: &'static OrdersAndStore = Box::leak(Box::new(OrdersAndStore::new(0, &[], map)));
+    let bench = |name: &str, group, sparseness| bench(orders, name, group, sparseness);
+    let dct8 = || tiled(32, |_| DCT8);
+    let halves = tiled(32, |x| if x < 16 { DCT32 } else { DCT64 });
+    vec![
+        bench("coefficients, 32 x 32 Dct8, dense", dct8(), 1),
+        bench("coefficients, 32 x 32 Dct8, sparse", dct8(), 16),
+        bench("coefficients, 32 x 32, Dct32 and Dct64", halves, 4),
+        bench("coefficients, one Dct256", tiled(32, |_| DCT256), 4),
+        bench("coefficients, 1 x 1 Dct8", tiled(1, |_| DCT8), 4),
+    ]
+}
+
+/// A square group filled with the transforms that `transform` names by x.
+fn tiled(side: usize, transform: impl Fn(usize) -> u8) -> Layout {
+    let mut kinds = vec![0; side * side];
+    let mut hf_mul = vec![0; side * side];
+    for cell in 0..side * side {
+        if kinds[cell] != 0 {
+            continue;
+        }
+        let kind = 2 + transform(cell % side);
+        let (wide, high) = paper::kind_sides(kind).expect("a transform");
+        for row in 0..high {
+            kinds[cell + row * side..][..wide].fill(1);
+        }
+        (kinds[cell], hf_mul[cell]) = (kind, 5);
+    }
+    Layout {
+        wide: side,
+        high: side,
+        kinds,
+        hf_mul,
+    }
+}
+
+fn bench(orders: &'static OrdersAndStore, name: &str, group: Layout, sparseness: usize) -> Bench {
+    let symbols = symbol_stream(&mut Rng::new(4), &group, sparseness);
+    let call = orders.coefficients(group, make::default_contexts(), &symbols);
+    let call: &'static CoefficientsCall = Box::leak(Box::new(call));
+    let run = CoefficientsRun::new(call, &orders.orders);
+    let (mut our_buffers, mut rust_buffers) = (call.buffers.clone(), call.buffers.clone());
+    Bench {
+        name: name.into(),
+        units: (symbols.len(), "symbol"),
+        ours: plain(move || ours::coefficients_into(call, &mut our_buffers)),
+        rust: Some(plain(move || run.run(&mut rust_buffers))),
+    }
+}
