@@ -8,7 +8,7 @@ use native.Mathlib.Nat.{div-lt-iff-lt-mul}
 use lib.Pow.{pow-pos}
 use borrow.Author.Tests.{lt-ltb, le-ltb}
 use lib.ListN.{length, getD, set, drop, drop-of-length-le}
-use lib.Seq.{drop-cons, set-getD}
+use lib.Seq.{drop-cons}
 use Rattle.refusal.specs.declared.Refusal.the-variants.{SymbolsEnd, TooManyZeros}
 use Rattle.bits.specs.Signed.{unpackSigned}
 use Rattle.hf_coeff_walk.specs.Walk.{Walked, ended, stopped, walk, coeffContext, flag, less, gain}
@@ -20,10 +20,6 @@ use Rattle.hf_coeff_walk.specs.declared.place.Spot.{Spot}
 abbrev pub lessOf : ℕ → ℕ → ℕ
 lessOf zero left = left
 lessOf (suc u) left = left - 1
-
-abbrev pub gainCell : ℕ → ℕ → ℕ → ℕ
-gainCell shift old zero = old
-gainCell shift old (suc u) = (old + unpackSigned (suc u) * 2 ^ shift % 2 ^ 32) % 2 ^ 32
 
 abbrev pub answerOf : Walked → Walk
 answerOf (ended us at log g left) = Ended at
@@ -60,10 +56,6 @@ pub record Handed (r : Walk) (log grid : List ℕ) (w : Walked) : Type 0 where
   pub answer : r ≡ answerOf w
   pub logged : log ≡ logOf w
   pub cells : grid ≡ gridOf w
-
-pub gain-cell : (s : ℕ) (g : List ℕ) (p u : ℕ) → set g p (gainCell s (getD g p 0) u) ≡ gain s g p u
-gain-cell s g p zero = set-getD g p 0
-gain-cell s g p (suc u) = refl
 
 less-of : (u n : ℕ) → less u n ≡ lessOf u (suc n)
 less-of zero n = refl
@@ -120,9 +112,9 @@ module _ (shift blocks : ℕ) (part places symbols : List ℕ) (k prev left at :
   pub walk-turn : k < length places → 0 < left → coeffContext blocks (left - 1) k prev < 458 → at < length symbols
       → walk shift blocks part (drop k places) k prev left (drop at symbols) at log g
       ≡ walk shift blocks part (drop (k + 1) places) (k + 1) (flag (getD symbols at 0)) (lessOf (getD symbols at 0) left) (drop (at + 1) symbols) (at + 1)
-      (set log at (getD part (coeffContext blocks (left - 1) k prev) 0)) (set g (getD places k 0) (gainCell shift (getD g (getD places k 0) 0) (getD symbols at 0)))
+      (set log at (getD part (coeffContext blocks (left - 1) k prev) 0)) (gain shift g (getD places k 0) (getD symbols at 0))
   walk-turn h l c s =
-      rw (drop-cons places k 0 h, drop-cons symbols at 0 s, gain-cell shift g (getD places k 0) (getD symbols at 0), add-one k, add-one at) (go left l c)
+      rw (drop-cons places k 0 h, drop-cons symbols at 0 s, add-one k, add-one at) (go left l c)
     where
       u : ℕ
       u = getD symbols at 0
@@ -151,8 +143,8 @@ module _ (u : ℕ) (e : u ≡ 0) where
   pub less-none : (left : ℕ) → lessOf u left ≡ left
   less-none left = rw e
 
-  pub gain-none : (shift old : ℕ) → gainCell shift old u ≡ old
-  gain-none shift old = rw e
+  pub gain-none : (shift : ℕ) (g : List ℕ) (p : ℕ) → gain shift g p u ≡ g
+  gain-none shift g p = rw e
 
 pub flag-one : (u : ℕ) → (u ≡ 0 → ⊥) → 1 ≡ flag u
 flag-one zero n = absurd (n refl)
@@ -162,9 +154,9 @@ pub less-one : (u left : ℕ) → (u ≡ 0 → ⊥) → lessOf u left ≡ left -
 less-one zero left n = absurd (n refl)
 less-one (suc u) left n = refl
 
-pub gain-more : (shift old u : ℕ) → (u ≡ 0 → ⊥) → gainCell shift old u ≡ (old + unpackSigned u * 2 ^ shift % 2 ^ 32) % 2 ^ 32
-gain-more shift old zero n = absurd (n refl)
-gain-more shift old (suc u) n = refl
+pub gain-more : (shift : ℕ) (g : List ℕ) (p u : ℕ) → (u ≡ 0 → ⊥) → gain shift g p u ≡ set g p ((getD g p 0 + unpackSigned u * 2 ^ shift % 2 ^ 32) % 2 ^ 32)
+gain-more shift g p zero n = absurd (n refl)
+gain-more shift g p (suc u) n = refl
 
 -- blocks as a power of two
 pub below-63 : (log n : ℕ) → n < 63 * 2 ^ log → n / 2 ^ log < 63

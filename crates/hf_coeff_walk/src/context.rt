@@ -1,9 +1,9 @@
 // The contexts of coefficients (`hf_coeff.rs`).
 ghost use mathlib.Core.Path.{_≡_};
 ghost use Prim.Native.Nat.{_*_, _^_, _≤_, _<_};
-ghost use Rattle.hf_coeff_walk.specs.Walk.{coeffContext};
+ghost use Rattle.hf_coeff_walk.specs.Walk.{FREQ, NUM-NONZERO, coeffContext};
 
-const COEFF_FREQ_CONTEXT: [u8; 63] = [
+pub const COEFF_FREQ_CONTEXT: [u8; 63] = [
     0,
     1,
     2,
@@ -69,7 +69,7 @@ const COEFF_FREQ_CONTEXT: [u8; 63] = [
     30,
 ];
 
-const COEFF_NUM_NONZERO_CONTEXT: [u8; 63] = [
+pub const COEFF_NUM_NONZERO_CONTEXT: [u8; 63] = [
     0,
     31,
     62,
@@ -142,13 +142,20 @@ fn wide(x: u8) -> usize
 }
 
 // The context at place i when n more are not 0 after this one; 2 to the power `log` blocks.
-pub fn coeff_context(log: usize, n: usize, i: usize, prev: usize) -> usize
-    requires { ⌜ (log ≤ 10) × (n < 63 * 2 ^ log) × (i < 63 * 2 ^ log) × (prev ≤ 1) ⌝ }
+pub fn coeff_context(
+    nonzeros: &[u8; 63],
+    frequencies: &[u8; 63],
+    log: usize,
+    n: usize,
+    i: usize,
+    prev: usize,
+) -> usize
+    requires { ⌜ (now nonzeros ≡ NUM-NONZERO) × (now frequencies ≡ FREQ) × (log ≤ 10) × (n < 63 * 2 ^ log) × (i < 63 * 2 ^ log) × (prev ≤ 1) ⌝ }
     ensures { λ r. ⌜ r ≡ coeffContext (2 ^ log) n i prev ⌝ }
 {
     let a = n >> log;
     let b = i >> log;
-    let x = wide(COEFF_NUM_NONZERO_CONTEXT[a]);
-    let y = wide(COEFF_FREQ_CONTEXT[b]);
+    let x = wide(nonzeros[a]);
+    let y = wide(frequencies[b]);
     (x + y) * 2 + prev
 }

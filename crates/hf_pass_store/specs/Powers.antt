@@ -21,6 +21,12 @@ pub record Power (w : ℕ) : Type 0 where
   pub exponent : ℕ
   pub is : w ≡ 2 ^ exponent
 
+pub zero-below : (v : ℕ) → Power v → 0 < v
+zero-below v p = rw (p .is) (positive (p .exponent))
+  where
+    positive : (k : ℕ) → 0 < 2 ^ k
+    positive k = pow-pos k
+
 EXPONENTS : List (ℕ × ℕ)
 EXPONENTS = (3, 3) ∷ (3, 3) ∷ (4, 4) ∷ (5, 5) ∷ (4, 3) ∷ (5, 3) ∷ (5, 4) ∷ (6, 6) ∷ (6, 5) ∷ (7, 7) ∷ (7, 6) ∷ (8, 8) ∷ (8, 7) ∷ []
 
@@ -49,7 +55,7 @@ unfolding heightOf
 height-power k h = record { exponent = getD EXPONENTS k (0, 0) .1; is = ap (λ (s : ℕ × ℕ). s .1) (size-power k h) }
 
 -- both below a power of two just if their or is
-or-below : (k x y : ℕ) → ltb (bitOr x y) (2 ^ k) ≡ (ltb x (2 ^ k) && ltb y (2 ^ k))
+pub or-below : (k x y : ℕ) → ltb (bitOr x y) (2 ^ k) ≡ (ltb x (2 ^ k) && ltb y (2 ^ k))
 or-below k x y = go (decLt x (2 ^ k)) (decLt y (2 ^ k))
   where
     go : Dec (x < 2 ^ k) → Dec (y < 2 ^ k) → ltb (bitOr x y) (2 ^ k) ≡ (ltb x (2 ^ k) && ltb y (2 ^ k))
@@ -68,13 +74,7 @@ soFar w h xs ys l = ltb xs w && ltb ys h && insideAll w h l
 module _ (w h : ℕ) (pw : Power w) (ph : Power h) (list : List ℕ) where
   pub inside-start : soFar w h 0 0 (drop 0 list) ≡ insideAll w h list
   unfolding soFar
-  inside-start = rw (lt-ltb 0 w (some w pw), lt-ltb 0 h (some h ph))
-    where
-      some : (v : ℕ) → Power v → 0 < v
-      some v p = rw (p .is) (positive (p .exponent))
-        where
-          positive : (k : ℕ) → 0 < 2 ^ k
-          positive k = pow-pos k
+  inside-start = rw (lt-ltb 0 w (zero-below w pw), lt-ltb 0 h (zero-below h ph))
 
   pub inside-turn : (xs ys i : ℕ) → 2 * i + 1 < length list
       → soFar w h xs ys (drop (2 * i) list) ≡ soFar w h (bitOr xs (getD list (2 * i) 0)) (bitOr ys (getD list (2 * i + 1) 0)) (drop (2 * (i + 1)) list)

@@ -11,6 +11,7 @@ ghost use Rattle.hf_pass_store.specs.Store.{stretch, insideAll, placesFi
 ghost use Rattle.hf_pass_store.specs.Offsets.{from};
 ghost use Rattle.hf_pass_store.specs.LookedUp.{stretchAt};
 ghost use Rattle.hf_pass_store.specs.Powers.{Power};
+ghost use Rattle.hf_pass_store.specs.Ors.{orEach};
 ghost use Rattle.hf_pass_store.specs.Naturals.{wholeStore, naturalStore, threeOf};
 
 // The numbers of a whole store: two for each of 393,984 places.
@@ -84,8 +85,8 @@ fn wide(x: u16) -> usize
     x as usize
 }
 
-// Whether each x, y is inside: all x are below a power of two just if the or of all is, and all y likewise.
-fn all_inside(list: &[u16], bw: usize, bh: usize) -> bool
+// Whether each x, y of a few is inside: all x are below a power of two just if the or of all is, and all y likewise.
+fn few_inside(list: &[u16], bw: usize, bh: usize) -> bool
     requires { ⌜ Power bw × Power bh ⌝ }
     ensures { λ r. ⌜ r ≡ insideAll bw bh (now (list .entry)) ⌝ }
 {
@@ -102,6 +103,37 @@ fn all_inside(list: &[u16], bw: usize, bh: usize) -> bool
         return wide(ys) < bh;
     }
     false
+}
+
+// Number by number the or with a part of 64.
+fn or_into(ors: &mut [u16; 64], part: &[u16])
+    requires { ⌜ (length (now ors) ≡ 64) × (length (now part) ≡ 64) ⌝ }
+    ensures { λ r. ⌜ now (ors .exit) ≡ orEach (now (ors .entry)) (now (part .entry)) ⌝ }
+{
+    let mut j = 0;
+    while j < 64 {
+        let v = ors[j] | part[j];
+        ors[j] = v;
+        j += 1;
+    }
+}
+
+// Whether each x, y is inside, 32 places at a time.
+fn all_inside(list: &[u16], bw: usize, bh: usize) -> bool
+    requires { ⌜ Power bw × Power bh ⌝ }
+    ensures { λ r. ⌜ r ≡ insideAll bw bh (now (list .entry)) ⌝ }
+{
+    let mut ors = [0u16; 64];
+    let mut at = 0;
+    while 64 <= list.len() - at {
+        let e = at + 64;
+        or_into(&mut ors, &list[at..e]);
+        at = e;
+    }
+    if !few_inside(&ors, bw, bh) {
+        return false;
+    }
+    few_inside(&list[at..], bw, bh)
 }
 
 // Whether a store is whole and every place of its 39 lists inside its order's size.

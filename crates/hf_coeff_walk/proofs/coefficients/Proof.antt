@@ -1,179 +1,24 @@
-use mathlib.Core.Path.{refl, _≡_, _∙_, sym}
-use Prim.Native.Nat.{_^_, _≤_, _-_, _+_, _*_}
-use Rattle.hf_coeff_walk.specs.Walk.{walk}
-use Rattle.hf_coeff_walk.specs.Places.{paired, placesOf}
-use Rattle.hf_coeff_walk.specs.PlaceLaws.{places-count}
-use Rattle.hf_coeff_walk.specs.Outcome.{walk-used, walk-done, walk-17, walk-15, walk-turn, ends, less-le, flag-le}
+use Rattle.hf_coeff_walk.specs.Walk.{FREQ, NUM-NONZERO}
 use borrow.Author.Needs.{needs}
-use native.Mathlib.Omega.{arith}
-use lib.ListN.{length, getD, drop, length-set}
+use mathlib.Core.Path.{refl}
+use Prim.Native.Nat.{_-_}
+use lib.ListN.{length}
 use Rattle.hf_coeff_walk.proofs.coefficients.Statement.{statement}
 use Rattle.hf_coeff_walk.proofs.coefficients.Tie as tie
+use Rattle.hf_coeff_walk.proofs.walk_places.Reads as walk-places-reads
 
-abbrev Inv-loop : tie.InvT-loop
-Inv-loop order spot symbols start count first part shift log₀ grid₀ at₀ left₀ prev₀ k₀ end log grid at left prev k =
-    (at ≡ start + k)
-    × (left ≤ 63 * 2 ^ (spot .log))
-    × (prev ≤ 1)
-    × (length log ≡ length log₀)
-    × (length grid ≡ length grid₀)
-    × (end ≡ length (placesOf (spot .turn) (spot .row) (spot .x) (spot .y) (paired order)))
-    × (walk shift (2 ^ (spot .log)) part (drop k (placesOf (spot .turn) (spot .row) (spot .x) (spot .y) (paired order))) k prev left (drop at symbols) at log grid
-    ≡ walk shift (2 ^ (spot .log)) part (drop k₀ (placesOf (spot .turn) (spot .row) (spot .x) (spot .y) (paired order))) k₀ prev₀ left₀ (drop at₀ symbols) at₀ log₀ grid₀)
+walk-places-requires : tie.Need-walk-places-requires
+unfolding FREQ NUM-NONZERO
+walk-places-requires c κs = (refl, refl, c .before .before .before .before .before .before .before .before .before .pre)
 
-abbrev μ-loop : tie.MeasureT-loop
-μ-loop order spot symbols start count first part shift log₀ grid₀ at₀ left₀ prev₀ k₀ end log grid at left prev k = end - k
-
-loop-holds : tie.Need-loop-holds Inv-loop μ-loop
-loop-holds c = let a = c .before .before .before .before .before .args in (omega arith, omega arith, omega arith, refl, refl, sym (places-count (a .spot .turn) (a .spot .row) (a .spot .x) (a .spot .y) (a .order .now)), refl)
-
-same-length : tie.Need-same-length Inv-loop μ-loop
+same-length : tie.Need-same-length
 same-length c = search needs
 
-same-length-2 : tie.Need-same-length-2 Inv-loop μ-loop
+same-length-2 : tie.Need-same-length-2
 same-length-2 c = search needs
 
-returns : tie.Need-returns Inv-loop μ-loop
-returns c =
-    let l = c .before .before .loop in
-    let a = c .before .before .before .before .before .before .before .before .args in
-    ends _ _ _ (walk-used (a .shift) (2 ^ (a .spot .log)) (a .part .now) (placesOf (a .spot .turn) (a .spot .row) (a .spot .x) (a .spot .y) (paired (a .order .now))) (a .symbols .now) (l .k) (l .prev) (l .left) (l .at) (l .log) (l .grid) (c .if1 .taken)) (l .inv .6)
-
-sub-coeff-context : tie.Need-sub-coeff-context Inv-loop μ-loop
-sub-coeff-context c = search needs
-
-coeff-context-requires : tie.Need-coeff-context-requires Inv-loop μ-loop
-coeff-context-requires c κs = search needs
-
-same-length-3 : tie.Need-same-length-3 Inv-loop μ-loop
-same-length-3 c = search needs
-
-same-length-4 : tie.Need-same-length-4 Inv-loop μ-loop
-same-length-4 c = search needs
-
-returns-2 : tie.Need-returns-2 Inv-loop μ-loop
-returns-2 c =
-    let l = c .before .before .before .before .loop in
-    let a = c .before .before .before .before .before .before .before .before .before .before .args in
-    ends _ _ _ (walk-17 (a .shift) (2 ^ (a .spot .log)) (a .part .now) (placesOf (a .spot .turn) (a .spot .row) (a .spot .x) (a .spot .y) (paired (a .order .now))) (a .symbols .now) (l .k) (l .prev) (l .left) (l .at) (l .log) (l .grid) (omega arith) (omega arith) (omega arith)) (l .inv .6)
-
-same-length-5 : tie.Need-same-length-5 Inv-loop μ-loop
-same-length-5 c = search needs
-
-same-length-6 : tie.Need-same-length-6 Inv-loop μ-loop
-same-length-6 c = search needs
-
-returns-3 : tie.Need-returns-3 Inv-loop μ-loop
-returns-3 c =
-    let l = c .before .before .before .before .before .loop in
-    let a = c .before .before .before .before .before .before .before .before .before .before .before .args in
-    ends _ _ _ (walk-15 (a .shift) (2 ^ (a .spot .log)) (a .part .now) (placesOf (a .spot .turn) (a .spot .row) (a .spot .x) (a .spot .y) (paired (a .order .now))) (a .symbols .now) (l .k) (l .prev) (l .left) (l .at) (l .log) (l .grid) (omega arith) (omega arith) (omega arith) (omega arith)) (l .inv .6)
-
-mul-u : tie.Need-mul-u Inv-loop μ-loop
-mul-u c = search needs
-
-shared-slice-read-u : tie.Need-shared-slice-read-u Inv-loop μ-loop
-shared-slice-read-u c = search needs
-
-cell-requires : tie.Need-cell-requires Inv-loop μ-loop
-cell-requires c κs = search needs
-
-shared-slice-read-log : tie.Need-shared-slice-read-log Inv-loop μ-loop
-shared-slice-read-log c = search needs
-
-slice-write-log : tie.Need-slice-write-log Inv-loop μ-loop
-slice-write-log c = search needs
-
-mul-gained : tie.Need-mul-gained Inv-loop μ-loop
-mul-gained c = omega (arith, c .before .cell .ensures, c .before .before .before .before .before .before .before .before .before .before .before .before .before .before .pre .inside (c .before .before .before .before .before .before .before .before .loop .k) (omega arith))
-
-slice-read-gained : tie.Need-slice-read-gained Inv-loop μ-loop
-slice-read-gained c = omega (arith, c .before .before .cell .ensures, c .before .before .before .before .before .before .before .before .before .before .before .before .before .before .before .pre .inside (c .before .before .before .before .before .before .before .before .before .loop .k) (omega arith))
-
-gained-requires : tie.Need-gained-requires Inv-loop μ-loop
-gained-requires c κs = search needs
-
-mul-grid : tie.Need-mul-grid Inv-loop μ-loop
-mul-grid c = omega (arith, c .before .before .before .cell .ensures, c .before .before .before .before .before .before .before .before .before .before .before .before .before .before .before .before .pre .inside (c .before .before .before .before .before .before .before .before .before .before .loop .k) (omega arith))
-
-slice-write-grid : tie.Need-slice-write-grid Inv-loop μ-loop
-slice-write-grid c = omega (arith, c .before .before .before .cell .ensures, c .before .before .before .before .before .before .before .before .before .before .before .before .before .before .before .before .pre .inside (c .before .before .before .before .before .before .before .before .before .before .loop .k) (omega arith))
-
-less-requires : tie.Need-less-requires Inv-loop μ-loop
-less-requires c κs = search needs
-
-flagged-requires : tie.Need-flagged-requires Inv-loop μ-loop
-flagged-requires c κs = search needs
-
-add-at : tie.Need-add-at Inv-loop μ-loop
-add-at c = search needs
-
-add-k : tie.Need-add-k Inv-loop μ-loop
-add-k c = search needs
-
-loop-less : tie.Need-loop-less Inv-loop μ-loop
-loop-less c = search needs
-
-loop-again : tie.Need-loop-again Inv-loop μ-loop
-loop-again c =
-    let l = c .before .before .before .before .before .before .before .before .before .before .before .before .loop in
-    let a = c .before .before .before .before .before .before .before .before .before .before .before .before .before .before .before .before .before .before .args in (
-      omega arith,
-      omega (arith, less-le (getD (a .symbols .now) (l .at) 0) (l .left)),
-      rw (c .flagged .ensures) (flag-le (getD (a .symbols .now) (l .at) 0)),
-      simp length-set (omega arith),
-      simp length-set (omega arith),
-      l .inv .5,
-      rw (c .flagged .ensures, c .before .less .ensures, c .before .before .gained .ensures, c .before .before .before .before .before .cell .ensures, c .before .before .before .before .before .before .before .before .before .coeff-context .ensures)
-          (sym (walk-turn (a .shift) (2 ^ (a .spot .log)) (a .part .now) (placesOf (a .spot .turn) (a .spot .row) (a .spot .x) (a .spot .y) (paired (a .order .now))) (a .symbols .now) (l .k) (l .prev) (l .left) (l .at) (l .log) (l .grid) (omega arith) (omega arith) (omega arith) (omega arith)) ∙ l .inv .6),
-    )
-
-same-length-7 : tie.Need-same-length-7 Inv-loop μ-loop
-same-length-7 c = search needs
-
-same-length-8 : tie.Need-same-length-8 Inv-loop μ-loop
-same-length-8 c = search needs
-
-returns-4 : tie.Need-returns-4 Inv-loop μ-loop
-returns-4 c =
-    let l = c .before .loop in
-    let a = c .before .before .before .before .before .before .before .args in
-    ends _ _ _ (walk-done (a .shift) (2 ^ (a .spot .log)) (a .part .now) (placesOf (a .spot .turn) (a .spot .row) (a .spot .x) (a .spot .y) (paired (a .order .now))) (a .symbols .now) (l .k) (l .prev) (l .left) (l .at) (l .log) (l .grid) (omega arith)) (l .inv .6)
+returns : tie.Need-returns
+returns c = search needs
 
 pub coefficients-spec : {M : Type 1} → statement M
-coefficients-spec =
-    tie.close
-    (tie.spec
-    Inv-loop
-    μ-loop
-    loop-holds
-    same-length
-    same-length-2
-    returns
-    sub-coeff-context
-    coeff-context-requires
-    same-length-3
-    same-length-4
-    returns-2
-    same-length-5
-    same-length-6
-    returns-3
-    mul-u
-    shared-slice-read-u
-    cell-requires
-    shared-slice-read-log
-    slice-write-log
-    mul-gained
-    slice-read-gained
-    gained-requires
-    mul-grid
-    slice-write-grid
-    less-requires
-    flagged-requires
-    add-at
-    add-k
-    loop-less
-    loop-again
-    same-length-7
-    same-length-8
-    returns-4)
+coefficients-spec = tie.close (tie.spec walk-places-requires same-length same-length-2 returns)

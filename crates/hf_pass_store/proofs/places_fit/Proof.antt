@@ -4,14 +4,11 @@ use Rattle.hf_pass_store.specs.Store.{placesFit}
 use borrow.Author.Tests.{not-true, not-false}
 use borrow.Author.Needs.{needs}
 use native.Mathlib.Omega.{arith}
-use mathlib.Core.Path.{_≡_, _∙_, ap, sym}
-use mathlib.Core.List.{_++_}
-use Prim.Native.Nat.{ℕ, _≤_, _<_, _-_, _+_, _*_}
-use lib.ListN.{length, getD, take, drop, set, length-set}
+use mathlib.Core.Path.{_≡_, _∙_, sym}
+use Prim.Native.Nat.{_≤_, _-_}
+use lib.ListN.{length, take}
 use Rattle.hf_pass_store.proofs.places_fit.Statement.{statement}
 use Rattle.hf_pass_store.proofs.places_fit.Tie as tie
-use Rattle.hf_pass_store.proofs.places_fit.Reads as reads
-use Rattle.hf_pass_store.proofs.places_fit.Lts as lts
 use Rattle.dct_select.proofs.block_sizes.block_size.Reads as block-size-reads
 use Rattle.hf_pass_store.proofs.all_inside.Reads as all-inside-reads
 

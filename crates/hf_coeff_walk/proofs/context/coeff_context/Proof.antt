@@ -11,14 +11,14 @@ shr-a c = search needs
 shr-b : tie.Need-shr-b
 shr-b c = search needs
 
-array-read-wide : tie.Need-array-read-wide
-array-read-wide c = below-63 (c .args .log) (c .args .n) (omega arith)
+element-copy-out-wide : tie.Need-element-copy-out-wide
+element-copy-out-wide c = below-63 (c .args .log) (c .args .n) (omega arith)
 
 wide-requires : tie.Need-wide-requires
 wide-requires c κs = search needs
 
-array-read-wide-2 : tie.Need-array-read-wide-2
-array-read-wide-2 c = below-63 (c .before .args .log) (c .before .args .i) (omega arith)
+element-copy-out-wide-2 : tie.Need-element-copy-out-wide-2
+element-copy-out-wide-2 c = below-63 (c .before .before .args .log) (c .before .before .args .i) (omega arith)
 
 wide-requires-2 : tie.Need-wide-requires-2
 wide-requires-2 c κs = search needs
@@ -34,7 +34,7 @@ add-result-2 c = search needs
 
 returns : tie.Need-returns
 unfolding coeffContext FREQ NUM-NONZERO
-returns c = rw (c .before .wide .ensures .0, c .wide2 .ensures .0)
+returns c = rw (c .before .before .wide .ensures .0, c .wide2 .ensures .0, c .before .before .before .before .pre .0, c .before .before .before .before .pre .1)
 
 pub coeff-context-spec : {M : Type 1} → statement M
 coeff-context-spec =
@@ -42,9 +42,9 @@ coeff-context-spec =
     (tie.spec
     shr-a
     shr-b
-    array-read-wide
+    element-copy-out-wide
     wide-requires
-    array-read-wide-2
+    element-copy-out-wide-2
     wide-requires-2
     add-result
     mul-result
