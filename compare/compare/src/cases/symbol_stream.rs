@@ -31,7 +31,7 @@ fn places(rng: &mut Rng, places: usize, sparseness: usize, symbols: &mut Vec<u32
         if wanted + leftover == 0 {
             break;
         }
-        let filled = wanted > 0 && rng.below(places - place) < wanted;
+        let filled = wanted > 0 && rng.below(places - leftover - place) < wanted;
         symbols.push(if filled { coefficient(rng) } else { 0 });
         wanted -= usize::from(filled);
     }

@@ -18,7 +18,7 @@ fn bench(name: &str, call: ContextsCall) -> Bench {
         name: name.into(),
         units: (1, "parse"),
         ours: plain(move || ours::contexts_into(&call, &mut record)),
-        rust: Some(plain(move || oracle::contexts(&other).is_ok())),
+        rust: Some(plain(move || oracle::contexts(&other))),
     }
 }
 

@@ -23,7 +23,7 @@ fn bench(name: &str, call: LayoutCall) -> Bench {
         ours: plain(move || ours::layout_into(call, &mut buffers)),
         rust: Some(prepared(
             || LayoutRun::new(call, call.types.len()),
-            |run| run.run().is_ok(),
+            |run| run.run(),
         )),
     }
 }

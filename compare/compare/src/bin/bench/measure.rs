@@ -46,27 +46,28 @@ impl fmt::Display for Row {
     }
 }
 
-/// A side that needs nothing made ready.
-pub fn plain<T>(mut call: impl FnMut() -> T + 'static) -> Side {
+/// A side that needs nothing made ready. Every call must be accepted: a refusal ends early, and its
+/// time says nothing.
+pub fn plain<T, E: fmt::Debug>(mut call: impl FnMut() -> Result<T, E> + 'static) -> Side {
     Box::new(move |times| {
         let start = Instant::now();
         for _ in 0..times {
-            black_box(call());
+            black_box(call()).expect("an accepted call");
         }
         start.elapsed()
     })
 }
 
 /// A side whose every call takes something that was made ready before the clock starts.
-pub fn prepared<P: 'static, T>(
+pub fn prepared<P: 'static, T, E: fmt::Debug>(
     mut prepare: impl FnMut() -> P + 'static,
-    mut call: impl FnMut(P) -> T + 'static,
+    mut call: impl FnMut(P) -> Result<T, E> + 'static,
 ) -> Side {
     Box::new(move |times| {
         let ready: Vec<P> = (0..times).map(|_| prepare()).collect();
         let start = Instant::now();
         for each in ready {
-            black_box(call(each));
+            black_box(call(each)).expect("an accepted call");
         }
         start.elapsed()
     })

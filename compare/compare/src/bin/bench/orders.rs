@@ -36,7 +36,7 @@ fn places() -> Bench {
     Bench {
         name: "stored places".into(),
         units: (STORE_LENGTH / 2, "place"),
-        ours: plain(move || ours::places_fit(&store)),
+        ours: plain(move || ours::places_fit(&store).answer),
         rust: None,
     }
 }
@@ -61,7 +61,7 @@ fn bench(name: &str, call: OrdersCall) -> Bench {
         ours: plain(move || ours::orders_into(&call, &mut our_store)),
         rust: Some(plain(move || {
             let orders = oracle::orders(&other.bytes, &other.symbols, &[]);
-            orders.map(|orders| orders.write(&mut rust_store)).is_ok()
+            orders.map(|orders| orders.write(&mut rust_store))
         })),
     }
 }
