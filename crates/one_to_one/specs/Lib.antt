@@ -17,3 +17,4 @@ pub mod Ways
 pub mod SymbolsRead
 pub mod Plain
 pub mod Witness
+pub mod LowCells

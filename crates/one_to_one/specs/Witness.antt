@@ -35,7 +35,7 @@ use Rattle.block_record.specs.Calls.{inLimits as inLimits32}
 use Rattle.accepted_layout.specs.Theorems.{bwOf, bhOf}
 use Rattle.one_to_one.specs.Symbols.{symbol, pack}
 use Rattle.one_to_one.specs.Sequence.{differing, coeffs, sequence}
-use Rattle.one_to_one.specs.Premises.{cell}
+use Rattle.one_to_one.specs.Premises.{cell, set-below}
 use Rattle.one_to_one.specs.Corners.{InV}
 use Rattle.one_to_one.specs.Items.{Low, LowKept}
 use Rattle.one_to_one.specs.Demand3.{Fixed, Filling, Fills, theSequence, one-sequence}
@@ -138,13 +138,6 @@ given = record {
 -- all premises of demand 3
 pub fixed : Fixed one
 fixed = fixed-by-calls one given
-
-set-below : (l : List ℕ) (i v p m : ℕ) → v < m → getD l p 0 < m → getD (set l i v) p 0 < m
-set-below [] i v p m h k = k
-set-below (x ∷ l) zero v zero m h k = h
-set-below (x ∷ l) zero v (suc p) m h k = k
-set-below (x ∷ l) (suc i) v zero m h k = k
-set-below (x ∷ l) (suc i) v (suc p) m h k = set-below l i v p m h k
 
 -- A filling: in channel 1, cell (0,1) is −2 and cell (2,0) is 2 (M11).
 abbrev pub wanted : Grids

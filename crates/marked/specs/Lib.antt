@@ -1,0 +1,2 @@
+-- document 01's marked examples
+pub mod Coefficients
