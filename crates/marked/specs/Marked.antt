@@ -118,19 +118,43 @@ abbrev pub Each : List Row → Type 0
 Each [] = Unit
 Each (r ∷ rs) = r .says × Each rs
 
-m7 : M7
+row1 : M1
+row1 = m1
+
+row2 : M2
+row2 = m2
+
+row3 : M3
+row3 = one-digit
+
+row4 : M4
+row4 = (m4, m4-varblocks, m4-area)
+
+row5 : M5
+row5 = (m5, m5-refused)
+
+row6 : M6
+row6 = (m6, m6-refused)
+
+row7 : M7
 unfolding layoutOf wideIn highIn inLimits le lt eq reading column judge place scan takeCell rows cells wide high TRANSFORMS scaledFilter sharedFilter mul div ofInt round size span climb units odd trailingZeros
-m7 = refl
+row7 = refl
 
 sigma-same : on one one 1 16777216 .sigma ≡ on one one 1 16777215 .sigma
 unfolding layoutOf wideIn highIn inLimits le lt eq reading column judge place scan takeCell rows cells wide high TRANSFORMS scaledFilter sharedFilter mul div ofInt round size span climb units odd trailingZeros
 sigma-same = refl
 
-m9 : M9
-m9 map log g0 g1 g2 r = (passes-252 map log g0 g1 g2 r, refuses-253 map log g0 g1 g2 r)
+row8 : M8
+row8 = (m8, sigma-same)
 
-m10 : M10
-m10 map symbols log g0 g1 g2 r = (reads-two-bits map symbols log g0 g1 g2 r, refuses-3 map symbols log g0 g1 g2 r, takes-others map symbols log g0 g1 g2 r)
+row9 : M9
+row9 map log g0 g1 g2 r = (passes-252 map log g0 g1 g2 r, refuses-253 map log g0 g1 g2 r)
+
+row10 : M10
+row10 map symbols log g0 g1 g2 r = (reads-two-bits map symbols log g0 g1 g2 r, refuses-3 map symbols log g0 g1 g2 r, takes-others map symbols log g0 g1 g2 r)
+
+row11 : M11
+row11 = six-symbols
 
 infixr 5 _and_
 abbrev _and_ : {A B : Type 0} → A → B → A × B
@@ -138,4 +162,4 @@ a and b = (a, b)
 
 pub marked : Each MARKED
 unfolding MARKED
-marked = m1 and m2 and one-digit and (m4, m4-varblocks, m4-area) and (m5, m5-refused) and (m6, m6-refused) and m7 and (m8, sigma-same) and m9 and m10 and six-symbols and tt
+marked = row1 and row2 and row3 and row4 and row5 and row6 and row7 and row8 and row9 and row10 and row11 and tt
