@@ -3,13 +3,13 @@ use mathlib.Core.Path.{_≡_}
 use mathlib.Core.Bool.{true}
 use mathlib.Core.Logic.{_↔_}
 use mathlib.Core.List.{List}
-use Prim.Native.Nat.{ℕ, _*_, _^_, _<_, _≤_}
-use lib.ListN.{length, getD}
+use Prim.Native.Nat.{ℕ, _^_, _<_, _≤_}
+use lib.ListN.{length}
 use lib.Ieee.{Float}
 use Rattle.bits.specs.Bits.{Value}
 use Rattle.bits.specs.Numbers.{Bytes}
 use Rattle.layout.specs.Grid.{at}
-use Rattle.layout.specs.Valid.{Layout, Covers}
+use Rattle.layout.specs.Valid.{Covers}
 use Rattle.layout.specs.Theorems.{disjoint}
 use Rattle.layout.specs.Cut.{cut, groupWide, groupHigh}
 use Rattle.layout.specs.CutLaws.{cut-layout}
@@ -19,6 +19,7 @@ use Rattle.block_context.specs.Record.{fit}
 use Rattle.hf_block_context.specs.declared.ContextAnswer.the-variants.{Accepted}
 use Rattle.hf_block_context.specs.Call.{parsed}
 use Rattle.hf_block_context.specs.Accepted.{accepted-fit}
+use Rattle.hf_pass.specs.Wrote.{Wrote, behind}
 use Rattle.hf_coeff_group.specs.Group.{Grids}
 use Rattle.hf_coeff.specs.Call.{Lent, sidesFit, lengthsFit, readPreset}
 use Rattle.one_to_one.specs.Places.{Words}
@@ -47,9 +48,10 @@ pub record Given (L : Lent) : Type 0 where
   pub bitsRead : ℕ
   pub contexts : parsed bytes count map .answer ≡ Accepted bitsRead
   pub record-is : L .pass .contexts ≡ parsed bytes count map .contexts
+  -- the store of an accepted order call
+  pub orders : Wrote (L .pass .store)
   -- the rest as in Fixed
   pub sides : sidesFit (L .pass) ≡ true
-  pub orders : Written (L .pass .store)
   pub few : L .presets ≤ 256
   pub preset : ℕ
   pub bits : ℕ
@@ -59,6 +61,12 @@ pub record Given (L : Lent) : Type 0 where
   pub three : length (L .grids) ≡ 3
   pub start : (c p : ℕ) → cell (L .grids) c p < 2 ^ 32
   pub shift : L .shift ≡ 0
+
+-- the lists behind an accepted order call
+pub written-by-call : (store : List ℕ) → Wrote store → Written store
+written-by-call store w =
+    let b = behind store w in
+    record { used = b .used; symbols = b .symbols; lists = b .lists; rest = b .left; read = b .count; given = b .given; stores = b .is }
 
 module _ (L : Lent) (given : Given L) where
   -- the cut of an accepted layout is a layout, and an accepted record is fit
@@ -70,7 +78,7 @@ module _ (L : Lent) (given : Given L) where
         (cut-layout (bwOf (given .inputs)) (bhOf (given .inputs)) (given .g) (layoutOf (given .inputs) (given .kinds) (given .hfMul) (given .sigma) .kinds) (layoutOf (given .inputs) (given .kinds) (given .hfMul) (given .sigma) .hfMul)
         (accepted-layout (given .inputs) (given .kinds) (given .hfMul) (given .sigma) (given .used) (given .layout)));
     contexts = rw (given .record-is) (accepted-fit (given .bytes) (given .areBytes) (given .count) (given .map) (given .bitsRead) (given .contexts));
-    orders = given .orders;
+    orders = written-by-call (L .pass .store) (given .orders);
     few = given .few;
     preset = given .preset;
     bits = given .bits;

@@ -96,7 +96,7 @@ pub record Fills (L : Lent) (s : List ℕ) (W : Grids) : Type 0 where
 unfoldable pub theSequence : Lent → Grids → List ℕ
 theSequence L W = sequence (itemsOf (L .pass) (varblocks (L .pass))) (L .grids) W
 
-written-ordered : (P : Pass) → Written (P .store) → Ordered P
+pub written-ordered : (P : Pass) → Written (P .store) → Ordered P
 written-ordered P w k c h l =
     let l₀ = getD (w .lists) (3 * k + c) [] in
     let e : stretch (P .store) k c ≡ flat l₀ =

@@ -294,6 +294,36 @@ module _ (P : Pass) (lay : LaidOut P) (ord : Ordered P) where
           cases (yes a) (no b) = inr (place (λ (x : dx < wide (v .type)). λ (y : dy < high (v .type)). b y))
           cases (no a) b = inr (place (λ (x : dx < wide (v .type)). λ (y : dy < high (v .type)). a x))
 
+  -- and never both
+  pub low-not-held : (c p : ℕ) → Low P p → Holds (itemsOf P (varblocks P)) c p → ⊥
+  low-not-held c p l h = in-it (held P (varblocks P) c p h)
+    where
+      in-it : (v : Varblock) × InV v (varblocks P) × (c < 3) × In p (placesAt P v c) → ⊥
+      in-it s =
+          let v = s .0 in let i = s .1 in let hc = s .2 in
+          let u = l .of in
+          let t = turns (v .type) in
+          let r = in-place t (8 * P .width) (8 * v .x) (8 * v .y) (rest v i c hc) p (s .3) in
+          let q = r .0 in
+          let px : p % (8 * P .width) ≡ 8 * v .x + across t q =
+          ap (λ (x : ℕ). x % (8 * P .width)) (r .2) ∙ cell-column t (8 * P .width) (8 * v .x) (8 * v .y) q (in-row v i c hc q (r .1)) in
+          let py : p / (8 * P .width) ≡ 8 * v .y + down t q =
+          ap (λ (x : ℕ). x / (8 * P .width)) (r .2) ∙ cell-row t (8 * P .width) (8 * v .x) (8 * v .y) q (in-row v i c hc q (r .1)) in
+          let a = l .left in let b = l .right in let d = l .top in let e = l .bottom in
+          let cv = places-covered v i c hc p (s .3) in
+          let cu = covers u (l .there) (p % (8 * P .width) / 8) (p / (8 * P .width) / 8) (omega arith) (omega arith) (omega arith) (omega arith) in
+          let x₀ = cu .toX in let y₀ = cu .toY in
+          let xr = right u (l .there) in let yb = bottom u (l .there) in
+          let o = lay .valid .owned (p % (8 * P .width) / 8) (p / (8 * P .width) / 8) (omega arith) (omega arith) in
+          let m = o .only (v .x) (v .y) cv in
+          let n = o .only (u .x) (u .y) cu in
+          let ex : u .x ≡ v .x = n .0 ∙ sym (m .0) in
+          let ey : u .y ≡ v .y = n .1 ∙ sym (m .1) in
+          let et : u .type ≡ v .type = type-is u (l .there) ∙ ap₂ (λ (x y : ℕ). K x y - 2) ex ey ∙ sym (type-is v i) in
+          let w : wide (u .type) ≡ wide (v .type) = ap wide et in
+          let g : high (u .type) ≡ high (v .type) = ap high et in
+          spread v i c hc .upper q (r .1) (omega arith) (omega arith)
+
   -- so grids that agree in the low-frequency cells agree wherever there is no place
   pub off-low : (G W : Grids) → Sized P G → Sized P W → LowKept P G W → Off (itemsOf P (varblocks P)) G W
   off-low G W sg sw kept c p n = channel (decLt c 3)

@@ -12,3 +12,9 @@ pub mod Corners
 pub mod Items
 pub mod Demand3
 pub mod Chain
+pub mod Logging
+pub mod Ways
+pub mod SymbolsRead
+pub mod Plain
+pub mod Witness
+pub mod LowCells

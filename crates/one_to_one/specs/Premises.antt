@@ -2,7 +2,7 @@
 use mathlib.Core.Path.{_≡_, refl, sym}
 use mathlib.Core.Logic.{_⊎_, inl, inr}
 use mathlib.Core.List.{List, [], _∷_}
-use Prim.Native.Nat.{ℕ, _*_, _^_, _<_, _≤_}
+use Prim.Native.Nat.{ℕ, zero, suc, _*_, _^_, _<_, _≤_}
 use native.Mathlib.Omega.{arith}
 use native.Mathlib.Decide.{ℕ-discrete}
 use lib.ListN.{length, getD, set, length-set}
@@ -68,6 +68,13 @@ pub same-shape : (G H : Grids) → Shape G H → ((c p : ℕ) → cell G c p ≡
 same-shape G H s e =
     ext-getD [] G H (s .count) (λ (c : ℕ). λ (h : c < length G).
     ext-getD 0 (getD G c []) (getD H c []) (s .sizes c) (λ (p : ℕ). λ (i : p < length (getD G c [])). e c p))
+
+pub set-below : (l : List ℕ) (i v p m : ℕ) → v < m → getD l p 0 < m → getD (set l i v) p 0 < m
+set-below [] i v p m h k = k
+set-below (x ∷ l) zero v zero m h k = h
+set-below (x ∷ l) zero v (suc p) m h k = k
+set-below (x ∷ l) (suc i) v zero m h k = k
+set-below (x ∷ l) (suc i) v (suc p) m h k = set-below l i v p m h k
 
 -- one grid written anew
 module _ (G : Grids) (c : ℕ) (g : List ℕ) where

@@ -1,0 +1,4 @@
+-- document 01's marked examples
+pub mod Orders
+pub mod Coefficients
+pub mod Marked

@@ -1,0 +1,165 @@
+-- Document 01's marked examples, as rows of one list under one theorem.
+use mathlib.Core.Path.{_≡_, refl}
+use mathlib.Core.Bool.{false}
+use mathlib.Core.List.{List, [], _∷_, _++_}
+use Prim.Native.Nat.{ℕ, _*_, _%_, _^_, _-_, _<_}
+use lib.IntN.{pos, negsuc}
+use lib.ListN.{length, getD, take, drop, replicate}
+use lib.Ieee.{Float, fin, le, lt, eq, mul, div, ofInt, round, size, span, climb, units, odd}
+use lib.Count.{trailingZeros}
+use Rattle.refusal.specs.declared.Refusal.the-variants.{Preset, Count}
+use Rattle.refusal.specs.Said.{at}
+use Rattle.bits.specs.Bits.{Value}
+use Rattle.dct_select.specs.Transforms.{TRANSFORMS, wide, high}
+use Rattle.natural_order.specs.Natural.{natural}
+use Rattle.layout.specs.Walk.{cells, rows}
+use Rattle.layout.specs.Varblocks.{varblocksOf, area}
+use Rattle.lf_group.specs.Blocks.{wideIn, highIn}
+use Rattle.filter_strength.specs.declared.Filter.the-variants.{On}
+use Rattle.filter_strength.specs.Strength.{zero32, nearest, scaledFilter, sharedFilter, m8}
+use Rattle.filter_strength.specs.Limits.{inLimits}
+use Rattle.hf_metadata.specs.Scan.{takeCell, scan}
+use Rattle.hf_metadata.specs.Reading.{place, judge, column, reading}
+use Rattle.hf_metadata.specs.Call.{Outcome, accepted, refused, inputs, layoutOf}
+use Rattle.accepted_layout.specs.Marked.{off, varblock, m4, m4-varblocks, m4-area, m5, m5-refused, m6, m6-refused}
+use Rattle.hf_pass_store.specs.Store.{PLACES, stretch}
+use Rattle.hf_pass.specs.Call.{parsed}
+use Rattle.hf_pass.specs.Marked.{m1, m2}
+use Rattle.hf_coeff.specs.declared.CoeffAnswer.the-variants.{Accepted, Refused}
+use Rattle.hf_coeff.specs.Call.{leaves, outcome, refuse, readPreset, call, reading as readingWith}
+use Rattle.marked.specs.Orders.{one-digit}
+use Rattle.marked.specs.Coefficients.{gains, dct8, dct16, Room, passes-252, refuses-253, reads-two-bits, refuses-3, takes-others, six-symbols}
+
+-- M1 natural 8 × 8 starts (0,0) (1,0) (0,1) (0,2) (1,1) (2,0)
+abbrev pub M1 : Type 0
+M1 = take 6 (natural 8 8) ≡ (0, 0) ∷ (1, 0) ∷ (0, 1) ∷ (0, 2) ∷ (1, 1) ∷ (2, 0) ∷ []
+
+-- M2 16 × 8: (0,0) (1,0) (0,1) (2,0) (3,0) (1,1)
+abbrev pub M2 : Type 0
+M2 = take 6 (natural 16 8) ≡ (0, 0) ∷ (1, 0) ∷ (0, 1) ∷ (2, 0) ∷ (3, 0) ∷ (1, 1) ∷ []
+
+-- M3 order 0, length 1, digit 1: (0,0) (0,1) (1,0) (0,2). The order call is lent order 0 as the only one used (13 bits: 1), these symbols
+-- for channel 0 and length 0 for channels 1 and 2; the store is looked up for order 0, channel 0.
+abbrev pub M3 : Type 0
+M3 = (earlier : List ℕ) → length earlier ≡ 2 * PLACES
+    → take 8 (stretch (parsed (7 ∷ 0 ∷ []) (1 ∷ 1 ∷ 0 ∷ 0 ∷ []) earlier .store) 0 0) ≡ 0 ∷ 0 ∷ 0 ∷ 1 ∷ 1 ∷ 0 ∷ 0 ∷ 2 ∷ []
+
+-- M4 the lister's layout: 16 × 16 pixels and columns (6,4) (0,0) (0,2)
+abbrev pub M4 : Type 0
+M4 = (off 2 2 (6 ∷ 0 ∷ 0 ∷ []) (4 ∷ 0 ∷ 2 ∷ []) ≡ record { answer = accepted 3; kinds = 8 ∷ 2 ∷ 1 ∷ 2 ∷ []; hfMul = 5 ∷ 1 ∷ 0 ∷ 3 ∷ []; sigma = replicate 4 zero32 })
+    × (varblocksOf 2 2 (8 ∷ 2 ∷ 1 ∷ 2 ∷ []) (5 ∷ 1 ∷ 0 ∷ 3 ∷ []) ≡ varblock 0 0 6 5 ∷ varblock 1 0 0 1 ∷ varblock 1 1 0 3 ∷ [])
+    × (area (varblock 0 0 6 5 ∷ varblock 1 0 0 1 ∷ varblock 1 1 0 3 ∷ []) ≡ 4)
+
+-- M5 mul 0 gives 1, −1 refused
+abbrev pub M5 : Type 0
+M5 = (off 1 1 (0 ∷ []) (0 ∷ []) .hfMul ≡ 1 ∷ []) × (off 1 1 (0 ∷ []) (4294967295 ∷ []) .answer ≡ refused (at 6 0 0))
+
+-- M6 x = 30, type 7 passes, 31 refused
+abbrev pub M6 : Type 0
+M6 = (off 32 1 (replicate 16 7) (replicate 16 0) .answer ≡ accepted 16) × (off 33 1 (0 ∷ replicate 16 7) (replicate 17 0) .answer ≡ refused (at 7 31 0))
+
+-- the layout call over one block of type 0, filter on: multiplier, look-up number, scale, mul
+abbrev pub on : Float → Float → ℕ → ℕ → Outcome
+on multiplier look scale mul =
+    layoutOf (inputs 8 8 (0 ∷ 0 ∷ 0 ∷ []) (0 ∷ []) (mul ∷ []) (0 ∷ []) (On multiplier) (replicate 8 look) scale) (0 ∷ []) (0 ∷ []) (zero32 ∷ [])
+
+-- 0.5, 1.0 and 2.0
+abbrev pub half : Float
+half = fin false 1 (negsuc 0)
+
+abbrev pub one : Float
+one = fin false 1 (pos 0)
+
+abbrev pub two : Float
+two = fin false 1 (pos 1)
+
+-- M7 multiplier 0.5, scale 32,768, hf_mul 4, look-up 2.0: 0.5
+abbrev pub M7 : Type 0
+M7 = on half two 32768 3 .sigma ≡ half ∷ []
+
+-- M8 hf_mul 16,777,217 becomes 16,777,216: as an f32 it is 2^24, and sigma is that of hf_mul 16,777,216
+abbrev pub M8 : Type 0
+M8 = (nearest 16777217 ≡ fin false 1 (pos 24)) × (on one one 1 16777216 .sigma ≡ on one one 1 16777215 .sigma)
+
+-- M9 count 252 for type 4 passes, 253 refused: 252, as many symbols that are not 0, and counts 0 for the other channels are accepted
+abbrev pub M9 : Type 0
+M9 = (map log g0 g1 g2 : List ℕ) → Room 1 4 map log g0 g1 g2
+    → (call (dct16 map (252 ∷ (replicate 252 2 ++ (0 ∷ 0 ∷ []))) log g0 g1 g2) .answer ≡ Accepted 255)
+    × ((us : List ℕ) → call (dct16 map (253 ∷ us) log g0 g1 g2) .answer ≡ Refused (Count 1))
+
+-- M10 three presets: two bits, 3 refused (14, two bits read, nothing written), 0 to 2 read with
+abbrev pub M10 : Type 0
+M10 = (map symbols log g0 g1 g2 : List ℕ) → Room 3 1 map log g0 g1 g2
+    → ((b : ℕ) (rest : List ℕ) → readPreset (dct8 3 map (b ∷ rest) symbols log g0 g1 g2) ≡ Value (b % 4) 2)
+    × ((rest : List ℕ) → call (dct8 3 map (3 ∷ rest) symbols log g0 g1 g2) ≡ refuse (dct8 3 map (3 ∷ rest) symbols log g0 g1 g2) (Preset 2))
+    × ((n : ℕ) (rest : List ℕ) → n < 3 → call (dct8 3 map (n ∷ rest) symbols log g0 g1 g2) ≡ outcome (readingWith (dct8 3 map (n ∷ rest) symbols log g0 g1 g2) n))
+
+-- M11 one Dct8, default contexts, symbols 2, 3, 0, 4, 0, 0: in channel 1 (0,1) gains −2, (2,0) gains 2; contexts (places in the preset's
+-- stretch, whose bytes are logged) 300, 618, 558, 559, 307, 307. Whatever map, log and grids held; cell (x, y) is 8 y + x.
+abbrev pub M11 : Type 0
+M11 = (map log g0 g1 g2 : List ℕ) → Room 1 1 map log g0 g1 g2
+    → call (dct8 1 map [] (2 ∷ 3 ∷ 0 ∷ 4 ∷ 0 ∷ 0 ∷ []) log g0 g1 g2)
+    ≡ leaves (Accepted 6) (getD map 300 0 ∷ getD map 618 0 ∷ getD map 558 0 ∷ getD map 559 0 ∷ getD map 307 0 ∷ getD map 307 0 ∷ drop 6 log)
+    g0 (gains (gains g1 8 (2 ^ 32 - 2)) 2 2) g2
+
+-- number and statement of a marked example
+pub record Row : Type 1 where
+  pub number : ℕ
+  pub says : Type 0
+
+abbrev m : ℕ → Type 0 → Row
+m number says = record { number = number; says = says }
+
+unfoldable pub MARKED : List Row
+MARKED = m 1 M1 ∷ m 2 M2 ∷ m 3 M3 ∷ m 4 M4 ∷ m 5 M5 ∷ m 6 M6 ∷ m 7 M7 ∷ m 8 M8 ∷ m 9 M9 ∷ m 10 M10 ∷ m 11 M11 ∷ []
+
+-- each row of a list
+abbrev pub Each : List Row → Type 0
+Each [] = Unit
+Each (r ∷ rs) = r .says × Each rs
+
+row1 : M1
+row1 = m1
+
+row2 : M2
+row2 = m2
+
+row3 : M3
+row3 = one-digit
+
+row4 : M4
+row4 = (m4, m4-varblocks, m4-area)
+
+row5 : M5
+row5 = (m5, m5-refused)
+
+row6 : M6
+row6 = (m6, m6-refused)
+
+row7 : M7
+unfolding layoutOf wideIn highIn inLimits le lt eq reading column judge place scan takeCell rows cells wide high TRANSFORMS scaledFilter sharedFilter mul div ofInt round size span climb units odd trailingZeros
+row7 = refl
+
+sigma-same : on one one 1 16777216 .sigma ≡ on one one 1 16777215 .sigma
+unfolding layoutOf wideIn highIn inLimits le lt eq reading column judge place scan takeCell rows cells wide high TRANSFORMS scaledFilter sharedFilter mul div ofInt round size span climb units odd trailingZeros
+sigma-same = refl
+
+row8 : M8
+row8 = (m8, sigma-same)
+
+row9 : M9
+row9 map log g0 g1 g2 r = (passes-252 map log g0 g1 g2 r, refuses-253 map log g0 g1 g2 r)
+
+row10 : M10
+row10 map symbols log g0 g1 g2 r = (reads-two-bits map symbols log g0 g1 g2 r, refuses-3 map symbols log g0 g1 g2 r, takes-others map symbols log g0 g1 g2 r)
+
+row11 : M11
+row11 = six-symbols
+
+infixr 5 _and_
+abbrev _and_ : {A B : Type 0} → A → B → A × B
+a and b = (a, b)
+
+pub marked : Each MARKED
+unfolding MARKED
+marked = row1 and row2 and row3 and row4 and row5 and row6 and row7 and row8 and row9 and row10 and row11 and tt

@@ -1,0 +1,191 @@
+-- The premises of demand 3 can be met together: one Dct8 block, as the layout, cut, context and order calls hand it on, starting grids of
+-- zeros; and the symbols of a filling of its cells.
+use mathlib.Core.Path.{_≡_, refl, ap, sym, _∙_}
+use mathlib.Core.Bool.{true}
+use mathlib.Core.Logic.{inl, inr}
+use mathlib.Core.List.{List, [], _∷_}
+use Prim.Native.Nat.{ℕ, zero, suc, _+_, _*_, _^_, _-_, _/_, _%_, _<_}
+use native.Mathlib.Omega.{arith}
+use lib.Dec.{eqb}
+use lib.ListN.{length, getD, set, replicate}
+use lib.Ieee.{le, lt, eq}
+use borrow.Author.Tests.{eq-eqb}
+use Rattle.bits.specs.Bits.{Value, readBits, bitsOf, valueOf}
+use Rattle.bits.specs.Exponent.{exponentFrom}
+use Rattle.dct_select.specs.Transforms.{TRANSFORMS, wide, high, orderOf, turns}
+use Rattle.natural_order.specs.Natural.{natural}
+use Rattle.layout.specs.Walk.{cells, rows}
+use Rattle.layout.specs.Varblocks.{Varblock, cornersRow, cornersFrom}
+use Rattle.layout.specs.Grid.{rowOf, gridFrom}
+use Rattle.layout.specs.Cut.{cut, groupX, groupY, groupWide, groupHigh}
+use Rattle.lf_group.specs.Blocks.{wideIn, highIn}
+use Rattle.filter_strength.specs.declared.Filter.the-variants.{Off}
+use Rattle.filter_strength.specs.Strength.{zero32, scaledFilter, sharedFilter}
+use Rattle.filter_strength.specs.Limits.{inLimits}
+use Rattle.hf_metadata.specs.Scan.{takeCell, scan}
+use Rattle.hf_metadata.specs.Reading.{place, judge, column, reading}
+use Rattle.hf_metadata.specs.Call.{Inputs, inputs, layoutOf, accepted}
+use Rattle.hf_pass_store.specs.Store.{PLACES}
+use Rattle.hf_block_context.specs.Call.{stored as contextsOf}
+use Rattle.hf_coeff_walk.specs.Places.{paired, placesOf}
+use Rattle.hf_coeff_group.specs.Pass.{varblocks, itemOf, itemsOf}
+use Rattle.hf_coeff_group.specs.Group.{Grids}
+use Rattle.hf_coeff.specs.Call.{Lent, sidesFit, lengthsFit, readPreset}
+use Rattle.block_record.specs.Calls.{inLimits as inLimits32}
+use Rattle.accepted_layout.specs.Theorems.{bwOf, bhOf}
+use Rattle.one_to_one.specs.Symbols.{symbol, pack}
+use Rattle.one_to_one.specs.Sequence.{differing, coeffs, sequence}
+use Rattle.one_to_one.specs.Premises.{cell, set-below}
+use Rattle.one_to_one.specs.Corners.{InV}
+use Rattle.one_to_one.specs.Items.{Low, LowKept}
+use Rattle.one_to_one.specs.Demand3.{Fixed, Filling, Fills, theSequence, one-sequence}
+use Rattle.one_to_one.specs.Chain.{Given, fixed-by-calls}
+use Rattle.one_to_one.specs.Plain.{store, store-long, order-0, store-wrote, defaults, defaults-read, plain}
+
+abbrev zeros : Grids
+zeros = replicate 64 0 ∷ replicate 64 0 ∷ replicate 64 0 ∷ []
+
+-- one block, Dct8, hf_mul 1
+abbrev pub one : Lent
+one = record {
+  pass = plain 1 1 (2 ∷ []) (1 ∷ []);
+  presets = 1;
+  clusterMap = replicate 7425 0;
+  shift = 0;
+  bytes = [];
+  symbols = [];
+  log = replicate 192 0;
+  grids = zeros;
+}
+
+-- 8 × 8 pixels, modes 0, one column (0,0), filter off
+abbrev pub columns : Inputs
+columns = inputs 8 8 (0 ∷ 0 ∷ 0 ∷ []) (0 ∷ []) (0 ∷ []) (0 ∷ []) Off (replicate 8 zero32) 1
+
+layout-accepted : layoutOf columns (0 ∷ []) (0 ∷ []) (zero32 ∷ []) ≡ record { answer = accepted 1; kinds = 2 ∷ []; hfMul = 1 ∷ []; sigma = zero32 ∷ [] }
+unfolding layoutOf wideIn highIn inLimits le lt eq reading column judge place scan takeCell rows cells wide high TRANSFORMS scaledFilter sharedFilter
+layout-accepted = refl
+
+lengths-fit : lengthsFit one ≡ true
+unfolding contextsOf
+lengths-fit = rw (eq-eqb (length store) (2 * PLACES) store-long)
+
+all-zero : (n p : ℕ) → getD {A = ℕ} (replicate n 0) p 0 ≡ 0
+all-zero zero p = refl
+all-zero (suc n) zero = refl
+all-zero (suc n) (suc p) = all-zero n p
+
+zero-cells : (c p : ℕ) → cell zeros c p < 2 ^ 32
+zero-cells zero p = omega (arith, all-zero 64 p)
+zero-cells (suc zero) p = omega (arith, all-zero 64 p)
+zero-cells (suc (suc zero)) p = omega (arith, all-zero 64 p)
+zero-cells (suc (suc (suc c))) p = omega arith
+
+sides-are : (_≡_ {A = ℕ} 1 (groupWide (bwOf columns) 0)) × (_≡_ {A = ℕ} 1 (groupHigh (bwOf columns) (bhOf columns) 0))
+unfolding wideIn highIn groupX groupY
+sides-are = (refl, refl)
+
+cut-whole : (n : ℕ) → cut (bwOf columns) (bhOf columns) 0 (n ∷ []) ≡ n ∷ []
+unfolding cut wideIn highIn groupX groupY gridFrom rowOf
+cut-whole n = refl
+
+one-sided : sidesFit (one .pass) ≡ true
+unfolding inLimits32
+one-sided = refl
+
+no-bits : readPreset one ≡ Value 0 0
+unfolding readBits bitsOf valueOf exponentFrom
+no-bits = refl
+
+a-byte : (i : ℕ) → getD (1 ∷ []) i 0 < 256
+a-byte zero = omega arith
+a-byte (suc i) = omega arith
+
+-- what the calls gave
+pub given : Given one
+given = record {
+  inputs = columns;
+  kinds = 0 ∷ [];
+  hfMul = 0 ∷ [];
+  sigma = zero32 ∷ [];
+  used = 1;
+  layout = ap (λ o. o .answer) layout-accepted;
+  g = 0;
+  isWide = sides-are .0;
+  isHigh = sides-are .1;
+  kindsAre = sym (ap (λ o. cut (bwOf columns) (bhOf columns) 0 (o .kinds)) layout-accepted ∙ cut-whole 2);
+  mulsAre = sym (ap (λ o. cut (bwOf columns) (bhOf columns) 0 (o .hfMul)) layout-accepted ∙ cut-whole 1);
+  bytes = 1 ∷ [];
+  areBytes = a-byte;
+  count = 0;
+  map = [];
+  bitsRead = 1;
+  contexts = ap (λ r. r .answer) defaults-read;
+  record-is = sym (ap (λ r. r .contexts) defaults-read);
+  orders = store-wrote;
+  sides = one-sided;
+  few = omega arith;
+  preset = 0;
+  bits = 0;
+  readWhole = no-bits;
+  below = omega arith;
+  lengths = lengths-fit;
+  three = refl;
+  start = zero-cells;
+  shift = refl;
+}
+
+-- all premises of demand 3
+pub fixed : Fixed one
+fixed = fixed-by-calls one given
+
+-- A filling: in channel 1, cell (0,1) is −2 and cell (2,0) is 2 (M11).
+abbrev pub wanted : Grids
+wanted = replicate 64 0 ∷ set (set (replicate 64 0) 8 (2 ^ 32 - 2)) 2 2 ∷ replicate 64 0 ∷ []
+
+corner-cell : (p : ℕ) → Low (one .pass) p → p ≡ 0
+unfolding cornersRow cornersFrom wide high TRANSFORMS
+corner-cell p l = go (l .of) (l .there) (l .right) (l .bottom)
+  where
+    go : (v : Varblock) → InV v (varblocks (one .pass)) → p % 8 < 8 * v .x + wide (v .type) → p / 8 < 8 * v .y + high (v .type) → p ≡ 0
+    go v (inl e) a b =
+        let x : v .x ≡ 0 = ap (λ (u : Varblock). u .x) e in
+        let y : v .y ≡ 0 = ap (λ (u : Varblock). u .y) e in
+        let w : wide (v .type) ≡ 1 = ap (λ (u : Varblock). wide (u .type)) e in
+        let h : high (v .type) ≡ 1 = ap (λ (u : Varblock). high (u .type)) e in
+        omega arith
+    go v (inr e) a b = absurd e
+
+pub filling : Filling one wanted
+filling = record { sized = record { three = refl; cells = sizes }; words = words; low = low }
+  where
+    sizes : (c : ℕ) → c < 3 → length (getD wanted c []) ≡ 64
+    sizes zero h = refl
+    sizes (suc zero) h = refl
+    sizes (suc (suc zero)) h = refl
+    sizes (suc (suc (suc c))) h = absurd (omega arith)
+
+    words : (c p : ℕ) → cell wanted c p < 2 ^ 32
+    words zero p = omega (arith, all-zero 64 p)
+    words (suc zero) p =
+        set-below (set (replicate 64 0) 8 (2 ^ 32 - 2)) 2 2 p (2 ^ 32) (omega arith)
+        (set-below (replicate 64 0) 8 (2 ^ 32 - 2) p (2 ^ 32) (omega arith) (omega (arith, all-zero 64 p)))
+    words (suc (suc zero)) p = omega (arith, all-zero 64 p)
+    words (suc (suc (suc c))) p = omega arith
+
+    low : LowKept (one .pass) zeros wanted
+    low c p h l = rw (corner-cell p l) (at c h)
+      where
+        at : (c : ℕ) → c < 3 → cell wanted c 0 ≡ cell zeros c 0
+        at zero h = refl
+        at (suc zero) h = refl
+        at (suc (suc zero)) h = refl
+        at (suc (suc (suc c))) h = absurd (omega arith)
+
+-- its symbols: 2 cells change in channel 1, none in channels 0 and 2
+pub sequence-is : theSequence one wanted ≡ 2 ∷ 3 ∷ 0 ∷ 4 ∷ 0 ∷ 0 ∷ []
+unfolding theSequence sequence differing coeffs symbol pack itemsOf itemOf placesOf paired natural cornersRow cornersFrom orderOf turns wide high TRANSFORMS
+sequence-is = rw (order-0 0 (omega arith), order-0 1 (omega arith), order-0 2 (omega arith))
+
+pub filled : Fills one (2 ∷ 3 ∷ 0 ∷ 4 ∷ 0 ∷ 0 ∷ []) wanted
+filled = let o = one-sequence one fixed wanted filling in o .1 (2 ∷ 3 ∷ 0 ∷ 4 ∷ 0 ∷ 0 ∷ []) (rw sequence-is at (o .0)) .1 (sym sequence-is)
