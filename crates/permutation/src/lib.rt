@@ -185,9 +185,10 @@ fn take_out(rest: &mut [u16], count: &mut [u16; 64], block: usize, before: usize
     let sum = s.before;
     let e = d - sum;
     let n = wide16(count[b]);
+    let behind = n - 1 - e;
     let start = b * 1024;
     let value = rest[start + e];
-    lay(&mut rest[start..], e + 1, e, n - 1 - e);
+    lay(&mut rest[start..], e + 1, e, behind);
     count[b] = (n - 1) as u16;
     Taken {
         value,

@@ -31,6 +31,12 @@ element-copy-out-wide16 c = search needs
 wide16-requires : tie.Need-wide16-requires
 wide16-requires c κs = search needs
 
+sub-behind : tie.Need-sub-behind
+sub-behind c = search needs
+
+sub-behind-2 : tie.Need-sub-behind-2
+sub-behind-2 c = search needs
+
 mul-start : tie.Need-mul-start
 mul-start c = search needs
 
@@ -84,12 +90,6 @@ part-lay-end c = search needs
 add-lay : tie.Need-add-lay
 add-lay c = search needs
 
-sub-lay-2 : tie.Need-sub-lay-2
-sub-lay-2 c = search needs
-
-sub-lay-3 : tie.Need-sub-lay-3
-sub-lay-3 c = search needs
-
 lay-requires : tie.Need-lay-requires
 lay-requires c κs =
     let a = c .before .before .before .before .before .before .before .before .before .args in
@@ -138,6 +138,8 @@ take-out-spec =
     mul-wide16
     element-copy-out-wide16
     wide16-requires
+    sub-behind
+    sub-behind-2
     mul-start
     add-value
     mul-value
@@ -147,8 +149,6 @@ take-out-spec =
     part-lay-start
     part-lay-end
     add-lay
-    sub-lay-2
-    sub-lay-3
     lay-requires
     sub-count
     cast-count
