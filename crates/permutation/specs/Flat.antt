@@ -1,31 +1,11 @@
 -- Places and their stored numbers.
-use mathlib.Core.Path.{_≡_, refl, ap, sym, _∙_}
-use mathlib.Core.List.{List, [], _∷_, _++_}
-use Prim.Native.Nat.{ℕ, zero, suc, _+_, _*_, _-_, _<_, _≤_}
+use mathlib.Core.Path.{_≡_, refl, ap}
+use mathlib.Core.List.{List, [], _∷_}
+use Prim.Native.Nat.{ℕ, _*_, _-_}
 use native.Mathlib.Omega.{arith}
-use lib.ListN.{length, getD, take, drop}
+use lib.ListN.{length}
 use Rattle.natural_order.specs.Places.{Place, flat}
 use Rattle.permutation.specs.Permuted.{unflat}
-
-pub flat-take : (i : ℕ) (l : List Place) → flat (take i l) ≡ take (2 * i) (flat l)
-flat-take zero l = refl
-flat-take (suc i) [] = let n : 2 * suc i ≡ suc (suc (2 * i)) = omega arith in rw n
-flat-take (suc i) (p ∷ l) = let n : 2 * suc i ≡ suc (suc (2 * i)) = omega arith in rw n (ap (λ (r : List ℕ). p .0 ∷ p .1 ∷ r) (flat-take i l))
-
-pub flat-drop : (i : ℕ) (l : List Place) → flat (drop i l) ≡ drop (2 * i) (flat l)
-flat-drop zero l = refl
-flat-drop (suc i) [] = let n : 2 * suc i ≡ suc (suc (2 * i)) = omega arith in rw n
-flat-drop (suc i) (p ∷ l) = let n : 2 * suc i ≡ suc (suc (2 * i)) = omega arith in rw n (flat-drop i l)
-
-pub flat-x : (l : List Place) (i : ℕ) → getD (flat l) (2 * i) 0 ≡ getD l i (0, 0) .0
-flat-x [] i = refl
-flat-x (p ∷ l) zero = refl
-flat-x (p ∷ l) (suc i) = let n : 2 * suc i ≡ suc (suc (2 * i)) = omega arith in rw n (flat-x l i)
-
-pub flat-y : (l : List Place) (i : ℕ) → getD (flat l) (2 * i + 1) 0 ≡ getD l i (0, 0) .1
-flat-y [] i = refl
-flat-y (p ∷ l) zero = refl
-flat-y (p ∷ l) (suc i) = let n : 2 * suc i + 1 ≡ suc (suc (2 * i + 1)) = omega arith in rw n (flat-y l i)
 
 pub unflat-flat : (l : List Place) → unflat (flat l) ≡ l
 unfolding unflat

@@ -1,8 +1,8 @@
 -- Digits counted from the front, and numbers tested one by one.
-use mathlib.Core.Path.{_≡_, refl, ap, sym, _∙_}
-use mathlib.Core.Bool.{Bool, true, false, cond}
+use mathlib.Core.Path.{_≡_, refl, ap, sym}
+use mathlib.Core.Bool.{Bool, true, false, cond, _&&_}
 use mathlib.Core.List.{List, [], _∷_}
-use Prim.Native.Nat.{ℕ, zero, suc, _+_, _-_, _<_, _≤_}
+use Prim.Native.Nat.{ℕ, suc, _+_, _-_, _<_, _≤_}
 use native.Mathlib.Numerals.{add-one}
 use native.Mathlib.Omega.{arith}
 use lib.Dec.{ltb}
@@ -50,19 +50,25 @@ module _ (ds : List ℕ) (left k : ℕ) where
 pub leading-start : (ds : List ℕ) (left : ℕ) → leading (drop 0 ds) (left - 0) ≡ leading ds left
 leading-start ds left = let e : left - 0 ≡ left = omega arith in rw e
 
--- a test of every number, one turn and the ways out
+pub both : (all : Bool) (x n : ℕ) → x < n → all ≡ (all && ltb x n)
+both true x n h = sym (lt-ltb x n h)
+both false x n h = refl
+
+pub neither : (all : Bool) (x n : ℕ) → n ≤ x → false ≡ (all && ltb x n)
+neither true x n h = sym (le-ltb x n h)
+neither false x n h = refl
+
+-- a test of every number, one turn and the end
 module _ (n : ℕ) (l : List ℕ) (i : ℕ) where
-  pub below-turn : i < length l → getD l i 0 < n → allBelow n (drop i l) ≡ allBelow n (drop (i + 1) l)
+  pub below-turn : (all : Bool) → i < length l → ((all && ltb (getD l i 0) n) && allBelow n (drop (i + 1) l)) ≡ (all && allBelow n (drop i l))
   unfolding allBelow
-  below-turn h b = rw (drop-cons l i 0 h, lt-ltb (getD l i 0) n b, add-one i)
+  below-turn true h = rw (drop-cons l i 0 h, add-one i)
+  below-turn false h = refl
 
-  pub below-stop : i < length l → n ≤ getD l i 0 → allBelow n (drop i l) ≡ false
+  pub below-end : (all : Bool) → length l ≤ i → all ≡ (all && allBelow n (drop i l))
   unfolding allBelow
-  below-stop h b = rw (drop-cons l i 0 h, le-ltb (getD l i 0) n b)
-
-  pub below-end : length l ≤ i → allBelow n (drop i l) ≡ true
-  unfolding allBelow
-  below-end h = rw (drop-of-length-le l h)
+  below-end true h = rw (drop-of-length-le l h)
+  below-end false h = refl
 
 -- the next digit is below what remains
 pub below-next : (ds : List ℕ) (left k : ℕ) → k < length ds → Below (drop k ds) (left - k) → (getD ds k 0 < left - k) × Below (drop (k + 1) ds) (left - (k + 1))

@@ -6,5 +6,7 @@ pub mod Inverse
 pub mod Numbers
 pub mod Leading
 pub mod Flat
-pub mod Moves
 pub mod Permuting
+pub mod Blocks
+pub mod Packed
+pub mod Drawing

@@ -1,7 +1,7 @@
 -- The same by numbers: the numbers 0, 1, .. of the natural order are put in order, and each names its place.
 use mathlib.Core.Path.{_≡_, refl, ap, ap₂, sym, _∙_}
 use mathlib.Core.List.{List, [], _∷_, _++_, map, map-append}
-use Prim.Native.Nat.{ℕ, zero, suc, _+_, _*_, _-_, _/_, _<_, _≤_}
+use Prim.Native.Nat.{ℕ, zero, suc, _+_, _-_, _<_, _≤_}
 use native.Mathlib.Nat.{not-suc-le-zero, le-of-suc-le-suc}
 use native.Mathlib.Omega.{arith}
 use lib.ListN.{length, getD, take, drop, length-drop}
@@ -34,7 +34,7 @@ module _ (f : ℕ → Place) where
   map-without (n ∷ l) zero = refl
   map-without (n ∷ l) (suc d) = ap (λ (r : List Place). f n ∷ r) (map-without l d)
 
-  map-chosen : (ds l : List ℕ) → Below ds (length l) → map f (chosen 0 ds l) ≡ chosen (0, 0) ds (map f l)
+  pub map-chosen : (ds l : List ℕ) → Below ds (length l) → map f (chosen 0 ds l) ≡ chosen (0, 0) ds (map f l)
   map-chosen [] l b = refl
   map-chosen (d ∷ ds) l b =
       ap₂ (λ (p : Place) (r : List Place). p ∷ r) (sym (map-at l d (b .0)))

@@ -1,11 +1,17 @@
 // Digits that put a list of places in order, in place (`read_permutation`).
 ghost use mathlib.Core.Path.{_≡_};
-ghost use Prim.Native.Nat.{ℕ, _+_, _-_, _*_, _≤_, _<_};
-ghost use lib.ListN.{length};
+ghost use mathlib.Core.Bool.{true, _&&_};
+ghost use mathlib.Core.List.{_++_};
+ghost use Prim.Native.Nat.{ℕ, _+_, _-_, _*_, _≤_, _<_, min};
+ghost use lib.Dec.{ltb};
+ghost use lib.ListN.{length, getD, take, drop};
+ghost use lib.Seq.{paste};
 ghost use Rattle.natural_order.specs.Places.{flat};
 ghost use Rattle.permutation.specs.Digits.{Below, ordered};
 ghost use Rattle.permutation.specs.Permuted.{leading, unflat, allBelow, permutable, permuted};
-ghost use Rattle.permutation.specs.Moves.{upTwo, shifted};
+ghost use Rattle.permutation.specs.Blocks.{total, sumTo, counts, remaining};
+ghost use Rattle.permutation.specs.Drawing.{Ready, Out, Drawn};
+ghost use Rattle.permutation.specs.Packed.{packed, unpacked};
 
 fn wide(x: u32) -> usize
     ensures { λ r. ⌜ r ≡ x ⌝ }
@@ -31,56 +37,217 @@ pub fn digits_below(digits: &[u32], left: usize) -> usize
     k
 }
 
+fn and_below(all: bool, x: u16, n: u16) -> bool
+    ensures { λ r. ⌜ r ≡ (all && ltb x n) ⌝ }
+{
+    if x < n { all } else { false }
+}
+
 fn all_below(list: &[u16], n: u16) -> bool
     ensures { λ r. ⌜ r ≡ allBelow n (now (list .entry)) ⌝ }
 {
+    let mut all = true;
     let mut i = 0;
     while i < list.len() {
-        if n <= list[i] {
-            return false;
-        }
+        all = and_below(all, list[i], n);
         i += 1;
     }
-    true
+    all
 }
 
-// k numbers from a on go up by two.
-fn up_two(list: &mut [u16], a: usize, k: usize)
-    requires { ⌜ a + k + 2 ≤ length (now list) ⌝ }
-    ensures { λ r. ⌜ now (list .exit) ≡ upTwo (now (list .entry)) a k ⌝ }
+// x and y below 256 as one number, in the upper half of the list.
+fn pack(list: &mut [u16], size: usize)
+    requires { ⌜ (length (now list) ≡ 2 * size) × (size ≤ 65536) × (allBelow 256 (now list) ≡ true) ⌝ }
+    ensures { λ r. ⌜ (length (now (list .exit)) ≡ 2 * size) × (drop size (now (list .exit)) ≡ packed (unflat (now (list .entry)))) ⌝ }
 {
-    let mut j = k;
-    while 0 < j {
-        j -= 1;
-        let v = list[a + j];
-        list[a + j + 2] = v;
+    let mut i = size;
+    while 0 < i {
+        i -= 1;
+        let x = list[2 * i];
+        let y = list[2 * i + 1];
+        list[size + i] = x + 256 * y;
     }
 }
 
-// The place i + d comes to i.
-fn take_place(list: &mut [u16], i: usize, d: usize)
-    requires { ⌜ 2 * i + 2 * d + 2 ≤ length (now list) ⌝ }
-    ensures { λ r. ⌜ now (list .exit) ≡ shifted (now (list .entry)) i d ⌝ }
+// And back: the lower half of the list, place by place.
+fn unpack(list: &mut [u16], size: usize)
+    requires { ⌜ (length (now list) ≡ 2 * size) × (size ≤ 65536) ⌝ }
+    ensures { λ r. ⌜ now (list .exit) ≡ flat (unpacked (take size (now (list .entry)))) ⌝ }
 {
-    let a = 2 * i;
-    let k = 2 * d;
-    let x = list[a + k];
-    let y = list[a + k + 1];
-    up_two(&mut list[..], a, k);
-    list[a] = x;
-    list[a + 1] = y;
+    let mut i = size;
+    while 0 < i {
+        i -= 1;
+        let v = list[i];
+        list[2 * i] = v % 256;
+        list[2 * i + 1] = v / 256;
+    }
 }
 
-fn reorder(list: &mut [u16], size: usize, skip: usize, digits: &[u32])
-    requires { ⌜ (length (now list) ≡ 2 * size) × (size ≤ 65536) × (skip ≤ size) × Below (now digits) (size - skip) ⌝ }
-    ensures { λ r. ⌜ now (list .exit) ≡ flat (ordered (0, 0) skip (unflat (now (list .entry))) (now (digits .entry))) ⌝ }
+// n numbers from `start` on come to `at`, not behind it.
+fn lay(list: &mut [u16], start: usize, at: usize, n: usize)
+    requires { ⌜ (at ≤ start) × (0 < n → start + n ≤ length (now list)) ⌝ }
+    ensures { λ r. ⌜ now (list .exit) ≡ paste (now (list .entry)) at (drop start (now (list .entry))) n ⌝ }
 {
+    let mut j = 0;
+    while j < n {
+        let v = list[start + j];
+        list[at + j] = v;
+        j += 1;
+    }
+}
+
+fn wide16(x: u16) -> usize
+    ensures { λ r. ⌜ r ≡ x ⌝ }
+{
+    x as usize
+}
+
+fn at_most_1024(n: usize) -> usize
+    ensures { λ r. ⌜ r ≡ min n 1024 ⌝ }
+{
+    if n < 1024 { n } else { 1024 }
+}
+
+// How many numbers each of 64 blocks of 1,024 has.
+fn counts_of(free: usize) -> [u16; 64]
+    ensures { λ r. ⌜ r ≡ counts 1024 64 free ⌝ }
+{
+    let mut c = [0u16; 64];
+    let mut left = free;
+    let mut i = 0;
+    while i < 64 {
+        let n = at_most_1024(left);
+        c[i] = n as u16;
+        left = left - n;
+        i += 1;
+    }
+    c
+}
+
+// A block, and how many numbers the blocks before it have.
+struct Spot {
+    block: usize,
+    before: usize,
+}
+
+// From a block, back to where no more than d numbers stand before.
+fn back(count: &[u16; 64], block: usize, before: usize, d: usize) -> Spot
+    requires { ⌜ (length (now count) ≡ 64) × (block < 64) × (before ≡ sumTo block (now count)) ⌝ }
+    ensures { λ r. ⌜ (r .block < 64) × (r .before ≡ sumTo (r .block) (now (count .entry))) × (r .before ≤ d) ⌝ }
+{
+    let mut b = block;
+    let mut sum = before;
+    while d < sum {
+        b -= 1;
+        sum -= wide16(count[b]);
+    }
+    Spot {
+        block: b,
+        before: sum,
+    }
+}
+
+// On to the block in which the d-th of the remaining numbers stands.
+fn find(count: &[u16; 64], block: usize, before: usize, d: usize) -> Spot
+    requires { ⌜ (length (now count) ≡ 64) × (before ≡ sumTo block (now count)) × (before ≤ d) × (d < total (now count)) ⌝ }
+    ensures { λ r. ⌜ (r .block < 64) × (r .before ≡ sumTo (r .block) (now (count .entry))) × (r .before ≤ d) × (d < r .before + getD (now (count .entry)) (r .block) 0) ⌝ }
+{
+    let mut b = block;
+    let mut sum = before;
+    loop {
+        let n = wide16(count[b]);
+        if d - sum < n {
+            return Spot {
+                block: b,
+                before: sum,
+            };
+        }
+        sum += n;
+        b += 1;
+    }
+}
+
+// A number that was taken out, and where: the search for the next one starts there.
+struct Taken {
+    value: u16,
+    block: usize,
+    before: usize,
+}
+
+// The d-th of the remaining numbers, taken out of its block.
+fn take_out(rest: &mut [u16], count: &mut [u16; 64], block: usize, before: usize, d: usize) -> Taken
+    requires { ⌜ Ready (now count) (now rest) × (block < 64) × (before ≡ sumTo block (now count)) × (d < total (now count)) ⌝ }
+    ensures { λ r. ⌜ Out (now (count .entry)) (now (rest .entry)) d (r .value) (now (count .exit)) (now (rest .exit)) × (r .block < 64) × (r .before ≡ sumTo (r .block) (now (count .exit))) ⌝ }
+{
+    let near = back(count, block, before, d);
+    let s = find(count, near.block, near.before, d);
+    let b = s.block;
+    let sum = s.before;
+    let e = d - sum;
+    let n = wide16(count[b]);
+    let behind = n - 1 - e;
+    let start = b * 1024;
+    let value = rest[start + e];
+    lay(&mut rest[start..], e + 1, e, behind);
+    count[b] = (n - 1) as u16;
+    Taken {
+        value,
+        block: b,
+        before: sum,
+    }
+}
+
+// A number for each digit, from `skip` on; what the blocks have left.
+fn draw(list: &mut [u16], size: usize, skip: usize, digits: &[u32]) -> [u16; 64]
+    requires { ⌜ (length (now list) ≡ 2 * size) × (size ≤ 65536) × (skip ≤ size) × Below (now digits) (size - skip) ⌝ }
+    ensures { λ r. ⌜ Drawn size skip (now (digits .entry)) (now (list .entry)) r (now (list .exit)) ⌝ }
+{
+    let mut count = counts_of(size - skip);
+    let from = size + skip;
+    let mut block = 0;
+    let mut before = 0;
     let mut k = 0;
     while k < digits.len() {
         let d = wide(digits[k]);
-        take_place(&mut list[..], skip + k, d);
+        let t = take_out(&mut list[from..], &mut count, block, before, d);
+        list[skip + k] = t.value;
+        block = t.block;
+        before = t.before;
         k += 1;
     }
+    count
+}
+
+// The numbers that remain, block by block, from `at` on.
+fn lay_rest(list: &mut [u16], from: usize, at: usize, count: &[u16; 64])
+    requires { ⌜ (length (now list) ≤ 131072) × (from ≤ length (now list)) × Ready (now count) (drop from (now list)) × (at + total (now count) ≤ from) ⌝ }
+    ensures { λ r. ⌜ (length (now (list .exit)) ≡ length (now (list .entry)))
+        × (take (at + total (now (count .entry))) (now (list .exit)) ≡ take at (now (list .entry)) ++ remaining 1024 (now (count .entry)) (drop from (now (list .entry)))) ⌝ }
+{
+    let mut to = at;
+    let mut start = from;
+    let mut b = 0;
+    while b < 64 {
+        let n = wide16(count[b]);
+        lay(&mut list[..], start, to, n);
+        to += n;
+        start += 1024;
+        b += 1;
+    }
+}
+
+fn reorder(list: &mut [u16], size: usize, skip: usize, digits: &[u32])
+    requires { ⌜ (length (now list) ≡ 2 * size) × (size ≤ 65536) × (skip ≤ size) × (allBelow 256 (now list) ≡ true) × Below (now digits) (size - skip) ⌝ }
+    ensures { λ r. ⌜ now (list .exit) ≡ flat (ordered (0, 0) skip (unflat (now (list .entry))) (now (digits .entry))) ⌝ }
+{
+    if digits.len() == 0 {
+        return;
+    }
+    pack(&mut list[..], size);
+    lay(&mut list[..], size, 0, skip);
+    let count = draw(&mut list[..], size, skip, digits);
+    lay_rest(&mut list[..], size + skip, skip + digits.len(), &count);
+    unpack(&mut list[..], size);
 }
 
 // The first `skip` places stay, the rest follows as the digits choose; false, and nothing moved, if they do not fit the list.

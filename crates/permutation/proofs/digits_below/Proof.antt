@@ -2,14 +2,11 @@ use Rattle.permutation.specs.Leading.{leading-start, leading-turn, leadi
 use Rattle.permutation.specs.Permuted.{leading}
 use borrow.Author.Needs.{needs}
 use native.Mathlib.Omega.{arith}
-use mathlib.Core.Path.{_≡_, _∙_, ap, sym}
-use mathlib.Core.List.{_++_}
-use Prim.Native.Nat.{ℕ, _≤_, _<_, _-_, _+_, _*_}
-use lib.ListN.{length, getD, take, drop, set, length-set}
+use mathlib.Core.Path.{_≡_}
+use Prim.Native.Nat.{_≤_, _-_, _+_}
+use lib.ListN.{length, drop}
 use Rattle.permutation.proofs.digits_below.Statement.{statement}
 use Rattle.permutation.proofs.digits_below.Tie as tie
-use Rattle.permutation.proofs.digits_below.Reads as reads
-use Rattle.permutation.proofs.digits_below.Lts as lts
 use Rattle.permutation.proofs.wide.Reads as wide-reads
 
 abbrev Inv-loop : tie.InvT-loop

@@ -4,14 +4,11 @@ use Rattle.permutation.specs.Leading.{leading-below}
 use borrow.Author.Tests.{not-true, not-false}
 use borrow.Author.Needs.{needs}
 use native.Mathlib.Omega.{arith}
-use mathlib.Core.Path.{_≡_, _∙_, ap, sym}
-use mathlib.Core.List.{_++_}
-use Prim.Native.Nat.{ℕ, _≤_, _<_, _-_, _+_, _*_}
-use lib.ListN.{length, getD, take, drop, set, length-set}
+use mathlib.Core.Path.{_∙_, sym}
+use Prim.Native.Nat.{_-_}
+use lib.ListN.{length, take}
 use Rattle.permutation.proofs.permute.Statement.{statement}
 use Rattle.permutation.proofs.permute.Tie as tie
-use Rattle.permutation.proofs.permute.Reads as reads
-use Rattle.permutation.proofs.permute.Lts as lts
 use Rattle.permutation.proofs.all_below.Reads as all-below-reads
 use Rattle.permutation.proofs.digits_below.Reads as digits-below-reads
 use Rattle.permutation.proofs.reorder.Reads as reorder-reads
@@ -60,7 +57,7 @@ reorder-requires : tie.Need-reorder-requires
 reorder-requires c κs =
     let a = c .before .before .before .before .before .before .before .before .before .before .before .args in
     let d = c .before .before .digits-below in
-    (omega (arith, c .before .before .before .before .before .before .before .before .if1 .left), omega arith, omega arith, leading-below (a .digits .now) (length (a .list .now) / 2 - a .skip) (sym (d .ensures) ∙ c .before .if5 .left))
+    (omega (arith, c .before .before .before .before .before .before .before .before .if1 .left), omega arith, omega arith, sym (c .before .before .before .before .all-below .ensures) ∙ not-false (c .before .before .before .before .all-below .result) (c .before .before .before .if4 .left), leading-below (a .digits .now) (length (a .list .now) / 2 - a .skip) (sym (d .ensures) ∙ c .before .if5 .left))
 
 same-length-3 : tie.Need-same-length-3
 same-length-3 c = search needs

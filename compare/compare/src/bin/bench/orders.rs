@@ -5,29 +5,24 @@ use jxl_vardct::oracle;
 
 use crate::measure::{plain, Bench};
 
-/// Every order, and the largest, 256 x 256.
+/// Every order.
 const ALL: u32 = 0x1fff;
+/// The square orders from 8 x 8 to 256 x 256, to show how the time grows with the size.
+const SQUARES: [usize; 5] = [0, 3, 7, 9, 11];
 const LARGEST: usize = 11;
 
 pub fn benches() -> Vec<Bench> {
-    let (wide, high) = ORDER_SIZES[LARGEST];
-    let free = wide * high - wide * high / 64;
     let mut rng = Rng::new(3);
-    let random = permuted(free, |most| rng.below(most + 1));
-    let largest = permuted(free, |most| most);
-    vec![
+    let mut benches = vec![
         bench("orders, default", make::orders(0, &[])),
         bench("orders, all used, length 0", make::orders(ALL, &[0; 39])),
-        bench(
-            "orders, order 11, random digits",
-            make::orders(1 << LARGEST, &random),
-        ),
-        bench(
-            "orders, order 11, largest digits",
-            make::orders(1 << LARGEST, &largest),
-        ),
-        places(),
-    ]
+    ];
+    for order in SQUARES {
+        benches.push(permuted(order, "random digits", |most| rng.below(most + 1)));
+    }
+    benches.push(permuted(LARGEST, "largest digits", |most| most));
+    benches.push(places());
+    benches
 }
 
 /// The check of stored places that every coefficient call makes. The Rust has no such check.
@@ -41,14 +36,22 @@ fn places() -> Bench {
     }
 }
 
-/// Three lists with all their digits, each given by the largest that it may be.
-fn permuted(free: usize, mut digit: impl FnMut(usize) -> usize) -> Vec<u32> {
+/// One order used, its three lists with all their digits, each given by the largest that it may be.
+fn permuted(order: usize, digits: &str, mut digit: impl FnMut(usize) -> usize) -> Bench {
+    let (wide, high) = ORDER_SIZES[order];
+    let free = wide * high - wide * high / 64;
     let mut symbols = Vec::new();
     for _ in 0..3 {
         symbols.push(free as u32);
         symbols.extend((0..free).map(|taken| digit(free - taken - 1) as u32));
     }
-    symbols
+    Bench {
+        units: (3 * free, "digit"),
+        ..bench(
+            &format!("orders, {wide} x {high}, {digits}"),
+            make::orders(1 << order, &symbols),
+        )
+    }
 }
 
 fn bench(name: &str, call: OrdersCall) -> Bench {

@@ -1,0 +1,14 @@
+use Rattle.permutation.specs.Leading.{both, neither}
+use native.Mathlib.Omega.{arith}
+use Prim.Native.Nat.{_-_}
+use Rattle.permutation.proofs.and_below.Statement.{statement}
+use Rattle.permutation.proofs.and_below.Tie as tie
+
+returns : tie.Need-returns
+returns c = both (c .before .args .all) (c .before .args .x) (c .before .args .n) (omega arith)
+
+returns-2 : tie.Need-returns-2
+returns-2 c = neither (c .before .args .all) (c .before .args .x) (c .before .args .n) (omega arith)
+
+pub and-below-spec : {M : Type 1} → statement M
+and-below-spec = tie.close (tie.spec returns returns-2)

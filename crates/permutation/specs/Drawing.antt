@@ -1,0 +1,290 @@
+-- Numbers drawn from the blocks, and what is left of them laid behind.
+use mathlib.Core.Path.{_≡_, refl, ap, ap₂, sym, _∙_}
+use mathlib.Core.Bool.{true, _&&_}
+use mathlib.Core.List.{List, [], _∷_, _++_, append-assoc, append-nil, map, map-append}
+use Prim.Native.Nat.{ℕ, zero, suc, _+_, _*_, _-_, _/_, _%_, _<_, _≤_}
+use native.Mathlib.Numerals.{add-one}
+use native.Mathlib.Omega.{arith}
+use lib.Dec.{ltb}
+use lib.ListN.{length, getD, take, drop, set, length-set, length-append, length-drop, drop-of-length-le, take-append-drop}
+use lib.Seq.{drop-cons, drop-drop, drop-at, take-all, take-append-le, take-take, take-suc-set, drop-set-lt, length-take-le, paste, take-paste, drop-paste, length-paste}
+use Rattle.natural_order.specs.Places.{Place, flat}
+use Rattle.natural_order.specs.Bools.{and-right}
+use Rattle.permutation.specs.Digits.{without, chosen, ordered, Below}
+use Rattle.permutation.specs.Chosen.{without-length}
+use Rattle.permutation.specs.Numbers.{map-chosen}
+use Rattle.permutation.specs.Permuted.{unflat, allBelow}
+use Rattle.permutation.specs.Flat.{unflat-length, flat-unflat}
+use Rattle.permutation.specs.Leading.{below-next}
+use Rattle.permutation.specs.Blocks.{remaining, Blocks, sumTo, total, counts, closed, closedAt, remaining-length, block-room, block-most, taken-out, counts-start, counts-length, sum-step}
+use Rattle.permutation.specs.Packed.{packed, unpacked, code, decode, below-at}
+
+-- 64 blocks in a list
+pub record Ready (count rest : List ℕ) : Type 0 where
+  pub many : length count ≡ 64
+  pub blocks : Blocks 1024 count rest
+
+-- the d-th of what remained is taken out
+pub record Out (count rest : List ℕ) (d v : ℕ) (count' rest' : List ℕ) : Type 0 where
+  pub value : v ≡ getD (remaining 1024 count rest) d 0
+  pub left : remaining 1024 count' rest' ≡ without d (remaining 1024 count rest)
+  pub ready : Ready count' rest'
+  pub long : length rest' ≡ length rest
+  pub fewer : total count' ≡ total count - 1
+
+-- what lies from a on, lent and given back
+pub tail-all : (l : List ℕ) (a : ℕ) → take (length l - a) (drop a l) ≡ drop a l
+tail-all l a = take-all (length l - a) (drop a l) (omega (arith, length-drop a l))
+
+pub tail-length : (l : List ℕ) (a : ℕ) → length (take (length l - a) (drop a l)) ≡ length l - a
+tail-length l a = ap length (tail-all l a) ∙ length-drop a l
+
+tail-back : (l m : List ℕ) (a : ℕ) → take a l ++ (m ++ drop (length l - a) (drop a l)) ≡ take a l ++ m
+tail-back l m a =
+    let h : length (drop a l) ≤ length l - a = omega (arith, length-drop a l) in
+    rw (drop-of-length-le (drop a l) h, append-nil m)
+
+pub is-closed : (rest m : List ℕ) (b e n : ℕ) → m ≡ closed (take (length rest - b * 1024) (drop (b * 1024) rest)) e n
+    → take (b * 1024) rest ++ (m ++ drop (length rest - b * 1024) (drop (b * 1024) rest)) ≡ closedAt 1024 rest b e n
+is-closed rest m b e n q = tail-back rest m (b * 1024) ∙ ap (λ (k : List ℕ). take (b * 1024) rest ++ k) (q ∙ ap (λ (k : List ℕ). closed k e n) (tail-all rest (b * 1024)))
+
+-- block b at `at`, as the code goes
+module _ (count rest : List ℕ) (d : ℕ) (r : Ready count rest) (t : d < total count) (b e : ℕ) (hb : b < 64) (he : e < getD count b 0) (hs : sumTo b count + e ≡ d) where
+  in-count : b < length count
+  in-count = omega (arith, r .many)
+
+  pub spot-room : b * 1024 + getD count b 0 ≤ length rest
+  spot-room = block-room 1024 count rest b e (r .blocks) in-count he
+
+  pub spot-most : getD count b 0 ≤ 1024
+  spot-most = block-most 1024 count rest b (r .blocks) in-count
+
+  pub is-out : (n : ℕ) (rest' : List ℕ) → n ≡ getD count b 0 → rest' ≡ closedAt 1024 rest b e n → Out count rest d (getD rest (b * 1024 + e) 0) (set count b (n - 1)) rest'
+  is-out n rest' en er =
+      let o = taken-out 1024 count rest b e (r .blocks) in-count he in
+      let c' = set count b (getD count b 0 - 1) in
+      let l : remaining 1024 c' (closedAt 1024 rest b e (getD count b 0)) ≡ without d (remaining 1024 count rest) = o .left ∙ ap (λ (k : ℕ). without k (remaining 1024 count rest)) hs in
+      let n₀ = remaining-length 1024 count rest (r .blocks) in
+      let n₁ = remaining-length 1024 c' (closedAt 1024 rest b e (getD count b 0)) (o .fit) in
+      let w = without-length d (remaining 1024 count rest) (omega arith) in
+      rw (er, en)
+      record {
+        value = sym (o .value) ∙ ap (λ (k : ℕ). getD (remaining 1024 count rest) k 0) hs;
+        left = l;
+        ready = record { many = length-set count b (getD count b 0 - 1) ∙ r .many; blocks = o .fit };
+        long = o .long;
+        fewer = sym n₁ ∙ ap length l ∙ w ∙ ap (λ (k : ℕ). k - 1) n₀;
+      }
+
+-- after k digits
+pub record Drawing (size skip : ℕ) (ds l₀ count l : List ℕ) (k : ℕ) : Type 0 where
+  pub fewer : k ≤ length ds
+  pub long : length l ≡ 2 * size
+  pub ready : Ready count (drop (size + skip) l)
+  pub below : Below (drop k ds) (size - skip - k)
+  pub left : total count ≡ size - skip - k
+  pub most : k ≤ size - skip
+  pub same : take (skip + k) l ++ chosen 0 (drop k ds) (remaining 1024 count (drop (size + skip) l)) ≡ take skip l₀ ++ chosen 0 ds (drop (size + skip) l₀)
+
+module _ (size skip : ℕ) (ds l : List ℕ) (n : length l ≡ 2 * size) (s : size ≤ 65536) (h : skip ≤ size) (b : Below ds (size - skip)) where
+  pub draw-start : (count : List ℕ) → count ≡ counts 1024 64 (size - skip) → Drawing size skip ds l count l 0
+  draw-start count e =
+      let rest = drop (size + skip) l in
+      let lr : length rest ≡ size - skip = length-drop (size + skip) l ∙ omega arith in
+      let c = counts-start 1024 64 (size - skip) rest lr (omega arith) in
+      let z : size - skip - 0 ≡ size - skip = omega arith in
+      let y : skip + 0 ≡ skip = omega arith in
+      record {
+        fewer = omega arith;
+        long = n;
+        ready = rw e (record { many = counts-length 1024 64 (size - skip); blocks = c .1 });
+        below = rw z b;
+        left = rw (e, z) (sym (remaining-length 1024 (counts 1024 64 (size - skip)) rest (c .1)) ∙ ap length (c .0) ∙ lr);
+        most = omega arith;
+        same = rw (y, e, c .0);
+      }
+
+module _ (size skip : ℕ) (ds l₀ count l : List ℕ) (k : ℕ) (p : Drawing size skip ds l₀ count l k) (h : k < length ds) (hs : skip ≤ size) where
+  pub digit-below : getD ds k 0 < total count
+  digit-below = let b = below-next ds (size - skip) k h (p .below) in omega (arith, b .0, p .left)
+
+  pub draw-room : skip + k < length l
+  draw-room = let b = below-next ds (size - skip) k h (p .below) in omega (arith, b .0, p .long)
+
+  pub draw-turn : (d v : ℕ) (count' rest' l' : List ℕ) → d ≡ getD ds k 0 → Out count (take (length l - (size + skip)) (drop (size + skip) l)) d v count' rest'
+      → l' ≡ set (take (size + skip) l ++ (rest' ++ drop (length l - (size + skip)) (drop (size + skip) l))) (skip + k) v → Drawing size skip ds l₀ count' l' (k + 1)
+  draw-turn d v count' rest' l' ed o₀ el₀ =
+      let o = rw (tail-all l (size + skip)) at o₀ in
+      let el : l' ≡ set (take (size + skip) l ++ rest') (skip + k) v = el₀ ∙ ap (λ (m : List ℕ). set m (skip + k) v) (tail-back l rest' (size + skip)) in
+      let b = below-next ds (size - skip) k h (p .below) in
+      let from = size + skip in
+      let a = take from l in
+      let rest = drop from l in
+      let q = remaining 1024 count rest in
+      let la : length a ≡ from = length-take-le from l (omega (arith, p .long)) in
+      let lr : length rest' ≡ length l - from = o .long ∙ length-drop from l in
+      let lar : length (a ++ rest') ≡ 2 * size = length-append a rest' ∙ omega (arith, p .long) in
+      let room : skip + k < length (a ++ rest') = omega (arith, b .0) in
+      let t₀ : take (skip + k) (a ++ rest') ≡ take (skip + k) l = take-append-le (skip + k) a rest' (omega (arith, b .0)) ∙ shorter (skip + k) from l (omega (arith, b .0)) in
+      let i : suc (skip + k) ≡ skip + (k + 1) = omega arith in
+      let t₁ : take (skip + (k + 1)) l' ≡ take (skip + k) l ++ (v ∷ []) = rw (← i, el) (take-suc-set (a ++ rest') (skip + k) v room ∙ ap (λ (x : List ℕ). x ++ (v ∷ [])) t₀) in
+      let d₁ : drop from l' ≡ rest' = rw el (drop-set-lt from (a ++ rest') (skip + k) v (omega (arith, b .0)) ∙ drop-at a rest' from la) in
+      let dc : drop k ds ≡ d ∷ drop (k + 1) ds = drop-cons ds k 0 h ∙ rw (← ed, add-one k) in
+      let e : take (skip + (k + 1)) l' ++ chosen 0 (drop (k + 1) ds) (remaining 1024 count' (drop from l')) ≡ take (skip + k) l ++ chosen 0 (drop k ds) q =
+      rw (t₁, d₁, o .left, dc, o .value) (append-assoc (take (skip + k) l) (getD q d 0 ∷ []) (chosen 0 (drop (k + 1) ds) (without d q))) in
+      record {
+        fewer = omega arith;
+        long = rw el (length-set (a ++ rest') (skip + k) v ∙ lar);
+        ready = rw d₁ (o .ready);
+        below = b .1;
+        left = o .fewer ∙ omega (arith, p .left);
+        most = omega (arith, b .0);
+        same = e ∙ p .same;
+      }
+    where
+      shorter : (i j : ℕ) (l : List ℕ) → i ≤ j → take i (take j l) ≡ take i l
+      shorter i j l h = take-take i j l h
+
+-- all digits drawn
+pub record Drawn (size skip : ℕ) (ds l₀ count l : List ℕ) : Type 0 where
+  pub long : length l ≡ 2 * size
+  pub ready : Ready count (drop (size + skip) l)
+  pub left : skip + length ds + total count ≡ size
+  pub same : take (skip + length ds) l ++ remaining 1024 count (drop (size + skip) l) ≡ take skip l₀ ++ chosen 0 ds (drop (size + skip) l₀)
+
+pub draw-end : (size skip : ℕ) (ds l₀ count l : List ℕ) (k : ℕ) → Drawing size skip ds l₀ count l k → skip ≤ size → length ds ≤ k → Drawn size skip ds l₀ count l
+draw-end size skip ds l₀ count l k p hs h =
+    let e : k ≡ length ds = omega (arith, p .fewer) in
+    let z : drop k ds ≡ [] = drop-of-length-le ds h in
+    let s : take (skip + k) l ++ chosen 0 [] (remaining 1024 count (drop (size + skip) l)) ≡ take skip l₀ ++ chosen 0 ds (drop (size + skip) l₀) = rw z at (p .same) in
+    record {
+      long = p .long;
+      ready = p .ready;
+      left = omega (arith, p .left, p .most);
+      same = rw (← e) s;
+    }
+
+-- what remains, laid block by block
+pub record Laying (from at : ℕ) (count l₀ l : List ℕ) (to start b : ℕ) : Type 0 where
+  pub fewer : b ≤ 64
+  pub long : length l ≡ length l₀
+  pub spot : start ≡ from + b * 1024
+  pub blocks : Blocks 1024 (drop b count) (drop start l)
+  pub room : to + total (drop b count) ≡ at + total count
+  pub same : take to l ++ remaining 1024 (drop b count) (drop start l) ≡ take at l₀ ++ remaining 1024 count (drop from l₀)
+
+pub lay-begin : (from at : ℕ) (count l : List ℕ) → Ready count (drop from l) → Laying from at count l l at from 0
+lay-begin from at count l r = record { fewer = omega arith; long = refl; spot = omega arith; blocks = r .blocks; room = refl; same = refl }
+
+module _ (from at : ℕ) (count l₀ l : List ℕ) (to start b : ℕ) (p : Laying from at count l₀ l to start b) (h : b < 64) (n : ℕ) (many : length count ≡ 64) (en : n ≡ getD count b 0)
+    (fits : at + total count ≤ from) where
+  split : drop b count ≡ n ∷ drop (b + 1) count
+  split = drop-cons count b 0 (omega arith) ∙ rw (← en, add-one b)
+
+  of-block : (n ≤ 1024) × (n ≤ length (drop start l)) × Blocks 1024 (drop (b + 1) count) (drop 1024 (drop start l))
+  unfolding Blocks
+  of-block = rw split at (p .blocks)
+
+  of-room : to + n + total (drop (b + 1) count) ≡ at + total count
+  of-room = let s = sum-step count b (omega arith) in omega (arith, s .1, p .room)
+
+  pub block-inside : 0 < n → start + n ≤ length l
+  block-inside z = let q = of-block in omega (arith, q .1, length-drop start l)
+
+  pub before-it : to + n ≤ start
+  before-it = omega (arith, of-room, p .spot)
+
+  pub lay-block : (l' : List ℕ) → from ≤ length l₀ → l' ≡ paste l to (drop start l) n → Laying from at count l₀ l' (to + n) (start + 1024) (b + 1)
+  unfolding remaining
+  lay-block l' hf el =
+      let q = of-block in
+      let s = drop start l in
+      let t : take (to + n) l' ≡ take to l ++ take n s = rw el (take-paste l to s n (omega (arith, before-it, p .long, of-room)) (q .1)) in
+      let dn : drop (to + n) l' ≡ drop (to + n) l = rw el (drop-paste l to s n (omega (arith, before-it, p .long, of-room)) (q .1)) in
+      let x : to + n + (start + 1024 - (to + n)) ≡ start + 1024 = omega (arith, before-it) in
+      let d : drop (start + 1024) l' ≡ drop (start + 1024) l =
+      ap (λ (j : ℕ). drop j l') (sym x) ∙ sym (drop-drop (start + 1024 - (to + n)) (to + n) l') ∙ ap (drop (start + 1024 - (to + n))) dn ∙ drop-drop (start + 1024 - (to + n)) (to + n) l ∙ ap (λ (j : ℕ). drop j l) x in
+      let dd : drop (start + 1024) l' ≡ drop 1024 s = d ∙ sym (drop-drop 1024 start l) in
+      let e : take (to + n) l' ++ remaining 1024 (drop (b + 1) count) (drop (start + 1024) l') ≡ take to l ++ remaining 1024 (drop b count) s =
+      rw (t, dd, split) (append-assoc (take to l) (take n s) (remaining 1024 (drop (b + 1) count) (drop 1024 s))) in
+      record {
+        fewer = omega arith;
+        long = rw el (length-paste l to s n (omega (arith, before-it, p .long, of-room)) (q .1) ∙ p .long);
+        spot = omega (arith, p .spot);
+        blocks = rw dd (q .2);
+        room = of-room;
+        same = e ∙ p .same;
+      }
+
+pub lay-done : (from at : ℕ) (count l₀ l : List ℕ) (to start b : ℕ) → Laying from at count l₀ l to start b → length count ≡ 64 → 64 ≤ b
+    → (length l ≡ length l₀) × (take (at + total count) l ≡ take at l₀ ++ remaining 1024 count (drop from l₀))
+unfolding remaining total
+lay-done from at count l₀ l to start b p m h =
+    let k : length count ≤ b = omega arith in
+    let z : drop b count ≡ [] = drop-of-length-le count k in
+    let r : to + 0 ≡ at + total count = rw z at (p .room) in
+    let r' : to ≡ at + total count = omega arith in
+    let s : take to l ++ [] ≡ take at l₀ ++ remaining 1024 count (drop from l₀) = rw z at (p .same) in
+    (p .long, rw (← r') (sym (append-nil (take to l)) ∙ s))
+
+-- no digit, nothing moved
+pub none-drawn : (size skip : ℕ) (ds l : List ℕ) → length ds ≡ 0 → length l ≡ 2 * size → l ≡ flat (ordered (0, 0) skip (unflat l) ds)
+none-drawn size skip [] l e n = sym (ap flat (take-append-drop skip (unflat l)) ∙ flat-unflat l size n)
+none-drawn size skip (d ∷ ds) l e n = absurd (omega arith)
+
+-- the whole
+decode-code : (p : Place) → p .0 < 256 → p .1 < 256 → decode (code p) ≡ p
+decode-code p a b =
+    let x : (p .0 + 256 * p .1) % 256 ≡ p .0 = omega arith in
+    let y : (p .0 + 256 * p .1) / 256 ≡ p .1 = omega arith in
+    ap₂ (λ (u v : ℕ). (u, v)) x y
+
+unpack-pack : (l : List ℕ) (n : ℕ) → length l ≡ 2 * n → allBelow 256 l ≡ true → map decode (map code (unflat l)) ≡ unflat l
+unfolding unflat allBelow
+unpack-pack [] n e t = refl
+unpack-pack (x ∷ []) n e t = absurd (omega arith)
+unpack-pack (x ∷ y ∷ r) n e t =
+    let a = below-at 256 (x ∷ y ∷ r) 0 t (omega arith) in
+    let b = below-at 256 (x ∷ y ∷ r) 1 t (omega arith) in
+    let u = and-right (ltb y 256) (allBelow 256 r) (and-right (ltb x 256) (ltb y 256 && allBelow 256 r) t) in
+    ap₂ (λ (p : Place) (l : List Place). p ∷ l) (decode-code (x, y) a b) (unpack-pack r (n - 1) (omega arith) u)
+
+map-take : (n : ℕ) (l : List ℕ) → map decode (take n l) ≡ take n (map decode l)
+map-take zero l = refl
+map-take (suc n) [] = refl
+map-take (suc n) (x ∷ l) = ap (λ (k : List Place). decode x ∷ k) (map-take n l)
+
+map-drop : (n : ℕ) (l : List ℕ) → map decode (drop n l) ≡ drop n (map decode l)
+map-drop zero l = refl
+map-drop (suc n) [] = refl
+map-drop (suc n) (x ∷ l) = map-drop n l
+
+packed-length : (l : List Place) → length (map code l) ≡ length l
+packed-length [] = refl
+packed-length (p ∷ l) = ap suc (packed-length l)
+
+module _ (size skip : ℕ) (ds l₀ : List ℕ) (n : length l₀ ≡ 2 * size) (s : size ≤ 65536) (h : skip ≤ size) (t : allBelow 256 l₀ ≡ true) (b : Below ds (size - skip)) where
+  pub all-drawn : (l₁ l₂ count l₃ l₄ l₅ : List ℕ) → length l₁ ≡ 2 * size → drop size l₁ ≡ packed (unflat l₀) → l₂ ≡ paste l₁ 0 (drop size l₁) skip
+      → Drawn size skip ds l₂ count l₃ → take (skip + length ds + total count) l₄ ≡ take (skip + length ds) l₃ ++ remaining 1024 count (drop (size + skip) l₃)
+      → l₅ ≡ flat (unpacked (take size l₄)) → l₅ ≡ flat (ordered (0, 0) skip (unflat l₀) ds)
+  unfolding packed unpacked
+  all-drawn l₁ l₂ count l₃ l₄ l₅ n₁ e₁ e₂ d e₄ e₅ =
+      let pk = map code (unflat l₀) in
+      let lp : length pk ≡ size = packed-length (unflat l₀) ∙ unflat-length l₀ size n in
+      let y : 0 + skip ≡ skip = omega arith in
+      let t₂ : take skip l₂ ≡ take skip pk =
+      ap (take skip) e₂ ∙ ap (λ (j : ℕ). take j (paste l₁ 0 (drop size l₁) skip)) (sym y) ∙ take-paste l₁ 0 (drop size l₁) skip (omega arith) (omega (arith, length-drop size l₁)) ∙ ap (take skip) e₁ in
+      let d₀ : drop skip l₂ ≡ drop skip l₁ =
+      ap (drop skip) e₂ ∙ ap (λ (j : ℕ). drop j (paste l₁ 0 (drop size l₁) skip)) (sym y) ∙ drop-paste l₁ 0 (drop size l₁) skip (omega arith) (omega (arith, length-drop size l₁)) ∙ ap (λ (j : ℕ). drop j l₁) y in
+      let x : skip + size ≡ size + skip = omega arith in
+      let d₂ : drop (size + skip) l₂ ≡ drop skip pk =
+      ap (λ (j : ℕ). drop j l₂) (sym x) ∙ sym (drop-drop size skip l₂) ∙ ap (drop size) d₀ ∙ drop-drop size skip l₁ ∙ ap (λ (j : ℕ). drop j l₁) x ∙ sym (drop-drop skip size l₁) ∙ ap (drop skip) e₁ in
+      let m : take size l₄ ≡ take skip pk ++ chosen 0 ds (drop skip pk) =
+      ap (λ (j : ℕ). take j l₄) (sym (d .left)) ∙ e₄ ∙ d .same ∙ ap₂ (λ (u v : List ℕ). u ++ chosen 0 ds v) t₂ d₂ in
+      let back = unpack-pack l₀ size n t in
+      let ld : length (drop skip pk) ≡ size - skip = length-drop skip pk ∙ ap (λ (j : ℕ). j - skip) lp in
+      let f : map decode (take size l₄) ≡ ordered (0, 0) skip (unflat l₀) ds =
+      ap (map decode) m ∙ map-append decode (take skip pk) (chosen 0 ds (drop skip pk))
+      ∙ ap₂ (λ (u v : List Place). u ++ v) (map-take skip pk ∙ ap (take skip) back)
+      (map-chosen decode ds (drop skip pk) (rw ld b) ∙ ap (chosen (0, 0) ds) (map-drop skip pk ∙ ap (drop skip) back)) in
+      e₅ ∙ ap flat f
