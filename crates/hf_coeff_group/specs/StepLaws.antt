@@ -24,7 +24,7 @@ use Rattle.hf_coeff_walk.specs.Items.{itemAt, ItemReady, counted-15, counted-16
 use Rattle.hf_coeff_walk.specs.Counts.{Counts, predicted-take, row-take, row-le, count-over}
 use Rattle.hf_coeff_walk.specs.Kept.{Kept, KeptBy, counted-kept}
 use Rattle.hf_coeff_group.specs.Group.{Grids, Reading, going, refused, after, item, read}
-use Rattle.hf_coeff_group.specs.Steps.{isStopped, readBy, InGrid, ItemFits, Rows, cut, rowBy, Going, Ends, Shown}
+use Rattle.hf_coeff_group.specs.Steps.{isStopped, readBy, InGrid, Rows, cut, rowBy, Going, Ends, Shown}
 use Rattle.hf_coeff_group.specs.Plans.{inChannel, itemBy, PlanReady}
 use Rattle.hf_coeff_group.specs.declared.plan.Plan.{Plan}
 use Rattle.hf_pass_store.specs.Store as kept
@@ -61,6 +61,31 @@ set-rows rows c row r h = record { three = length-set rows c row ∙ r .three; c
     at d (yes e) (no l) = rw (set-out rows c row (omega arith)) (r .counts d)
     at d (no n) l = rw (getD-set-other rows c d row [] n) (r .counts d)
 
+-- the walk ended: the count was read
+module _ (shift clusters : ℕ) (stretch : List ℕ) (c : ℕ) (it : Item) (row symbols : List ℕ) (at : ℕ) (log : List ℕ) (G : Grids) (r : Walk) (log₁ : List ℕ) (G₁ : Grids)
+    (got : InGrid c G r log₁ G₁ (λ g. counted shift clusters stretch it row (drop at symbols) at log g)) where
+  abbrev v : Walked
+  v = counted shift clusters stretch it row (drop at symbols) at log (getD G c [])
+
+  pub read-count : isStopped r ≡ false → (at < length symbols) × (getD symbols at 0 ≤ 63 * it .blocks)
+  read-count e = first (decLt at (length symbols))
+    where
+      now-stopped : (x : Walked) → v ≡ x → isStopped (answerOf x) ≡ false
+      now-stopped x q = ap isStopped (sym (got .answer ∙ ap answerOf q)) ∙ e
+
+      never : (why : ℕ → Refusal) (at′ : ℕ) (log′ g : List ℕ) → v ≡ stopped why at′ log′ g → ⊥
+      never why at′ log′ g q = let z = now-stopped (stopped why at′ log′ g) q in let y : _≡_ {A = ℕ} 0 1 = cc in omega arith
+
+      small : at < length symbols → Dec (getD symbols at 0 ≤ 63 * it .blocks) → (at < length symbols) × (getD symbols at 0 ≤ 63 * it .blocks)
+      small h (yes k) = (h, k)
+      small h (no k) =
+          absurd (never Count (at + 1) (set log at (countCluster clusters stretch it row)) (getD G c [])
+          (counted-16 shift clusters stretch it row symbols at log (getD G c []) h (omega arith)))
+
+      first : Dec (at < length symbols) → (at < length symbols) × (getD symbols at 0 ≤ 63 * it .blocks)
+      first (yes h) = small h (decLe (getD symbols at 0) (63 * it .blocks))
+      first (no h) = absurd (never SymbolsEnd at log (getD G c []) (counted-15 shift clusters stretch it row symbols at log (getD G c []) (omega arith)))
+
 module _ (shift clusters : ℕ) (stretch : List ℕ) (c width : ℕ) (it : Item) (rows : Grids) (symbols : List ℕ) (at : ℕ) (log : List ℕ) (G : Grids) (hc : c < 3) (col : it .x < width) (fine : Rows rows) where
   abbrev w : Walked
   w = counted shift clusters stretch it (getD rows c []) (drop at symbols) at log (getD G c [])
@@ -74,7 +99,7 @@ module _ (shift clusters : ℕ) (stretch : List ℕ) (c width : ℕ) (it : Item)
 
   module _ (most : ℕ) (r : Walk) (log₁ : List ℕ) (G₁ : Grids) (got : InGrid c G r log₁ G₁ (λ g. counted shift clusters stretch it (getD rows c []) (drop at symbols) at log g)) where
     -- the walk stopped
-    pub item-stopped : isStopped r ≡ true → (rows₁ : Grids) (left : ℕ) → Shown width symbols most r rows₁ log₁ G₁ (stepped left)
+    item-stopped : isStopped r ≡ true → (rows₁ : Grids) (left : ℕ) → Shown width symbols most r rows₁ log₁ G₁ (stepped left)
     item-stopped e rows₁ left = rw (stepped-is left) (go w refl)
       where
         go : (x : Walked) → w ≡ x → Shown width symbols most r rows₁ log₁ G₁ (after c G (set (cut width rows) c (newRow (inChannel c it) (take width (getD rows c [])) (drop at symbols))) left x)
@@ -87,36 +112,20 @@ module _ (shift clusters : ℕ) (stretch : List ℕ) (c width : ℕ) (it : Item)
           };
         }
 
-    -- the walk ended: the count was read, and the row is rewritten
-    pub read-count : isStopped r ≡ false → (at < length symbols) × (getD symbols at 0 ≤ 63 * it .blocks)
-    read-count e = first (decLt at (length symbols))
-      where
-        now-stopped : (x : Walked) → w ≡ x → isStopped (answerOf x) ≡ false
-        now-stopped x q = ap isStopped (sym (got .answer ∙ ap answerOf q)) ∙ e
-
-        never : (why : ℕ → Refusal) (at′ : ℕ) (log′ g : List ℕ) → w ≡ stopped why at′ log′ g → ⊥
-        never why at′ log′ g q = let z = now-stopped (stopped why at′ log′ g) q in let y : _≡_ {A = ℕ} 0 1 = cc in omega arith
-
-        small : at < length symbols → Dec (getD symbols at 0 ≤ 63 * it .blocks) → (at < length symbols) × (getD symbols at 0 ≤ 63 * it .blocks)
-        small h (yes k) = (h, k)
-        small h (no k) =
-            absurd (never Count (at + 1) (set log at (countCluster clusters stretch it (getD rows c []))) (getD G c [])
-            (counted-16 shift clusters stretch it (getD rows c []) symbols at log (getD G c []) h (omega arith)))
-
-        first : Dec (at < length symbols) → (at < length symbols) × (getD symbols at 0 ≤ 63 * it .blocks)
-        first (yes h) = small h (decLe (getD symbols at 0) (63 * it .blocks))
-        first (no h) = absurd (never SymbolsEnd at log (getD G c []) (counted-15 shift clusters stretch it (getD rows c []) symbols at log (getD G c []) (omega arith)))
-
-    pub item-goes : isStopped r ≡ false → 0 < it .blocks → suc (length (it .places)) ≤ most - at → at ≤ most
+    -- the walk ended: the row is rewritten
+    item-goes : isStopped r ≡ false → 0 < it .blocks → suc (length (it .places)) ≤ most - at → at ≤ most
         → (left : ℕ) → Shown width symbols most r (rowBy rows c (it .x) (it .wide) (countOver (getD symbols at 0) (it .blocks))) log₁ G₁ (stepped left)
     item-goes e pos room start left = rw (stepped-is left) (go w refl (counted-kept shift clusters stretch it (getD rows c []) (drop at symbols) at log (getD G c [])))
       where
         v : ℕ
         v = countOver (getD symbols at 0) (it .blocks)
 
+        read : (at < length symbols) × (getD symbols at 0 ≤ 63 * it .blocks)
+        read = read-count shift clusters stretch c it (getD rows c []) symbols at log G r log₁ G₁ got e
+
         rows-are : set (cut width rows) c (newRow (inChannel c it) (take width (getD rows c [])) (drop at symbols)) ≡ cut width (rowBy rows c (it .x) (it .wide) v)
         rows-are =
-            let h = read-count e .0 in
+            let h = read .0 in
             rw (drop-cons symbols at 0 h) (ap (λ (l : List ℕ). set (cut width rows) c l) (sym (row-take width (getD rows c []) (it .x) (it .wide) v))
             ∙ set-cut width rows c (rowOf (getD rows c []) (it .x) (it .wide) v) (fine .three) hc)
 
@@ -125,7 +134,7 @@ module _ (shift clusters : ℕ) (stretch : List ℕ) (c width : ℕ) (it : Item)
         go (stopped why at′ log′ g) q k =
             absurd (let a : r ≡ Stopped (why at′) = got .answer ∙ ap answerOf q in let z : isStopped r ≡ true = ap isStopped a in let y : _≡_ {A = ℕ} 0 1 = cc in omega arith)
         go (ended us at′ log′ g n) q k =
-            let m = k .most in let t : k .k ≤ length symbols - at = rw (length-drop at symbols) at (k .there) in let f = k .read in let h = read-count e .0 in
+            let m = k .most in let t : k .k ≤ length symbols - at = rw (length-drop at symbols) at (k .there) in let f = k .read in let h = read .0 in
             record {
               it = record {
                 answer = got .answer ∙ ap answerOf q;
@@ -133,12 +142,31 @@ module _ (shift clusters : ℕ) (stretch : List ℕ) (c width : ℕ) (it : Item)
                 begins = omega arith;
                 few = omega arith;
                 fine = set-rows rows c (rowOf (getD rows c []) (it .x) (it .wide) v) fine
-                    (row-le (getD rows c []) (it .x) (it .wide) v (count-over (getD symbols at 0) (it .blocks) pos (read-count e .1)) (fine .counts c));
+                    (row-le (getD rows c []) (it .x) (it .wide) v (count-over (getD symbols at 0) (it .blocks) pos (read .1)) (fine .counts c));
                 used = rows-are;
                 logged = sym (got .logged ∙ ap logOf q);
                 cells = sym (got .cells ∙ ap (λ (x : Walked). set G c (gridOf x)) q);
               };
             }
+
+-- the same from the channel's row alone, whatever the other rows are
+module _ (shift clusters : ℕ) (stretch : List ℕ) (c width : ℕ) (it : Item) (row symbols : List ℕ) (at : ℕ) (log : List ℕ) (G : Grids) (hc : c < 3) (col : it .x < width) (most : ℕ) (r : Walk) (log₁ : List ℕ) (G₁ : Grids)
+    (got : InGrid c G r log₁ G₁ (λ g. counted shift clusters stretch it row (drop at symbols) at log g)) (rows : Grids) (fine : Rows rows) (er : getD rows c [] ≡ row) where
+  here : InGrid c G r log₁ G₁ (λ g. counted shift clusters stretch it (getD rows c []) (drop at symbols) at log g)
+  here = subst (λ (l : List ℕ). InGrid c G r log₁ G₁ (λ g. counted shift clusters stretch it l (drop at symbols) at log g)) (sym er) got
+
+  pub row-stopped : isStopped r ≡ true → (rows₁ : Grids) (left : ℕ)
+      → Shown width symbols most r rows₁ log₁ G₁ (item shift clusters stretch (inChannel c it) (going (drop at symbols) at log G (cut width rows) left))
+  row-stopped = item-stopped shift clusters stretch c width it rows symbols at log G hc col fine most r log₁ G₁ here
+
+  pub row-goes : isStopped r ≡ false → 0 < it .blocks → suc (length (it .places)) ≤ most - at → at ≤ most
+      → (left : ℕ) → Shown width symbols most r (rowBy rows c (it .x) (it .wide) (countOver (getD symbols at 0) (it .blocks))) log₁ G₁
+      (item shift clusters stretch (inChannel c it) (going (drop at symbols) at log G (cut width rows) left))
+  row-goes = item-goes shift clusters stretch c width it rows symbols at log G hc col fine most r log₁ G₁ here
+
+-- a row that another channel's rewriting leaves as it is
+pub row-kept : (rows : Grids) (c d x n v : ℕ) → (d ≡ c → ⊥) → getD (rowBy rows c x n v) d [] ≡ getD rows d []
+row-kept rows c d x n v ne = getD-set-other rows c d (rowOf (getD rows c []) x n v) [] ne
 
 -- an item has 63 places for each block
 pub item-size : (v : Varblock) (width context : ℕ) (order : List ℕ) → length order ≡ 128 * 2 ^ (v .log) → length (itemAt v width context order .places) ≡ 63 * 2 ^ (v .log)
@@ -211,9 +239,9 @@ module _ (width : ℕ) (symbols : List ℕ) where
 
 -- what a planned varblock gives each of its channels
 pub item-ready : (p : Plan) (width clusters : ℕ) (map store : List ℕ) (symbols at shift log cells : ℕ) → PlanReady p width clusters map store symbols at shift log cells
-    → (n c at₁ : ℕ) (rows : Grids) (order : List ℕ) → n < 3 → c < 3 → at₁ ≤ symbols → at₁ ≤ at + 128 * 2 ^ (p .at .log) → Rows rows → order ≡ kept.stretch store (p .order) c
-    → ItemReady (p .at) width (getD (p .contexts) n 0) clusters map order (getD rows c []) symbols at₁ shift log cells
-item-ready p width clusters map store symbols at shift log cells r n c at₁ rows order hn hc b m f e =
+    → (n c at₁ : ℕ) (row order : List ℕ) → n < 3 → c < 3 → at₁ ≤ symbols → at₁ ≤ at + 128 * 2 ^ (p .at .log) → Counts row → order ≡ kept.stretch store (p .order) c
+    → ItemReady (p .at) width (getD (p .contexts) n 0) clusters map order row symbols at₁ shift log cells
+item-ready p width clusters map store symbols at shift log cells r n c at₁ row order hn hc b m f e =
     let room = r .room in
     rw e (record {
       left = r .left;
@@ -224,25 +252,22 @@ item-ready p width clusters map store symbols at shift log cells r n c at₁ row
       few = r .few;
       entries = r .entries;
       places = r .places c hc;
-      counts = f .counts c;
+      counts = f;
       begins = b;
       shifts = r .shifts;
       room = omega arith;
       inside = λ k h. r .inside n c k hc h;
     })
 
-pub item-fits : (p : Plan) (width clusters : ℕ) (map store : List ℕ) (symbols at shift log cells : ℕ) → PlanReady p width clusters map store symbols at shift log cells
-    → (c : ℕ) (rows : Grids) → c < 3 → Rows rows → ItemFits c (p .at) width rows
-item-fits p width clusters map store symbols at shift log cells r c rows hc f = record { channel = hc; column = r .column; span = r .span; fine = f }
-
 -- what each channel of a planned varblock is asked
 module _ (p : Plan) (width clusters : ℕ) (map store : List ℕ) (symbols at shift log cells : ℕ) (r : PlanReady p width clusters map store symbols at shift log cells) where
-  pub item-asks : (n c at₁ : ℕ) (rows : Grids) (order : List ℕ) (log₁ cells₁ one two : ℕ) → n < 3 → c < 3 → at₁ ≤ symbols → at₁ ≤ at + 128 * 2 ^ (p .at .log) → Rows rows → order ≡ kept.stretch store (p .order) c
+  pub item-asks : (n c at₁ : ℕ) (row order : List ℕ) (log₁ cells₁ one two : ℕ) → n < 3 → c < 3 → at₁ ≤ symbols → at₁ ≤ at + 128 * 2 ^ (p .at .log) → Counts row → order ≡ kept.stretch store (p .order) c
       → log₁ ≡ log → cells₁ ≡ cells → one ≡ cells → two ≡ cells
-      → ItemFits c (p .at) width rows × ItemReady (p .at) width (getD (p .contexts) n 0) clusters map order (getD rows c []) symbols at₁ shift log₁ cells₁ × (one ≡ cells₁) × (two ≡ cells₁)
-  item-asks n c at₁ rows order log₁ cells₁ one two hn hc b m f e el ec e₁ e₂ = (
-    item-fits p width clusters map store symbols at shift log cells r c rows hc f,
-    rw (el, ec) (item-ready p width clusters map store symbols at shift log cells r n c at₁ rows order hn hc b m f e),
+      → (c < 3) × (p .at .x < width) × ItemReady (p .at) width (getD (p .contexts) n 0) clusters map order row symbols at₁ shift log₁ cells₁ × (one ≡ cells₁) × (two ≡ cells₁)
+  item-asks n c at₁ row order log₁ cells₁ one two hn hc b m f e el ec e₁ e₂ = (
+    hc,
+    r .column,
+    rw (el, ec) (item-ready p width clusters map store symbols at shift log cells r n c at₁ row order hn hc b m f e),
     e₁ ∙ sym ec,
     e₂ ∙ sym ec,
   )

@@ -34,13 +34,6 @@ pub record Rows (rows : Grids) : Type 0 where
   pub three : length rows ≡ 3
   pub counts : (c : ℕ) → Counts (getD rows c [])
 
--- what a channel's row requires
-pub record ItemFits (c : ℕ) (v : Varblock) (width : ℕ) (rows : Grids) : Type 0 where
-  pub channel : c < 3
-  pub column : v .x < width
-  pub span : v .x + v .wide ≤ 32
-  pub fine : Rows rows
-
 -- the part of the rows that a group of this width uses
 abbrev pub cut : ℕ → Grids → Grids
 cut w rows = take w (getD rows 0 []) ∷ take w (getD rows 1 []) ∷ take w (getD rows 2 []) ∷ []

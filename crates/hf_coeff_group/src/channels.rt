@@ -11,11 +11,11 @@ use hf_pass_store::order;
 ghost use mathlib.Core.Path.{_≡_};
 ghost use mathlib.Core.List.{[], _∷_};
 ghost use Prim.Native.Nat.{ℕ, _+_, _*_, _^_, _≤_, _<_};
-ghost use lib.ListN.{length, getD, set, drop};
-ghost use Rattle.hf_coeff_walk.specs.Item.{counted, rowOf};
+ghost use lib.ListN.{length, getD, drop};
+ghost use Rattle.hf_coeff_walk.specs.Item.{counted};
 ghost use Rattle.hf_coeff_walk.specs.Items.{ItemReady, itemAt};
-ghost use Rattle.hf_coeff_group.specs.Group.{going, item, read};
-ghost use Rattle.hf_coeff_group.specs.Steps.{InGrid, ItemFits, Shown, cut, Rows, rowsBy};
+ghost use Rattle.hf_coeff_group.specs.Group.{Grids, going, item, read};
+ghost use Rattle.hf_coeff_group.specs.Steps.{InGrid, Shown, cut, Rows, rowBy, rowsBy};
 ghost use Rattle.hf_coeff_group.specs.Plans.{inChannel, itemsBy, PlanReady};
 
 // The walk of channel c, in its grid.
@@ -99,7 +99,7 @@ pub struct ChannelRead {
     pub count: u32,
 }
 
-// Channel c of a varblock.
+// Channel c of a varblock, whatever the rows of the other two are.
 fn read_item<'a>(
     c: usize,
     v: Varblock,
@@ -108,7 +108,7 @@ fn read_item<'a>(
     clusters: usize,
     map: &'a [u8],
     order: &'a [u16],
-    rows: [[u32; 32]; 3],
+    row: [u32; 32],
     symbols: &'a [u32],
     at: usize,
     shift: u32,
@@ -117,10 +117,9 @@ fn read_item<'a>(
     g1: &mut [u32],
     g2: &mut [u32],
 ) -> ChannelRead
-    requires { ⌜ ItemFits c v width rows × ItemReady v width context clusters (now map) (now order) (getD rows c []) (length (now symbols)) at shift (length (now log)) (length (now g0)) × (length (now g1) ≡ length (now g0)) × (length (now g2) ≡ length (now g0)) ⌝ }
-    ensures { λ r. ⌜ ((left : ℕ) → Shown width (now (symbols .entry)) (at + 64 * 2 ^ (v .log)) (r .walk) (set rows c (rowOf (getD rows c []) (v .x) (v .wide) (r .count))) (now (log .exit)) (now (g0 .exit) ∷ now (g1 .exit) ∷ now (g2 .exit) ∷ []) (item shift clusters (now (map .entry)) (inChannel c (itemAt v width context (now (order .entry)))) (going (drop at (now (symbols .entry))) at (now (log .entry)) (now (g0 .entry) ∷ now (g1 .entry) ∷ now (g2 .entry) ∷ []) (cut width rows) left))) ⌝ }
+    requires { ⌜ (c < 3) × (v .x < width) × ItemReady v width context clusters (now map) (now order) row (length (now symbols)) at shift (length (now log)) (length (now g0)) × (length (now g1) ≡ length (now g0)) × (length (now g2) ≡ length (now g0)) ⌝ }
+    ensures { λ r. ⌜ ((rows : Grids) → Rows rows → getD rows c [] ≡ row → (left : ℕ) → Shown width (now (symbols .entry)) (at + 64 * 2 ^ (v .log)) (r .walk) (rowBy rows c (v .x) (v .wide) (r .count)) (now (log .exit)) (now (g0 .exit) ∷ now (g1 .exit) ∷ now (g2 .exit) ∷ []) (item shift clusters (now (map .entry)) (inChannel c (itemAt v width context (now (order .entry)))) (going (drop at (now (symbols .entry))) at (now (log .entry)) (now (g0 .entry) ∷ now (g1 .entry) ∷ now (g2 .entry) ∷ []) (cut width rows) left))) ⌝ }
 {
-    let row = rows[c];
     let walk = walk_channel(
         c,
         v,
@@ -196,7 +195,7 @@ pub fn read_varblock<'a>(
         clusters,
         map,
         order(store, number, 1),
-        rows,
+        rows[1],
         symbols,
         at,
         shift,
@@ -213,7 +212,6 @@ pub fn read_varblock<'a>(
         };
     }
     let at = symbols_read(walk);
-    let rows = rewritten(rows, 1, v.x, v.wide, y.count);
     let x = read_item(
         0,
         v,
@@ -222,7 +220,7 @@ pub fn read_varblock<'a>(
         clusters,
         map,
         order(store, number, 0),
-        rows,
+        rows[0],
         symbols,
         at,
         shift,
@@ -239,7 +237,6 @@ pub fn read_varblock<'a>(
         };
     }
     let at = symbols_read(walk);
-    let rows = rewritten(rows, 0, v.x, v.wide, x.count);
     let b = read_item(
         2,
         v,
@@ -248,7 +245,7 @@ pub fn read_varblock<'a>(
         clusters,
         map,
         order(store, number, 2),
-        rows,
+        rows[2],
         symbols,
         at,
         shift,

@@ -2,9 +2,9 @@ use mathlib.Core.Path.{refl, _≡_, _∙_, ap, sym}
 use mathlib.Core.List.{List, [], _∷_}
 use Prim.Native.Nat.{_^_, ℕ, _≤_, _+_, _*_}
 use Rattle.hf_coeff_walk.specs.Items.{itemAt}
-use Rattle.hf_coeff_group.specs.Steps.{readBy}
+use Rattle.hf_coeff_group.specs.Steps.{readBy, rowBy}
 use Rattle.hf_coeff_group.specs.Plans.{inChannel, itemBy}
-use Rattle.hf_coeff_group.specs.StepLaws.{shown-on, item-asks, first-stop, first-then, three-shown, three-most}
+use Rattle.hf_coeff_group.specs.StepLaws.{shown-on, item-asks, first-stop, first-then, three-shown, three-most, row-kept}
 use borrow.Author.Needs.{needs}
 use native.Mathlib.Omega.{arith}
 use lib.ListN.{length, getD}
@@ -17,10 +17,13 @@ array-read-read-item c = search needs
 order-requires : tie.Need-order-requires
 order-requires c κs = search needs
 
+array-copy-out-read-item : tie.Need-array-copy-out-read-item
+array-copy-out-read-item c = search needs
+
 read-item-requires : tie.Need-read-item-requires
 read-item-requires c κs =
-    let a = c .before .before .before .before .before .before .before .before .before .before .before .before .before .before .args in
-    item-asks (a .plan) (a .width) (a .clusters) (a .map .now) (a .store .now) (length (a .symbols .now)) (a .at) (a .shift) (length (a .log .now)) (length (a .g0 .now)) (c .before .before .before .before .before .before .before .before .before .before .before .before .before .before .pre .0) 0 1 (a .at) (a .rows) _ _ _ _ _ (omega arith) (omega arith) (c .before .before .before .before .before .before .before .before .before .before .before .before .before .before .pre .0 .begins) (omega arith) (c .before .before .before .before .before .before .before .before .before .before .before .before .before .before .pre .1) (c .before .before .before .before .order .ensures) refl refl (c .before .before .before .before .before .before .before .before .before .before .before .before .before .before .pre .2) (c .before .before .before .before .before .before .before .before .before .before .before .before .before .before .pre .3)
+    let a = c .before .before .before .before .before .before .before .before .before .before .before .before .before .before .before .args in
+    item-asks (a .plan) (a .width) (a .clusters) (a .map .now) (a .store .now) (length (a .symbols .now)) (a .at) (a .shift) (length (a .log .now)) (length (a .g0 .now)) (c .before .before .before .before .before .before .before .before .before .before .before .before .before .before .before .pre .0) 0 1 (a .at) (getD (a .t8) 1 []) _ _ _ _ _ (omega arith) (omega arith) (c .before .before .before .before .before .before .before .before .before .before .before .before .before .before .before .pre .0 .begins) (omega arith) (c .before .before .before .before .before .before .before .before .before .before .before .before .before .before .before .pre .1 .counts 1) (c .before .before .before .before .before .order .ensures) refl refl (c .before .before .before .before .before .before .before .before .before .before .before .before .before .before .before .pre .2) (c .before .before .before .before .before .before .before .before .before .before .before .before .before .before .before .pre .3)
 
 is-stopped-requires : tie.Need-is-stopped-requires
 is-stopped-requires c κs = search needs
@@ -39,14 +42,11 @@ same-length-4 c = search needs
 
 returns : tie.Need-returns
 returns c =
-    let a = c .before .before .before .before .before .before .before .before .before .before .before .before .before .before .before .before .before .before .before .before .before .before .before .before .before .args in
-    λ left. first-stop (a .width) (a .symbols .now) (a .shift) (a .clusters) (a .map .now) _ (itemBy (a .plan) (a .width) (a .store .now) 0 1) (ap (λ (o : List ℕ). inChannel 1 (itemAt (a .plan .at) (a .width) (getD (a .plan .contexts) 0 0) o)) (c .before .before .before .before .before .before .before .before .before .before .before .before .before .before .before .order .ensures)) _ _ (a .at + 192 * 2 ^ (a .plan .at .log)) _ _ _ _ (c .before .before .before .before .before .before .before .before .before .before .read-item .ensures left) (itemBy (a .plan) (a .width) (a .store .now) 1 0 ∷ itemBy (a .plan) (a .width) (a .store .now) 2 2 ∷ []) _ (sym (c .before .is-stopped .ensures) ∙ c .if1 .taken)
+    let a = c .before .before .before .before .before .before .before .before .before .before .before .before .before .before .before .before .before .before .before .before .before .before .before .before .before .before .args in
+    λ left. first-stop (a .width) (a .symbols .now) (a .shift) (a .clusters) (a .map .now) _ (itemBy (a .plan) (a .width) (a .store .now) 0 1) (ap (λ (o : List ℕ). inChannel 1 (itemAt (a .plan .at) (a .width) (getD (a .plan .contexts) 0 0) o)) (c .before .before .before .before .before .before .before .before .before .before .before .before .before .before .before .before .order .ensures)) _ _ (a .at + 192 * 2 ^ (a .plan .at .log)) _ _ _ _ (c .before .before .before .before .before .before .before .before .before .before .read-item .ensures (a .t8) (c .before .before .before .before .before .before .before .before .before .before .before .before .before .before .before .before .before .before .before .before .before .before .before .before .before .before .pre .1) refl left) (itemBy (a .plan) (a .width) (a .store .now) 1 0 ∷ itemBy (a .plan) (a .width) (a .store .now) 2 2 ∷ []) _ (sym (c .before .is-stopped .ensures) ∙ c .if1 .taken)
 
 symbols-read-requires : tie.Need-symbols-read-requires
 symbols-read-requires c κs = search needs
-
-rewritten-requires : tie.Need-rewritten-requires
-rewritten-requires c κs = (omega arith, c .before .before .before .before .before .before .before .before .before .before .before .before .before .before .before .before .before .before .before .before .before .before .before .before .before .before .pre .0 .span)
 
 array-read-read-item-2 : tie.Need-array-read-read-item-2
 array-read-read-item-2 c = search needs
@@ -54,15 +54,18 @@ array-read-read-item-2 c = search needs
 order-requires-2 : tie.Need-order-requires-2
 order-requires-2 c κs = search needs
 
+array-copy-out-read-item-2 : tie.Need-array-copy-out-read-item-2
+array-copy-out-read-item-2 c = search needs
+
 read-item-requires-2 : tie.Need-read-item-requires-2
 read-item-requires-2 c κs =
-    let a = c .before .before .before .before .before .before .before .before .before .before .before .before .before .before .before .before .before .before .before .before .before .before .before .before .before .before .before .before .before .before .before .before .args in
-    let o1 = shown-on (a .width) (a .symbols .now) (a .at + 64 * 2 ^ (a .plan .at .log)) _ _ _ _ _ (c .before .before .before .before .before .before .before .before .before .before .before .before .before .before .before .before .before .read-item .ensures 0) (sym (c .before .before .before .before .before .before .before .before .is-stopped .ensures) ∙ c .before .before .before .before .before .before .before .if1 .left) in
+    let a = c .before .before .before .before .before .before .before .before .before .before .before .before .before .before .before .before .before .before .before .before .before .before .before .before .before .before .before .before .before .before .before .before .before .args in
+    let o1 = shown-on (a .width) (a .symbols .now) (a .at + 64 * 2 ^ (a .plan .at .log)) _ _ _ _ _ (c .before .before .before .before .before .before .before .before .before .before .before .before .before .before .before .before .before .read-item .ensures (a .t8) (c .before .before .before .before .before .before .before .before .before .before .before .before .before .before .before .before .before .before .before .before .before .before .before .before .before .before .before .before .before .before .before .before .before .pre .1) refl 0) (sym (c .before .before .before .before .before .before .before .before .is-stopped .ensures) ∙ c .before .before .before .before .before .before .before .if1 .left) in
     let q : c .before .before .before .before .before .before .symbols-read .result ≡ readBy (c .before .before .before .before .before .before .before .before .before .before .before .before .before .before .before .before .before .read-item .result .walk) = c .before .before .before .before .before .before .symbols-read .ensures in
     let b : readBy (c .before .before .before .before .before .before .before .before .before .before .before .before .before .before .before .before .before .read-item .result .walk) ≤ length (a .symbols .now) = o1 .begins in
     let m : readBy (c .before .before .before .before .before .before .before .before .before .before .before .before .before .before .before .before .before .read-item .result .walk) ≤ a .at + 64 * 2 ^ (a .plan .at .log) = o1 .few in
-    item-asks (a .plan) (a .width) (a .clusters) (a .map .now) (a .store .now) (length (a .symbols .now)) (a .at) (a .shift) (length (a .log .now)) (length (a .g0 .now)) (c .before .before .before .before .before .before .before .before .before .before .before .before .before .before .before .before .before .before .before .before .before .before .before .before .before .before .before .before .before .before .before .before .pre .0) 1 0 (c .before .before .before .before .before .before .symbols-read .result) (c .before .before .before .before .before .rewritten .result) _ _ _ _ _ (omega arith) (omega arith) (omega arith) (omega arith) (rw (c .before .before .before .before .before .rewritten .ensures) (o1 .fine)) (c .before .before .before .before .order2 .ensures)
-    (c .before .before .before .before .before .before .before .before .before .before .before .before .before .before .before .before .log .given) (c .before .before .before .before .before .before .before .before .before .before .before .before .before .before .g0 .given) (c .before .before .before .before .before .before .before .before .before .before .before .before .g1 .given ∙ c .before .before .before .before .before .before .before .before .before .before .before .before .before .before .before .before .before .before .before .before .before .before .before .before .before .before .before .before .before .before .before .before .pre .2) (c .before .before .before .before .before .before .before .before .before .before .g2 .given ∙ c .before .before .before .before .before .before .before .before .before .before .before .before .before .before .before .before .before .before .before .before .before .before .before .before .before .before .before .before .before .before .before .before .pre .3)
+    item-asks (a .plan) (a .width) (a .clusters) (a .map .now) (a .store .now) (length (a .symbols .now)) (a .at) (a .shift) (length (a .log .now)) (length (a .g0 .now)) (c .before .before .before .before .before .before .before .before .before .before .before .before .before .before .before .before .before .before .before .before .before .before .before .before .before .before .before .before .before .before .before .before .before .pre .0) 1 0 (c .before .before .before .before .before .before .symbols-read .result) (getD (a .t8) 0 []) _ _ _ _ _ (omega arith) (omega arith) (omega arith) (omega arith) (c .before .before .before .before .before .before .before .before .before .before .before .before .before .before .before .before .before .before .before .before .before .before .before .before .before .before .before .before .before .before .before .before .before .pre .1 .counts 0) (c .before .before .before .before .before .order2 .ensures)
+    (c .before .before .before .before .before .before .before .before .before .before .before .before .before .before .before .before .log .given) (c .before .before .before .before .before .before .before .before .before .before .before .before .before .before .g0 .given) (c .before .before .before .before .before .before .before .before .before .before .before .before .g1 .given ∙ c .before .before .before .before .before .before .before .before .before .before .before .before .before .before .before .before .before .before .before .before .before .before .before .before .before .before .before .before .before .before .before .before .before .pre .2) (c .before .before .before .before .before .before .before .before .before .before .g2 .given ∙ c .before .before .before .before .before .before .before .before .before .before .before .before .before .before .before .before .before .before .before .before .before .before .before .before .before .before .before .before .before .before .before .before .before .pre .3)
 
 is-stopped-requires-2 : tie.Need-is-stopped-requires-2
 is-stopped-requires-2 c κs = search needs
@@ -81,15 +84,15 @@ same-length-8 c = c .before .before .before .g22 .given ∙ c .before .before .b
 
 returns-2 : tie.Need-returns-2
 returns-2 c =
-    let a = c .before .before .before .before .before .before .before .before .before .before .before .before .before .before .before .before .before .before .before .before .before .before .before .before .before .before .before .before .before .before .before .before .before .before .before .before .before .before .before .before .before .before .before .args in
-    λ left. first-then (a .width) (a .symbols .now) (a .shift) (a .clusters) (a .map .now) _ (itemBy (a .plan) (a .width) (a .store .now) 0 1) (ap (λ (o : List ℕ). inChannel 1 (itemAt (a .plan .at) (a .width) (getD (a .plan .contexts) 0 0) o)) (c .before .before .before .before .before .before .before .before .before .before .before .before .before .before .before .before .before .before .before .before .before .before .before .before .before .before .before .before .before .before .before .before .before .order .ensures)) _ _ (a .at + 192 * 2 ^ (a .plan .at .log)) _ _ _ _ (c .before .before .before .before .before .before .before .before .before .before .before .before .before .before .before .before .before .before .before .before .before .before .before .before .before .before .before .before .read-item .ensures left) (itemBy (a .plan) (a .width) (a .store .now) 1 0 ∷ itemBy (a .plan) (a .width) (a .store .now) 2 2 ∷ []) _ _ _ _ (sym (c .before .before .before .before .before .before .before .before .before .before .before .before .before .before .before .before .before .before .before .is-stopped .ensures) ∙ c .before .before .before .before .before .before .before .before .before .before .before .before .before .before .before .before .before .before .if1 .left)
-    (λ l. rw (← (c .before .before .before .before .before .before .before .before .before .before .before .before .before .before .before .before .before .symbols-read .ensures), ← (c .before .before .before .before .before .before .before .before .before .before .before .before .before .before .before .before .rewritten .ensures)) (first-stop (a .width) (a .symbols .now) (a .shift) (a .clusters) (a .map .now) _ (itemBy (a .plan) (a .width) (a .store .now) 1 0) (ap (λ (o : List ℕ). inChannel 0 (itemAt (a .plan .at) (a .width) (getD (a .plan .contexts) 1 0) o)) (c .before .before .before .before .before .before .before .before .before .before .before .before .before .before .before .order2 .ensures)) _ _ (a .at + 192 * 2 ^ (a .plan .at .log)) _ _ _ _ (c .before .before .before .before .before .before .before .before .before .before .read-item2 .ensures l) (itemBy (a .plan) (a .width) (a .store .now) 2 2 ∷ []) _ (sym (c .before .is-stopped2 .ensures) ∙ c .if2 .taken)))
+    let a = c .before .before .before .before .before .before .before .before .before .before .before .before .before .before .before .before .before .before .before .before .before .before .before .before .before .before .before .before .before .before .before .before .before .before .before .before .before .before .before .before .before .before .before .before .args in
+    let s1 = c .before .before .before .before .before .before .before .before .before .before .before .before .before .before .before .before .before .before .before .before .before .before .before .before .before .before .before .before .read-item .ensures (a .t8) (c .before .before .before .before .before .before .before .before .before .before .before .before .before .before .before .before .before .before .before .before .before .before .before .before .before .before .before .before .before .before .before .before .before .before .before .before .before .before .before .before .before .before .before .before .pre .1) refl in
+    let go = sym (c .before .before .before .before .before .before .before .before .before .before .before .before .before .before .before .before .before .before .before .is-stopped .ensures) ∙ c .before .before .before .before .before .before .before .before .before .before .before .before .before .before .before .before .before .before .if1 .left in
+    let o1 = shown-on (a .width) (a .symbols .now) (a .at + 64 * 2 ^ (a .plan .at .log)) _ _ _ _ _ (s1 0) go in
+    λ left. first-then (a .width) (a .symbols .now) (a .shift) (a .clusters) (a .map .now) _ (itemBy (a .plan) (a .width) (a .store .now) 0 1) (ap (λ (o : List ℕ). inChannel 1 (itemAt (a .plan .at) (a .width) (getD (a .plan .contexts) 0 0) o)) (c .before .before .before .before .before .before .before .before .before .before .before .before .before .before .before .before .before .before .before .before .before .before .before .before .before .before .before .before .before .before .before .before .before .before .order .ensures)) _ _ (a .at + 192 * 2 ^ (a .plan .at .log)) _ _ _ _ (s1 left) (itemBy (a .plan) (a .width) (a .store .now) 1 0 ∷ itemBy (a .plan) (a .width) (a .store .now) 2 2 ∷ []) _ _ _ _ go
+    (λ l. rw (← (c .before .before .before .before .before .before .before .before .before .before .before .before .before .before .before .before .before .symbols-read .ensures)) (first-stop (a .width) (a .symbols .now) (a .shift) (a .clusters) (a .map .now) _ (itemBy (a .plan) (a .width) (a .store .now) 1 0) (ap (λ (o : List ℕ). inChannel 0 (itemAt (a .plan .at) (a .width) (getD (a .plan .contexts) 1 0) o)) (c .before .before .before .before .before .before .before .before .before .before .before .before .before .before .before .before .order2 .ensures)) _ _ (a .at + 192 * 2 ^ (a .plan .at .log)) _ _ _ _ (c .before .before .before .before .before .before .before .before .before .before .read-item2 .ensures (rowBy (a .t8) 1 (a .plan .at .x) (a .plan .at .wide) (c .before .before .before .before .before .before .before .before .before .before .before .before .before .before .before .before .before .before .before .before .before .before .before .before .before .before .before .before .read-item .result .count)) (o1 .fine) (row-kept (a .t8) 1 0 (a .plan .at .x) (a .plan .at .wide) (c .before .before .before .before .before .before .before .before .before .before .before .before .before .before .before .before .before .before .before .before .before .before .before .before .before .before .before .before .read-item .result .count) (omega arith)) l) (itemBy (a .plan) (a .width) (a .store .now) 2 2 ∷ []) _ (sym (c .before .is-stopped2 .ensures) ∙ c .if2 .taken)))
 
 symbols-read-requires-2 : tie.Need-symbols-read-requires-2
 symbols-read-requires-2 c κs = search needs
-
-rewritten-requires-2 : tie.Need-rewritten-requires-2
-rewritten-requires-2 c κs = (omega arith, c .before .before .before .before .before .before .before .before .before .before .before .before .before .before .before .before .before .before .before .before .before .before .before .before .before .before .before .before .before .before .before .before .before .before .before .before .before .before .before .before .before .before .before .before .pre .0 .span)
 
 array-read-read-item-3 : tie.Need-array-read-read-item-3
 array-read-read-item-3 c = search needs
@@ -97,18 +100,21 @@ array-read-read-item-3 c = search needs
 order-requires-3 : tie.Need-order-requires-3
 order-requires-3 c κs = search needs
 
+array-copy-out-read-item-3 : tie.Need-array-copy-out-read-item-3
+array-copy-out-read-item-3 c = search needs
+
 read-item-requires-3 : tie.Need-read-item-requires-3
 read-item-requires-3 c κs =
-    let a = c .before .before .before .before .before .before .before .before .before .before .before .before .before .before .before .before .before .before .before .before .before .before .before .before .before .before .before .before .before .before .before .before .before .before .before .before .before .before .before .before .before .before .before .before .before .before .before .before .before .before .args in
-    let o1 = shown-on (a .width) (a .symbols .now) (a .at + 64 * 2 ^ (a .plan .at .log)) _ _ _ _ _ (c .before .before .before .before .before .before .before .before .before .before .before .before .before .before .before .before .before .before .before .before .before .before .before .before .before .before .before .before .before .before .before .before .before .before .before .read-item .ensures 0) (sym (c .before .before .before .before .before .before .before .before .before .before .before .before .before .before .before .before .before .before .before .before .before .before .before .before .before .before .is-stopped .ensures) ∙ c .before .before .before .before .before .before .before .before .before .before .before .before .before .before .before .before .before .before .before .before .before .before .before .before .before .if1 .left) in
-    let o2 = shown-on (a .width) (a .symbols .now) (c .before .before .before .before .before .before .before .before .before .before .before .before .before .before .before .before .before .before .before .before .before .before .before .before .symbols-read .result + 64 * 2 ^ (a .plan .at .log)) _ _ _ _ _ (c .before .before .before .before .before .before .before .before .before .before .before .before .before .before .before .before .before .read-item2 .ensures 0) (sym (c .before .before .before .before .before .before .before .before .is-stopped2 .ensures) ∙ c .before .before .before .before .before .before .before .if2 .left) in
+    let a = c .before .before .before .before .before .before .before .before .before .before .before .before .before .before .before .before .before .before .before .before .before .before .before .before .before .before .before .before .before .before .before .before .before .before .before .before .before .before .before .before .before .before .before .before .before .before .before .before .before .before .before .args in
+    let o1 = shown-on (a .width) (a .symbols .now) (a .at + 64 * 2 ^ (a .plan .at .log)) _ _ _ _ _ (c .before .before .before .before .before .before .before .before .before .before .before .before .before .before .before .before .before .before .before .before .before .before .before .before .before .before .before .before .before .before .before .before .before .before .before .read-item .ensures (a .t8) (c .before .before .before .before .before .before .before .before .before .before .before .before .before .before .before .before .before .before .before .before .before .before .before .before .before .before .before .before .before .before .before .before .before .before .before .before .before .before .before .before .before .before .before .before .before .before .before .before .before .before .before .pre .1) refl 0) (sym (c .before .before .before .before .before .before .before .before .before .before .before .before .before .before .before .before .before .before .before .before .before .before .before .before .before .before .is-stopped .ensures) ∙ c .before .before .before .before .before .before .before .before .before .before .before .before .before .before .before .before .before .before .before .before .before .before .before .before .before .if1 .left) in
+    let o2 = shown-on (a .width) (a .symbols .now) (c .before .before .before .before .before .before .before .before .before .before .before .before .before .before .before .before .before .before .before .before .before .before .before .before .symbols-read .result + 64 * 2 ^ (a .plan .at .log)) _ _ _ _ _ (c .before .before .before .before .before .before .before .before .before .before .before .before .before .before .before .before .before .read-item2 .ensures (rowBy (a .t8) 1 (a .plan .at .x) (a .plan .at .wide) (c .before .before .before .before .before .before .before .before .before .before .before .before .before .before .before .before .before .before .before .before .before .before .before .before .before .before .before .before .before .before .before .before .before .before .before .read-item .result .count)) (o1 .fine) (row-kept (a .t8) 1 0 (a .plan .at .x) (a .plan .at .wide) (c .before .before .before .before .before .before .before .before .before .before .before .before .before .before .before .before .before .before .before .before .before .before .before .before .before .before .before .before .before .before .before .before .before .before .before .read-item .result .count) (omega arith)) 0) (sym (c .before .before .before .before .before .before .before .before .is-stopped2 .ensures) ∙ c .before .before .before .before .before .before .before .if2 .left) in
     let q : c .before .before .before .before .before .before .before .before .before .before .before .before .before .before .before .before .before .before .before .before .before .before .before .before .symbols-read .result ≡ readBy (c .before .before .before .before .before .before .before .before .before .before .before .before .before .before .before .before .before .before .before .before .before .before .before .before .before .before .before .before .before .before .before .before .before .before .before .read-item .result .walk) = c .before .before .before .before .before .before .before .before .before .before .before .before .before .before .before .before .before .before .before .before .before .before .before .before .symbols-read .ensures in
     let q2 : c .before .before .before .before .before .before .symbols-read2 .result ≡ readBy (c .before .before .before .before .before .before .before .before .before .before .before .before .before .before .before .before .before .read-item2 .result .walk) = c .before .before .before .before .before .before .symbols-read2 .ensures in
     let b : readBy (c .before .before .before .before .before .before .before .before .before .before .before .before .before .before .before .before .before .read-item2 .result .walk) ≤ length (a .symbols .now) = o2 .begins in
     let m : readBy (c .before .before .before .before .before .before .before .before .before .before .before .before .before .before .before .before .before .before .before .before .before .before .before .before .before .before .before .before .before .before .before .before .before .before .before .read-item .result .walk) ≤ a .at + 64 * 2 ^ (a .plan .at .log) = o1 .few in
     let m2 : readBy (c .before .before .before .before .before .before .before .before .before .before .before .before .before .before .before .before .before .read-item2 .result .walk) ≤ c .before .before .before .before .before .before .before .before .before .before .before .before .before .before .before .before .before .before .before .before .before .before .before .before .symbols-read .result + 64 * 2 ^ (a .plan .at .log) = o2 .few in
-    item-asks (a .plan) (a .width) (a .clusters) (a .map .now) (a .store .now) (length (a .symbols .now)) (a .at) (a .shift) (length (a .log .now)) (length (a .g0 .now)) (c .before .before .before .before .before .before .before .before .before .before .before .before .before .before .before .before .before .before .before .before .before .before .before .before .before .before .before .before .before .before .before .before .before .before .before .before .before .before .before .before .before .before .before .before .before .before .before .before .before .before .pre .0) 2 2 (c .before .before .before .before .before .before .symbols-read2 .result) (c .before .before .before .before .before .rewritten2 .result) _ _ _ _ _ (omega arith) (omega arith) (omega arith) (omega arith) (rw (c .before .before .before .before .before .rewritten2 .ensures) (o2 .fine)) (c .before .before .before .before .order3 .ensures)
-    (c .before .before .before .before .before .before .before .before .before .before .before .before .before .before .before .before .log2 .given ∙ c .before .before .before .before .before .before .before .before .before .before .before .before .before .before .before .before .before .before .before .before .before .before .before .before .before .before .before .before .before .before .before .before .before .before .log .given) (c .before .before .before .before .before .before .before .before .before .before .before .before .before .before .g02 .given ∙ c .before .before .before .before .before .before .before .before .before .before .before .before .before .before .before .before .before .before .before .before .before .before .before .before .before .before .before .before .before .before .before .before .g0 .given) (c .before .before .before .before .before .before .before .before .before .before .before .before .g12 .given ∙ c .before .before .before .before .before .before .before .before .before .before .before .before .before .before .before .before .before .before .before .before .before .before .before .before .before .before .before .before .before .before .g1 .given ∙ c .before .before .before .before .before .before .before .before .before .before .before .before .before .before .before .before .before .before .before .before .before .before .before .before .before .before .before .before .before .before .before .before .before .before .before .before .before .before .before .before .before .before .before .before .before .before .before .before .before .before .pre .2) (c .before .before .before .before .before .before .before .before .before .before .g22 .given ∙ c .before .before .before .before .before .before .before .before .before .before .before .before .before .before .before .before .before .before .before .before .before .before .before .before .before .before .before .before .g2 .given ∙ c .before .before .before .before .before .before .before .before .before .before .before .before .before .before .before .before .before .before .before .before .before .before .before .before .before .before .before .before .before .before .before .before .before .before .before .before .before .before .before .before .before .before .before .before .before .before .before .before .before .before .pre .3)
+    item-asks (a .plan) (a .width) (a .clusters) (a .map .now) (a .store .now) (length (a .symbols .now)) (a .at) (a .shift) (length (a .log .now)) (length (a .g0 .now)) (c .before .before .before .before .before .before .before .before .before .before .before .before .before .before .before .before .before .before .before .before .before .before .before .before .before .before .before .before .before .before .before .before .before .before .before .before .before .before .before .before .before .before .before .before .before .before .before .before .before .before .before .pre .0) 2 2 (c .before .before .before .before .before .before .symbols-read2 .result) (getD (a .t8) 2 []) _ _ _ _ _ (omega arith) (omega arith) (omega arith) (omega arith) (c .before .before .before .before .before .before .before .before .before .before .before .before .before .before .before .before .before .before .before .before .before .before .before .before .before .before .before .before .before .before .before .before .before .before .before .before .before .before .before .before .before .before .before .before .before .before .before .before .before .before .before .pre .1 .counts 2) (c .before .before .before .before .before .order3 .ensures)
+    (c .before .before .before .before .before .before .before .before .before .before .before .before .before .before .before .before .log2 .given ∙ c .before .before .before .before .before .before .before .before .before .before .before .before .before .before .before .before .before .before .before .before .before .before .before .before .before .before .before .before .before .before .before .before .before .before .log .given) (c .before .before .before .before .before .before .before .before .before .before .before .before .before .before .g02 .given ∙ c .before .before .before .before .before .before .before .before .before .before .before .before .before .before .before .before .before .before .before .before .before .before .before .before .before .before .before .before .before .before .before .before .g0 .given) (c .before .before .before .before .before .before .before .before .before .before .before .before .g12 .given ∙ c .before .before .before .before .before .before .before .before .before .before .before .before .before .before .before .before .before .before .before .before .before .before .before .before .before .before .before .before .before .before .g1 .given ∙ c .before .before .before .before .before .before .before .before .before .before .before .before .before .before .before .before .before .before .before .before .before .before .before .before .before .before .before .before .before .before .before .before .before .before .before .before .before .before .before .before .before .before .before .before .before .before .before .before .before .before .before .pre .2) (c .before .before .before .before .before .before .before .before .before .before .g22 .given ∙ c .before .before .before .before .before .before .before .before .before .before .before .before .before .before .before .before .before .before .before .before .before .before .before .before .before .before .before .before .g2 .given ∙ c .before .before .before .before .before .before .before .before .before .before .before .before .before .before .before .before .before .before .before .before .before .before .before .before .before .before .before .before .before .before .before .before .before .before .before .before .before .before .before .before .before .before .before .before .before .before .before .before .before .before .before .pre .3)
 
 same-length-9 : tie.Need-same-length-9
 same-length-9 c = c .before .before .before .before .before .before .before .log3 .given ∙ c .before .before .before .before .before .before .before .before .before .before .before .before .before .before .before .before .before .before .before .before .before .before .before .before .before .log2 .given ∙ c .before .before .before .before .before .before .before .before .before .before .before .before .before .before .before .before .before .before .before .before .before .before .before .before .before .before .before .before .before .before .before .before .before .before .before .before .before .before .before .before .before .before .before .log .given
@@ -124,18 +130,23 @@ same-length-12 c = c .before .g23 .given ∙ c .before .before .before .before .
 
 returns-3 : tie.Need-returns-3
 returns-3 c =
-    let a = c .before .before .before .before .before .before .before .before .before .before .before .before .before .before .before .before .before .before .before .before .before .before .before .before .before .before .before .before .before .before .before .before .before .before .before .before .before .before .before .before .before .before .before .before .before .before .before .before .before .before .before .before .before .before .before .before .before .before .before .args in
-    let o1 = shown-on (a .width) (a .symbols .now) (a .at + 64 * 2 ^ (a .plan .at .log)) _ _ _ _ _ (c .before .before .before .before .before .before .before .before .before .before .before .before .before .before .before .before .before .before .before .before .before .before .before .before .before .before .before .before .before .before .before .before .before .before .before .before .before .before .before .before .before .before .before .before .read-item .ensures 0) (sym (c .before .before .before .before .before .before .before .before .before .before .before .before .before .before .before .before .before .before .before .before .before .before .before .before .before .before .before .before .before .before .before .before .before .before .before .is-stopped .ensures) ∙ c .before .before .before .before .before .before .before .before .before .before .before .before .before .before .before .before .before .before .before .before .before .before .before .before .before .before .before .before .before .before .before .before .before .before .if1 .left) in
-    let o2 = shown-on (a .width) (a .symbols .now) (c .before .before .before .before .before .before .before .before .before .before .before .before .before .before .before .before .before .before .before .before .before .before .before .before .before .before .before .before .before .before .before .before .before .symbols-read .result + 64 * 2 ^ (a .plan .at .log)) _ _ _ _ _ (c .before .before .before .before .before .before .before .before .before .before .before .before .before .before .before .before .before .before .before .before .before .before .before .before .before .before .read-item2 .ensures 0) (sym (c .before .before .before .before .before .before .before .before .before .before .before .before .before .before .before .before .before .is-stopped2 .ensures) ∙ c .before .before .before .before .before .before .before .before .before .before .before .before .before .before .before .before .if2 .left) in
+    let a = c .before .before .before .before .before .before .before .before .before .before .before .before .before .before .before .before .before .before .before .before .before .before .before .before .before .before .before .before .before .before .before .before .before .before .before .before .before .before .before .before .before .before .before .before .before .before .before .before .before .before .before .before .before .before .before .before .before .before .before .before .args in
+    let s1 = c .before .before .before .before .before .before .before .before .before .before .before .before .before .before .before .before .before .before .before .before .before .before .before .before .before .before .before .before .before .before .before .before .before .before .before .before .before .before .before .before .before .before .before .before .read-item .ensures (a .t8) (c .before .before .before .before .before .before .before .before .before .before .before .before .before .before .before .before .before .before .before .before .before .before .before .before .before .before .before .before .before .before .before .before .before .before .before .before .before .before .before .before .before .before .before .before .before .before .before .before .before .before .before .before .before .before .before .before .before .before .before .before .pre .1) refl in
+    let go1 = sym (c .before .before .before .before .before .before .before .before .before .before .before .before .before .before .before .before .before .before .before .before .before .before .before .before .before .before .before .before .before .before .before .before .before .before .before .is-stopped .ensures) ∙ c .before .before .before .before .before .before .before .before .before .before .before .before .before .before .before .before .before .before .before .before .before .before .before .before .before .before .before .before .before .before .before .before .before .before .if1 .left in
+    let o1 = shown-on (a .width) (a .symbols .now) (a .at + 64 * 2 ^ (a .plan .at .log)) _ _ _ _ _ (s1 0) go1 in
+    let s2 = c .before .before .before .before .before .before .before .before .before .before .before .before .before .before .before .before .before .before .before .before .before .before .before .before .before .before .read-item2 .ensures (rowBy (a .t8) 1 (a .plan .at .x) (a .plan .at .wide) (c .before .before .before .before .before .before .before .before .before .before .before .before .before .before .before .before .before .before .before .before .before .before .before .before .before .before .before .before .before .before .before .before .before .before .before .before .before .before .before .before .before .before .before .before .read-item .result .count)) (o1 .fine) (row-kept (a .t8) 1 0 (a .plan .at .x) (a .plan .at .wide) (c .before .before .before .before .before .before .before .before .before .before .before .before .before .before .before .before .before .before .before .before .before .before .before .before .before .before .before .before .before .before .before .before .before .before .before .before .before .before .before .before .before .before .before .before .read-item .result .count) (omega arith)) in
+    let go2 = sym (c .before .before .before .before .before .before .before .before .before .before .before .before .before .before .before .before .before .is-stopped2 .ensures) ∙ c .before .before .before .before .before .before .before .before .before .before .before .before .before .before .before .before .if2 .left in
+    let o2 = shown-on (a .width) (a .symbols .now) (c .before .before .before .before .before .before .before .before .before .before .before .before .before .before .before .before .before .before .before .before .before .before .before .before .before .before .before .before .before .before .before .before .before .symbols-read .result + 64 * 2 ^ (a .plan .at .log)) _ _ _ _ _ (s2 0) go2 in
+    let s3 = c .before .before .before .before .before .before .before .before .read-item3 .ensures (rowBy (rowBy (a .t8) 1 (a .plan .at .x) (a .plan .at .wide) (c .before .before .before .before .before .before .before .before .before .before .before .before .before .before .before .before .before .before .before .before .before .before .before .before .before .before .before .before .before .before .before .before .before .before .before .before .before .before .before .before .before .before .before .before .read-item .result .count)) 0 (a .plan .at .x) (a .plan .at .wide) (c .before .before .before .before .before .before .before .before .before .before .before .before .before .before .before .before .before .before .before .before .before .before .before .before .before .before .read-item2 .result .count)) (o2 .fine) (row-kept (rowBy (a .t8) 1 (a .plan .at .x) (a .plan .at .wide) (c .before .before .before .before .before .before .before .before .before .before .before .before .before .before .before .before .before .before .before .before .before .before .before .before .before .before .before .before .before .before .before .before .before .before .before .before .before .before .before .before .before .before .before .before .read-item .result .count)) 0 2 (a .plan .at .x) (a .plan .at .wide) (c .before .before .before .before .before .before .before .before .before .before .before .before .before .before .before .before .before .before .before .before .before .before .before .before .before .before .read-item2 .result .count) (omega arith) ∙ row-kept (a .t8) 1 2 (a .plan .at .x) (a .plan .at .wide) (c .before .before .before .before .before .before .before .before .before .before .before .before .before .before .before .before .before .before .before .before .before .before .before .before .before .before .before .before .before .before .before .before .before .before .before .before .before .before .before .before .before .before .before .before .read-item .result .count) (omega arith)) in
     let q : c .before .before .before .before .before .before .before .before .before .before .before .before .before .before .before .before .before .before .before .before .before .before .before .before .before .before .before .before .before .before .before .before .before .symbols-read .result ≡ readBy (c .before .before .before .before .before .before .before .before .before .before .before .before .before .before .before .before .before .before .before .before .before .before .before .before .before .before .before .before .before .before .before .before .before .before .before .before .before .before .before .before .before .before .before .before .read-item .result .walk) = c .before .before .before .before .before .before .before .before .before .before .before .before .before .before .before .before .before .before .before .before .before .before .before .before .before .before .before .before .before .before .before .before .before .symbols-read .ensures in
     let q2 : c .before .before .before .before .before .before .before .before .before .before .before .before .before .before .before .symbols-read2 .result ≡ readBy (c .before .before .before .before .before .before .before .before .before .before .before .before .before .before .before .before .before .before .before .before .before .before .before .before .before .before .read-item2 .result .walk) = c .before .before .before .before .before .before .before .before .before .before .before .before .before .before .before .symbols-read2 .ensures in
     let m : readBy (c .before .before .before .before .before .before .before .before .before .before .before .before .before .before .before .before .before .before .before .before .before .before .before .before .before .before .before .before .before .before .before .before .before .before .before .before .before .before .before .before .before .before .before .before .read-item .result .walk) ≤ a .at + 64 * 2 ^ (a .plan .at .log) = o1 .few in
     let m2 : readBy (c .before .before .before .before .before .before .before .before .before .before .before .before .before .before .before .before .before .before .before .before .before .before .before .before .before .before .read-item2 .result .walk) ≤ c .before .before .before .before .before .before .before .before .before .before .before .before .before .before .before .before .before .before .before .before .before .before .before .before .before .before .before .before .before .before .before .before .before .symbols-read .result + 64 * 2 ^ (a .plan .at .log) = o2 .few in
     λ left. three-shown (a .width) (a .symbols .now) (a .shift) (a .clusters) (a .map .now) _ _ _ _ _ _ _ _ _ _ _ _ _ _ _ _ _ _ _ _ _ _ _ _ _ _ _ _
-    (ap (λ (o : List ℕ). inChannel 1 (itemAt (a .plan .at) (a .width) (getD (a .plan .contexts) 0 0) o)) (c .before .before .before .before .before .before .before .before .before .before .before .before .before .before .before .before .before .before .before .before .before .before .before .before .before .before .before .before .before .before .before .before .before .before .before .before .before .before .before .before .before .before .before .before .before .before .before .before .before .order .ensures)) (ap (λ (o : List ℕ). inChannel 0 (itemAt (a .plan .at) (a .width) (getD (a .plan .contexts) 1 0) o)) (c .before .before .before .before .before .before .before .before .before .before .before .before .before .before .before .before .before .before .before .before .before .before .before .before .before .before .before .before .before .before .before .order2 .ensures)) (ap (λ (o : List ℕ). inChannel 2 (itemAt (a .plan .at) (a .width) (getD (a .plan .contexts) 2 0) o)) (c .before .before .before .before .before .before .before .before .before .before .before .before .before .order3 .ensures))
-    (c .before .before .before .before .before .before .before .before .before .before .before .before .before .before .before .before .before .before .before .before .before .before .before .before .before .before .before .before .before .before .before .before .before .symbols-read .ensures) (c .before .before .before .before .before .before .before .before .before .before .before .before .before .before .before .before .before .before .before .before .before .before .before .before .before .before .before .before .before .before .before .before .rewritten .ensures) (c .before .before .before .before .before .before .before .before .before .before .before .before .before .before .before .symbols-read2 .ensures) (c .before .before .before .before .before .before .before .before .before .before .before .before .before .before .rewritten2 .ensures) (rw (c .before .before .before .before .before .before .before .before .before .before .before .before .before .before .rewritten2 .ensures, c .before .before .before .before .before .before .before .before .before .before .before .before .before .before .before .before .before .before .before .before .before .before .before .before .before .before .before .before .before .before .before .before .rewritten .ensures))
-    (sym (c .before .before .before .before .before .before .before .before .before .before .before .before .before .before .before .before .before .before .before .before .before .before .before .before .before .before .before .before .before .before .before .before .before .before .before .is-stopped .ensures) ∙ c .before .before .before .before .before .before .before .before .before .before .before .before .before .before .before .before .before .before .before .before .before .before .before .before .before .before .before .before .before .before .before .before .before .before .if1 .left) (sym (c .before .before .before .before .before .before .before .before .before .before .before .before .before .before .before .before .before .is-stopped2 .ensures) ∙ c .before .before .before .before .before .before .before .before .before .before .before .before .before .before .before .before .if2 .left) (three-most (a .at) (c .before .before .before .before .before .before .before .before .before .before .before .before .before .before .before .before .before .before .before .before .before .before .before .before .before .before .before .before .before .before .before .before .before .symbols-read .result) (c .before .before .before .before .before .before .before .before .before .before .before .before .before .before .before .symbols-read2 .result) (2 ^ (a .plan .at .log)) (omega arith) (omega arith))
-    (c .before .before .before .before .before .before .before .before .before .before .before .before .before .before .before .before .before .before .before .before .before .before .before .before .before .before .before .before .before .before .before .before .before .before .before .before .before .before .before .before .before .before .before .before .read-item .ensures left) (c .before .before .before .before .before .before .before .before .before .before .before .before .before .before .before .before .before .before .before .before .before .before .before .before .before .before .read-item2 .ensures) (c .before .before .before .before .before .before .before .before .read-item3 .ensures)
+    (ap (λ (o : List ℕ). inChannel 1 (itemAt (a .plan .at) (a .width) (getD (a .plan .contexts) 0 0) o)) (c .before .before .before .before .before .before .before .before .before .before .before .before .before .before .before .before .before .before .before .before .before .before .before .before .before .before .before .before .before .before .before .before .before .before .before .before .before .before .before .before .before .before .before .before .before .before .before .before .before .before .order .ensures)) (ap (λ (o : List ℕ). inChannel 0 (itemAt (a .plan .at) (a .width) (getD (a .plan .contexts) 1 0) o)) (c .before .before .before .before .before .before .before .before .before .before .before .before .before .before .before .before .before .before .before .before .before .before .before .before .before .before .before .before .before .before .before .before .order2 .ensures)) (ap (λ (o : List ℕ). inChannel 2 (itemAt (a .plan .at) (a .width) (getD (a .plan .contexts) 2 0) o)) (c .before .before .before .before .before .before .before .before .before .before .before .before .before .before .order3 .ensures))
+    (c .before .before .before .before .before .before .before .before .before .before .before .before .before .before .before .before .before .before .before .before .before .before .before .before .before .before .before .before .before .before .before .before .before .symbols-read .ensures) refl (c .before .before .before .before .before .before .before .before .before .before .before .before .before .before .before .symbols-read2 .ensures) refl refl
+    go1 go2 (three-most (a .at) (c .before .before .before .before .before .before .before .before .before .before .before .before .before .before .before .before .before .before .before .before .before .before .before .before .before .before .before .before .before .before .before .before .before .symbols-read .result) (c .before .before .before .before .before .before .before .before .before .before .before .before .before .before .before .symbols-read2 .result) (2 ^ (a .plan .at .log)) (omega arith) (omega arith))
+    (s1 left) s2 s3
 
 pub read-varblock-spec : {M : Type 1} → statement M
 read-varblock-spec =
@@ -143,6 +154,7 @@ read-varblock-spec =
     (tie.spec
     array-read-read-item
     order-requires
+    array-copy-out-read-item
     read-item-requires
     is-stopped-requires
     same-length
@@ -151,9 +163,9 @@ read-varblock-spec =
     same-length-4
     returns
     symbols-read-requires
-    rewritten-requires
     array-read-read-item-2
     order-requires-2
+    array-copy-out-read-item-2
     read-item-requires-2
     is-stopped-requires-2
     same-length-5
@@ -162,9 +174,9 @@ read-varblock-spec =
     same-length-8
     returns-2
     symbols-read-requires-2
-    rewritten-requires-2
     array-read-read-item-3
     order-requires-3
+    array-copy-out-read-item-3
     read-item-requires-3
     same-length-9
     same-length-10
