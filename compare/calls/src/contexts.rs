@@ -1,3 +1,5 @@
+use std::fmt;
+
 /// Most places of a threshold list, and of the block map (39 for each of at most 64).
 pub const LIST_MOST: usize = 15;
 pub const MAP_MOST: usize = 39 * 64;
@@ -11,7 +13,7 @@ pub struct ContextsCall {
 }
 
 /// A context record: four lists with their lengths, and the map, unused places 0.
-#[derive(Debug, Clone, PartialEq, Eq)]
+#[derive(Clone, PartialEq, Eq)]
 pub struct Contexts {
     pub count: u32,
     /// Of the LF lists of channels 0, 1, 2, then of the qf list.
@@ -20,6 +22,25 @@ pub struct Contexts {
     pub lf: [i32; 3 * LIST_MOST],
     pub qf: [u32; LIST_MOST],
     pub map: [u8; MAP_MOST],
+}
+
+/// Lists are shown up to their last number other than 0.
+impl fmt::Debug for Contexts {
+    fn fmt(&self, f: &mut fmt::Formatter<'_>) -> fmt::Result {
+        f.debug_struct("Contexts")
+            .field("count", &self.count)
+            .field("lengths", &self.lengths)
+            .field("lf", &before_zeros(&self.lf))
+            .field("qf", &before_zeros(&self.qf))
+            .field("map", &before_zeros(&self.map))
+            .finish()
+    }
+}
+
+fn before_zeros<T: Default + PartialEq>(list: &[T]) -> &[T] {
+    let zero = T::default();
+    let last = list.iter().rposition(|number| *number != zero);
+    &list[..last.map_or(0, |last| last + 1)]
 }
 
 impl Contexts {

@@ -30,6 +30,23 @@ pub struct Report {
     pub seconds: f64,
 }
 
+impl Report {
+    pub fn inputs(&self) -> usize {
+        self.short + self.random
+    }
+
+    pub fn accepted(&self) -> usize {
+        self.by_number.get(&0).copied().unwrap_or_default()
+    }
+
+    /// Each refusal that was met, and how often.
+    pub fn refusals(&self) -> String {
+        let shown = |(number, count): (&u32, &usize)| format!("{number}: {count}");
+        let refusals: Vec<_> = self.by_number.range(1..).map(shown).collect();
+        refusals.join(", ")
+    }
+}
+
 impl fmt::Display for Report {
     fn fmt(&self, f: &mut fmt::Formatter<'_>) -> fmt::Result {
         let Report {
@@ -37,17 +54,19 @@ impl fmt::Display for Report {
             short,
             short_of,
             random,
+            seconds,
             ..
         } = self;
+        let accepted = self.accepted();
         write!(
             f,
-            "{name}: {short} of {short_of} short inputs, {random} random; accepted "
+            "{name}: {short} of {short_of} short inputs, {random} random; accepted {accepted}"
         )?;
-        write!(f, "{}", self.by_number.get(&0).unwrap_or(&0))?;
-        for (number, count) in self.by_number.range(1..) {
-            write!(f, ", {number}: {count}")?;
+        let refusals = self.refusals();
+        if !refusals.is_empty() {
+            write!(f, ", {refusals}")?;
         }
-        write!(f, "; {:.1} s", self.seconds)?;
+        write!(f, "; {seconds:.1} s")?;
         if let Some(difference) = &self.difference {
             write!(f, "\n  DIFFERENCE\n{difference}")?;
         }
@@ -57,39 +76,97 @@ impl fmt::Display for Report {
 
 type Answered<C> = Outcome<<C as Case>::Value, <C as Case>::Buffers>;
 
-/// Compares `ours` with what is expected, first on short inputs (all of them, or as many as half
-/// the effort allows, spread over all), then on random ones.
+/// Is shown the report after each input.
+pub type Watch<'a> = &'a mut dyn FnMut(&Report);
+
+/// A comparison of one call, which goes on where it was left.
+pub trait Comparison {
+    /// Compares on short inputs (until there are no more, or half of the effort is spent), then on
+    /// random ones; not at all once a difference was found.
+    fn advance(&mut self, effort: Effort, watch: Watch);
+
+    fn report(&self) -> &Report;
+}
+
+/// The comparison of `ours` with what a case expects.
+pub struct Run<'a, C, F> {
+    case: &'a C,
+    ours: F,
+    /// The next short input, and how far behind it the one after that is: they are spread over all.
+    next_short: usize,
+    stride: usize,
+    rng: Rng,
+    report: Report,
+}
+
+impl<'a, C: Case, F: Fn(&C::Input) -> Answered<C>> Run<'a, C, F> {
+    pub fn new(case: &'a C, ours: F, seed: u64) -> Self {
+        let short_of = case.short_count();
+        Self {
+            case,
+            ours,
+            next_short: 0,
+            stride: coprime_stride(short_of, seed),
+            rng: Rng::new(seed),
+            report: Report {
+                name: C::NAME,
+                short_of,
+                ..Report::default()
+            },
+        }
+    }
+
+    fn step_short(&mut self) {
+        let input = self.case.short(self.next_short);
+        step(self.case, &self.ours, input, &mut self.report);
+        self.report.short += 1;
+        self.next_short = (self.next_short + self.stride) % self.report.short_of;
+    }
+
+    fn step_random(&mut self) {
+        let input = self.case.random(&mut self.rng);
+        step(self.case, &self.ours, input, &mut self.report);
+        self.report.random += 1;
+    }
+}
+
+impl<C: Case, F: Fn(&C::Input) -> Answered<C>> Comparison for Run<'_, C, F> {
+    fn advance(&mut self, effort: Effort, watch: Watch) {
+        let start = Instant::now();
+        let before = self.report.inputs();
+        let goes_on = |report: &Report, share: u32| {
+            let spent = match effort {
+                Effort::Inputs(inputs) => report.inputs() - before >= inputs / share as usize,
+                Effort::Time(time) => start.elapsed() >= time / share,
+            };
+            report.difference.is_none() && !spent
+        };
+        while self.report.short < self.report.short_of && goes_on(&self.report, 2) {
+            self.step_short();
+            watch(&self.report);
+        }
+        while goes_on(&self.report, 1) {
+            self.step_random();
+            watch(&self.report);
+        }
+        self.report.seconds += start.elapsed().as_secs_f64();
+    }
+
+    fn report(&self) -> &Report {
+        &self.report
+    }
+}
+
+/// Compares `ours` with what a case expects, in one go.
 pub fn run<C: Case>(
     case: &C,
     ours: impl Fn(&C::Input) -> Answered<C>,
     effort: Effort,
     seed: u64,
 ) -> Report {
-    let start = Instant::now();
-    let mut report = Report {
-        name: C::NAME,
-        short_of: case.short_count(),
-        ..Report::default()
-    };
-    let goes_on = |done: usize, share: u32| match effort {
-        Effort::Inputs(inputs) => done < inputs / share as usize,
-        Effort::Time(time) => start.elapsed() < time / share,
-    };
-    let stride = coprime_stride(report.short_of, seed);
-    let mut number = 0;
-    while report.short < report.short_of && report.difference.is_none() && goes_on(report.short, 2)
-    {
-        step(case, &ours, case.short(number), &mut report);
-        report.short += 1;
-        number = (number + stride) % report.short_of;
-    }
-    let mut rng = Rng::new(seed);
-    while report.difference.is_none() && goes_on(report.short + report.random, 1) {
-        step(case, &ours, case.random(&mut rng), &mut report);
-        report.random += 1;
-    }
-    report.seconds = start.elapsed().as_secs_f64();
-    report
+    let mut run = Run::new(case, ours, seed);
+    run.advance(effort, &mut |_| ());
+    run.report
 }
 
 /// A stride that visits every number below `count` before it comes back.

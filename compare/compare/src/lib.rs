@@ -17,4 +17,8 @@ pub mod expected;
 #[cfg(live)]
 pub mod make;
 #[cfg(live)]
+pub mod progress;
+#[cfg(live)]
 pub mod rng;
+#[cfg(live)]
+pub mod rounds;

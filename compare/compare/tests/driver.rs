@@ -1,7 +1,7 @@
 //! The driver finds planted differences and makes their inputs small.
 #![cfg(live)]
 
-use compare::cases::{Case, LayoutCase, OrdersCase};
+use compare::cases::{Case, CoefficientsCase, CoefficientsInput, LayoutCase, OrdersCase};
 use compare::driver::{run, Effort};
 
 #[test]
@@ -36,4 +36,24 @@ fn a_swapped_place_is_found() {
     let input = difference.lines().next().expect("a line").to_string();
     println!("{input}");
     assert!(input.len() < 200, "not small");
+}
+
+#[test]
+fn a_coefficient_call_is_made_small() {
+    let case = CoefficientsCase::new(1);
+    let large = |input: &CoefficientsInput| input.call.symbols.iter().any(|&symbol| symbol > 1000);
+    let lost = |input: &CoefficientsInput| {
+        let mut outcome = case.expected(input);
+        if outcome.answer.is_ok() && large(input) {
+            outcome.buffers.grids[1][0] ^= 1;
+        }
+        outcome
+    };
+    let report = run(&case, lost, Effort::Inputs(400), 1);
+    let difference = report.difference.expect("a difference");
+    let input = difference.lines().next().expect("a line").to_string();
+    println!("{input}");
+    for small in ["wide: 1, high: 1", "lf: None", "presets: 1,", "shift: 0"] {
+        assert!(input.contains(small), "not small: {small}");
+    }
 }

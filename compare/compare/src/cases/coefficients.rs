@@ -4,11 +4,12 @@ use std::sync::Arc;
 use calls::{CoefficientBuffers, CoefficientsCall, Contexts, Layout, Outcome, LIST_MOST};
 
 use super::coefficient_faults::{damage_call, damage_symbols};
+use super::coefficient_smaller::smaller;
 use super::digits::{lists_count, Digits};
 use super::orders::symbols;
 use super::placing::{fill, single};
 use super::symbol_stream::symbol_stream;
-use super::{plainer, shorter, simpler, variants, Case};
+use super::Case;
 use crate::expected;
 use crate::make::{self, OrdersAndStore};
 use crate::rng::Rng;
@@ -164,28 +165,7 @@ impl Case for CoefficientsCase {
     }
 
     fn smaller(&self, input: &CoefficientsInput) -> Vec<CoefficientsInput> {
-        let call = &input.call;
-        let mut found = variants(input, shorter(&call.symbols), |i, list| {
-            i.call.symbols = list
-        });
-        for plain in [0, 1] {
-            let lists = plainer(&call.symbols, plain);
-            found.extend(variants(input, lists, |i, list| i.call.symbols = list));
-        }
-        found.extend(variants(input, simpler(&call.lf, [None]), |i, lf| {
-            i.call.lf = lf
-        }));
-        for channel in 0..3 {
-            let grids = plainer(&call.buffers.grids[channel], 0);
-            let first = grids.into_iter().take(1).collect();
-            found.extend(variants(input, first, |i, grid| {
-                i.call.buffers.grids[channel] = grid
-            }));
-        }
-        found.extend(variants(input, simpler(&call.shift, [0]), |i, s| {
-            i.call.shift = s
-        }));
-        found
+        smaller(input)
     }
 }
 

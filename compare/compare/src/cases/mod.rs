@@ -2,6 +2,7 @@
 
 mod alike;
 mod coefficient_faults;
+mod coefficient_smaller;
 mod coefficients;
 mod column_count;
 mod contexts;
@@ -69,21 +70,23 @@ fn shorter<T: Clone>(list: &[T]) -> Vec<Vec<T>> {
     found
 }
 
-/// The list with one element replaced by a plain one.
+/// The list with a part of it replaced by plain elements: the whole, halves, down to single ones.
 fn plainer<T: Clone + PartialEq>(list: &[T], plain: T) -> Vec<Vec<T>> {
-    let all = vec![plain.clone(); list.len()];
-    let places = (0..list.len()).filter(|&place| list[place] != plain);
-    let one_by_one = places.take(64).map(|place| {
-        let mut list = list.to_vec();
-        list[place] = plain.clone();
-        list
-    });
-    let changed = one_by_one.collect::<Vec<_>>();
-    if changed.len() > 1 {
-        [vec![all], changed].concat()
-    } else {
-        changed
+    let mut found = Vec::new();
+    let mut part = list.len();
+    while part > 0 {
+        let most = if part == 1 { 64 } else { 8 };
+        let changed = |start: &usize| list[*start..].iter().take(part).any(|each| *each != plain);
+        let starts = (0..list.len()).step_by(part).filter(changed);
+        found.extend(starts.take(most).map(|start| {
+            let mut list = list.to_vec();
+            let end = (start + part).min(list.len());
+            list[start..end].fill(plain.clone());
+            list
+        }));
+        part /= 2;
     }
+    found
 }
 
 /// Those of the given values that are other than the one at hand.

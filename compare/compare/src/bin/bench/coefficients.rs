@@ -11,9 +11,24 @@ const DCT32: u8 = 5;
 const DCT64: u8 = 18;
 const DCT256: u8 = 24;
 
-pub fn benches() -> Vec<Bench> {
+/// Natural orders, and a cluster map for the default contexts.
+fn orders() -> &'static OrdersAndStore {
     let map = Rng::new(2).bytes(paper::ENTRIES_PER_CLUSTER * 15);
-    let orders: &'static OrdersAndStore = Box::leak(Box::new(OrdersAndStore::new(0, &[], map)));
+    Box::leak(Box::new(OrdersAndStore::new(0, &[], map)))
+}
+
+/// Groups of Dct8 of growing sides.
+pub fn growth() -> Vec<Bench> {
+    let orders = orders();
+    let row = |side| {
+        let name = format!("coefficients, {side} x {side} Dct8, sparse");
+        bench(orders, &name, tiled(side, |_| DCT8), 16)
+    };
+    [1, 4, 8, 16, 32].map(row).into()
+}
+
+pub fn benches() -> Vec<Bench> {
+    let orders = orders();
     let bench = |name: &str, group, sparseness| bench(orders, name, group, sparseness);
     let dct8 = || tiled(32, |_| DCT8);
     let halves = tiled(32, |x| if x < 16 { DCT32 } else { DCT64 });

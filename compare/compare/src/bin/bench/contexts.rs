@@ -7,7 +7,16 @@ use crate::measure::{plain, Bench};
 pub fn benches() -> Vec<Bench> {
     vec![
         bench("contexts, default", default()),
-        bench("contexts, thresholds on all lists, bsize 64", lists()),
+        bench("contexts, thresholds on all lists, bsize 64", all_lists()),
+    ]
+}
+
+/// Records of growing maps, all read from bits.
+pub fn growth() -> Vec<Bench> {
+    vec![
+        bench("contexts, no lists, bsize 1", lists([0, 0, 0, 0])),
+        bench("contexts, one list, bsize 8", lists([0, 0, 0, 7])),
+        bench("contexts, thresholds on all lists, bsize 64", all_lists()),
     ]
 }
 
@@ -31,18 +40,28 @@ fn default() -> ContextsCall {
 }
 
 /// One threshold on each LF list and seven on the qf list: bsize 64.
-fn lists() -> ContextsCall {
+fn all_lists() -> ContextsCall {
+    lists([1, 1, 1, 7])
+}
+
+/// So many thresholds on the LF lists and on the qf list.
+fn lists(lengths: [u32; 4]) -> ContextsCall {
     let mut bits = Bits::default().put(0, 1);
-    for list in 0..3 {
-        bits = bits.put(1, 4).put_u32(1, 17 * list, 8);
+    let [lf @ .., qf] = lengths;
+    for (length, value) in lf.into_iter().zip([0, 17, 34]) {
+        bits = bits.put(length, 4);
+        for _ in 0..length {
+            bits = bits.put_u32(1, value, 8);
+        }
     }
-    bits = bits.put(7, 4);
-    for k in 0..7 {
+    bits = bits.put(qf, 4);
+    for k in 0..qf {
         bits = bits.put_u32(k % 4, k, [2, 3, 5, 8][k as usize % 4]);
     }
+    let bsize: u32 = lengths.map(|length| length + 1).iter().product();
     ContextsCall {
         bytes: bits.bytes(),
         count: 16,
-        map: (0..39 * 64).map(|k| (k % 16) as u8).collect(),
+        map: (0..39 * bsize).map(|k| (k % 16) as u8).collect(),
     }
 }

@@ -14,6 +14,16 @@ pub fn benches() -> Vec<Bench> {
     ]
 }
 
+/// Mixed layouts of growing sides.
+pub fn growth() -> Vec<Bench> {
+    let sides = [(256, "256"), (512, "512"), (1024, "1,024"), (2048, "2,048")];
+    let row = |(side, shown): (u32, &str)| {
+        let name = format!("layout, {shown} x {shown}, mixed, filter on");
+        bench(&name, mixed(side))
+    };
+    sides.into_iter().map(row).collect()
+}
+
 fn bench(name: &str, call: LayoutCall) -> Bench {
     let call: &'static LayoutCall = Box::leak(Box::new(call));
     let mut buffers = call.buffers.clone();

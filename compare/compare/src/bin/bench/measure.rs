@@ -2,6 +2,8 @@ use std::fmt;
 use std::hint::black_box;
 use std::time::{Duration, Instant};
 
+use crate::svg::Bar;
+
 const ROUNDS: usize = 11;
 /// Rounds of calls that take longer than a round should.
 const FEW_ROUNDS: usize = 3;
@@ -28,13 +30,28 @@ pub struct Row {
     units: (usize, &'static str),
 }
 
+impl Row {
+    /// Netbuff's time divided by the Rust's.
+    fn ratio(&self) -> Option<f64> {
+        let rust = self.rust?;
+        Some(self.ours.as_secs_f64() / rust.as_secs_f64())
+    }
+
+    pub fn bar(&self) -> Bar {
+        Bar {
+            name: self.name.clone(),
+            ratio: self.ratio(),
+        }
+    }
+}
+
 impl fmt::Display for Row {
     fn fmt(&self, f: &mut fmt::Formatter<'_>) -> fmt::Result {
         let shown = |time: Duration| format!("{:.2} us", time.as_secs_f64() * 1e6);
         let rust = self.rust.map_or("-".into(), shown);
-        let ratio = self.rust.map_or("-".into(), |rust| {
-            format!("{:.2}", self.ours.as_secs_f64() / rust.as_secs_f64())
-        });
+        let ratio = self
+            .ratio()
+            .map_or("-".into(), |ratio| format!("{ratio:.2}"));
         let (count, unit) = self.units;
         let each = self.ours.as_secs_f64() * 1e9 / count as f64;
         let ours = shown(self.ours);

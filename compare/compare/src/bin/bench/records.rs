@@ -16,6 +16,16 @@ pub fn benches() -> Vec<Bench> {
     ]
 }
 
+/// Layouts of growing sides, of which the first group is cut.
+pub fn growth() -> Vec<Bench> {
+    let mut rng = Rng::new(5);
+    let mut row = |side| {
+        let layout = fill(&mut rng, side, side, None).layout;
+        bench(&format!("cut, {side} x {side} blocks, mixed"), layout)
+    };
+    [32, 64, 128, 256].map(&mut row).into()
+}
+
 fn dct8(side: usize) -> Layout {
     let cells = side * side;
     Layout {

@@ -1,7 +1,10 @@
 //! Compares Netbuff's calls with the Rust of jxl-vardct, through the safe wrapper.
 //!
 //! `compare [--seconds N | --count N] [--seed S] [CALLS..]`: so long, or so many inputs, for each
-//! call. Ends with 1 when a call differs. `compare --examples` shows document 01's examples alone.
+//! call. `compare --total-seconds N [--seed S] [CALLS..]`: so long for all calls together, in turns,
+//! to the first difference, and one table. Ends with 1 when a call differs. A run of a minute or
+//! more, or one with `--progress`, tells on stderr how far it is, every 10 seconds at the most.
+//! `compare --examples` shows document 01's examples alone.
 
 #[cfg(live)]
 mod options;

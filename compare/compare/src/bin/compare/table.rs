@@ -1,53 +1,58 @@
 //! The calls that are compared.
 
+use std::time::Instant;
+
+use calls::Outcome;
 use compare::cases::{
     AlikeCase, Case, CoefficientsCase, ColumnCountCase, ContextsCase, CutCase, LayoutCase,
     OrderCase, OrdersCase, PlacesCase, ReaderCase, SignedCase, TransformCase,
 };
+use compare::driver::{Comparison, Report, Run, Watch};
+use compare::progress::Progress;
+use compare::rounds;
 
 use crate::options::Options;
 
-/// Compares one call, and tells whether it agrees.
-type Compare = fn(&Options) -> bool;
+type Make = fn(&Options) -> Box<dyn Comparison>;
 
-const CALLS: [(&str, Compare); 12] = [
+const CALLS: [(&str, Make); 12] = [
     (ColumnCountCase::NAME, |options| {
-        compare(options, &ColumnCountCase, ours::column_count)
+        comparison(options, ColumnCountCase, ours::column_count)
     }),
     (OrderCase::NAME, |options| {
-        compare(options, &OrderCase::new(options.seed), ours::order)
+        comparison(options, OrderCase::new(options.seed), ours::order)
     }),
     (PlacesCase::NAME, |options| {
-        compare(options, &PlacesCase::new(), |input| {
+        comparison(options, PlacesCase::new(), |input| {
             ours::places_fit(&input.store)
         })
     }),
     (TransformCase::NAME, |options| {
-        compare(options, &TransformCase, ours::transform)
+        comparison(options, TransformCase, ours::transform)
     }),
     (SignedCase::NAME, |options| {
-        compare(options, &SignedCase, ours::signed)
+        comparison(options, SignedCase, ours::signed)
     }),
     (ReaderCase::NAME, |options| {
-        compare(options, &ReaderCase, ours::read)
+        comparison(options, ReaderCase, ours::read)
     }),
     (LayoutCase::NAME, |options| {
-        compare(options, &LayoutCase, ours::layout)
+        comparison(options, LayoutCase, ours::layout)
     }),
     (CutCase::NAME, |options| {
-        compare(options, &CutCase, ours::cut)
+        comparison(options, CutCase, ours::cut)
     }),
     (AlikeCase::NAME, |options| {
-        compare(options, &AlikeCase, ours::alike)
+        comparison(options, AlikeCase, ours::alike)
     }),
     (ContextsCase::NAME, |options| {
-        compare(options, &ContextsCase, ours::contexts)
+        comparison(options, ContextsCase, ours::contexts)
     }),
     (OrdersCase::NAME, |options| {
-        compare(options, &OrdersCase, ours::orders)
+        comparison(options, OrdersCase, ours::orders)
     }),
     (CoefficientsCase::NAME, |options| {
-        compare(options, &CoefficientsCase::new(options.seed), |input| {
+        comparison(options, CoefficientsCase::new(options.seed), |input| {
             ours::coefficients(&input.call)
         })
     }),
@@ -59,17 +64,51 @@ pub fn names() -> Vec<&'static str> {
 
 /// Compares the wanted calls, and tells whether all agree.
 pub fn run(options: &Options) -> bool {
+    let mut progress = Progress::new(Instant::now());
+    let mut tell = |report: &Report| {
+        if let Some(line) = progress.line(report, Instant::now()) {
+            eprintln!("{line}");
+        }
+    };
+    let watch: Watch = if options.progress {
+        &mut tell
+    } else {
+        &mut |_| ()
+    };
     let wanted = CALLS.iter().filter(|call| options.wants(call.0));
-    let agreed: Vec<bool> = wanted.map(|call| call.1(options)).collect();
-    agreed.iter().all(|&agreed| agreed)
+    let comparisons = wanted.map(|call| call.1(options));
+    match options.total {
+        None => one_by_one(options, comparisons, watch),
+        Some(total) => {
+            let mut comparisons: Vec<_> = comparisons.collect();
+            rounds::run(&mut comparisons, total, watch);
+            print!("{}", rounds::table(&comparisons));
+            let difference = rounds::difference(&comparisons);
+            difference.inspect(|report| println!("{report}")).is_none()
+        }
+    }
 }
 
-fn compare<C: Case>(
+/// Each call for as long as the options say, one behind the other.
+fn one_by_one(
     options: &Options,
-    case: &C,
-    ours: impl Fn(&C::Input) -> calls::Outcome<C::Value, C::Buffers>,
+    comparisons: impl Iterator<Item = Box<dyn Comparison>>,
+    watch: Watch,
 ) -> bool {
-    let report = compare::driver::run(case, ours, options.effort, options.seed);
-    println!("{report}");
-    report.difference.is_none()
+    let mut agreed = true;
+    for mut comparison in comparisons {
+        comparison.advance(options.effort, watch);
+        println!("{}", comparison.report());
+        agreed &= comparison.report().difference.is_none();
+    }
+    agreed
+}
+
+/// The comparison lasts as long as the program, and so does its case.
+fn comparison<C: Case + 'static>(
+    options: &Options,
+    case: C,
+    ours: impl Fn(&C::Input) -> Outcome<C::Value, C::Buffers> + 'static,
+) -> Box<dyn Comparison> {
+    Box::new(Run::new(Box::leak(Box::new(case)), ours, options.seed))
 }

@@ -1,0 +1,209 @@
+/* The order call, the look-up of an order, and the check of stored places. */
+#include "host.h"
+
+#include "netbuff.h"
+
+#include <string.h>
+
+enum { SYMBOLS_MOST = 8192, DIGITS_MOST = 64 };
+
+const uint16_t *natural_store;
+const uint16_t *permuted_store;
+
+/* A store of just these orders, kept. */
+static const uint16_t *store_of(const uint8_t bytes[2], const uint32_t *symbols, size_t length)
+{
+    lend_start();
+    uint16_t *store = lend("store", NETBUFF_STORE_LENGTH, sizeof *store, WRITE, true);
+    size_t read, x, y;
+    uint32_t refused =
+        netbuff_orders(bytes, 2, symbols, length, store, NETBUFF_STORE_LENGTH, &read, &x, &y);
+    promise(refused == 0 && read == length, "orders of the host itself are accepted");
+    const uint16_t *kept = keep(store, NETBUFF_STORE_LENGTH * sizeof *store);
+    lend_start();
+    return kept;
+}
+
+void prepare_stores(void)
+{
+    static const uint8_t none[2] = {2, 0}, all[2] = {0xff, 0x7f};
+    static uint32_t symbols[ORDERS_COUNT * 3 * 9];
+    struct input in = input_of(none, 2);
+    size_t length = 0;
+    promise_about(ORDERS);
+    for (size_t order = 0; order < ORDERS_COUNT; order++)
+        for (int channel = 0; channel < 3; channel++) {
+            symbols[length++] = 8;
+            for (int digit = 0; digit < 8; digit++)
+                symbols[length++] = spread_below(&in, 50);
+        }
+    natural_store = store_of(none, symbols, 0);
+    permuted_store = store_of(all, symbols, length);
+}
+
+/* Which orders the bytes say to be used; false where the bits end. */
+static bool used_orders(const uint8_t *bytes, size_t length, uint64_t *place, uint32_t *used)
+{
+    static const uint32_t choices[8] = {95, 0, 19, 0, 0, 0, 0, 13};
+    return u32_at(bytes, length, place, choices, used);
+}
+
+/* How many numbers of an order are free to be permuted. */
+static size_t free_of(size_t order)
+{
+    size_t size = order_sides[order].wide * order_sides[order].high;
+    return size - size / 64;
+}
+
+/* The answer that is due once the used orders are known, and the symbols read. */
+static struct answer walk_symbols(uint32_t used, const uint32_t *symbols, size_t length, size_t *read)
+{
+    *read = 0;
+    for (size_t list = 0; list < 3 * ORDERS_COUNT; list++) {
+        size_t room = free_of(list / 3);
+        if ((used >> list / 3 & 1) == 0)
+            continue;
+        if (*read == length)
+            return (struct answer){15, *read, 0};
+        size_t digits = symbols[(*read)++];
+        if (digits > room)
+            return (struct answer){13, *read, 0};
+        for (size_t digit = 0; digit < digits; digit++) {
+            if (*read == length)
+                return (struct answer){15, *read, 0};
+            if (symbols[(*read)++] >= room - digit)
+                return (struct answer){13, *read, 0};
+        }
+    }
+    return (struct answer){0, 0, 0};
+}
+
+/* Symbols for the used orders: lengths and digits that fit, few for each list. */
+static size_t write_symbols(struct input *in, uint32_t used, uint32_t *symbols)
+{
+    size_t count = 0;
+    uint32_t most = 1 + take_below(in, DIGITS_MOST);
+    for (size_t list = 0; list < 3 * ORDERS_COUNT; list++) {
+        uint32_t room = (uint32_t)free_of(list / 3);
+        if ((used >> list / 3 & 1) == 0)
+            continue;
+        uint32_t digits = spread_below(in, most);
+        if (room < DIGITS_MOST && spread_below(in, 4) == 0)
+            digits = room;
+        symbols[count++] = digits;
+        for (uint32_t digit = 0; digit < digits; digit++)
+            symbols[count++] = spread_below(in, room - digit);
+    }
+    return count;
+}
+
+/* The symbols of a call: those of the used orders, at times with a wrong one, cut short, or more. */
+static const uint32_t *take_symbols(struct input *in, uint32_t used, size_t *length)
+{
+    static uint32_t symbols[SYMBOLS_MOST];
+    size_t count = write_symbols(in, used, symbols);
+    uint32_t fault = take_below(in, 8);
+    if (fault == 7 && count > 0)
+        symbols[take_below(in, (uint32_t)count)] = take_any(in);
+    *length = count + (fault == 6 ? take_below(in, 3) : 0);
+    if (fault == 5)
+        *length = take_below(in, (uint32_t)count + 1);
+    if (fault == 4 && lend_vast())
+        *length = VAST + take_byte(in);
+    return lend_copy(in, "symbols", symbols, count, *length, sizeof symbols[0]);
+}
+
+/* A list is a permutation of its order's places, the fixed ones in front in their natural turn. */
+static void check_list(const uint16_t *store, size_t order, size_t channel)
+{
+    static uint8_t seen[256 * 256];
+    struct sides sides = order_sides[order];
+    size_t start = list_start(order, channel), cells = sides.wide * sides.high;
+    const uint16_t *list = store + start, *natural = natural_store + start;
+    memset(seen, 0, cells);
+    for (size_t place = 0; place < cells; place++) {
+        size_t x = list[2 * place], y = list[2 * place + 1];
+        promise(x < sides.wide && y < sides.high, "a place inside order %zu", order);
+        promise(seen[y * sides.wide + x]++ == 0, "no place twice in order %zu", order);
+    }
+    promise(memcmp(list, natural, 4 * (cells / 64)) == 0, "the fixed places of order %zu", order);
+}
+
+static void check_store(const uint16_t *store, uint32_t used)
+{
+    for (size_t order = 0; order < ORDERS_COUNT; order++) {
+        size_t start = list_start(order, 0), numbers = 3 * list_length(order);
+        if ((used >> order & 1) == 0)
+            promise(memcmp(store + start, natural_store + start, 2 * numbers) == 0,
+                    "order %zu is natural", order);
+        for (size_t channel = 0; channel < 3 && (used >> order & 1) != 0; channel++)
+            check_list(store, order, channel);
+    }
+}
+
+void host_orders(struct input *in)
+{
+    size_t length, symbols_length, due_read = 0;
+    const uint8_t *bytes = lend_bytes(in, &length);
+    uint64_t place = 0;
+    uint32_t used = 0;
+    bool whole = used_orders(bytes, length, &place, &used);
+    const uint32_t *symbols = take_symbols(in, used, &symbols_length);
+    size_t store_length = take_length(in, NETBUFF_STORE_LENGTH);
+    uint16_t *store = lend_spread(in, "store", store_length, sizeof *store, WRITE);
+    size_t *read = lend_size(in, "symbols_read"), *x = lend_size(in, "x"), *y = lend_size(in, "y");
+    lend_note();
+    uint32_t refused =
+        netbuff_orders(bytes, length, symbols, symbols_length, store, store_length, read, x, y);
+    lend_check();
+    struct answer due = {0, 0, 0};
+    if (store_length != NETBUFF_STORE_LENGTH)
+        due.number = 1;
+    else if (!whole)
+        due = (struct answer){3, place, 0};
+    else
+        due = walk_symbols(used, symbols, symbols_length, &due_read);
+    answered((struct answer){refused, *x, *y}, due);
+    promise(*read == (due.number == 0 ? due_read : 0), "%zu symbols read", *read);
+    if (due.number == 0)
+        check_store(store, used);
+    else if (due.number == 13 || due.number == 15)
+        is_cleared(store);
+    else
+        stays(store, 0);
+}
+
+void host_order(struct input *in)
+{
+    size_t order = take_below(in, 16), channel = take_below(in, 4);
+    if (take_once_in(in, 8))
+        *(take_below(in, 2) == 0 ? &order : &channel) = SIZE_MAX - take_any(in);
+    size_t store_length = take_length(in, NETBUFF_STORE_LENGTH);
+    const uint16_t *store = natural_store;
+    if (store_length != NETBUFF_STORE_LENGTH)
+        store = lend_copy(in, "store", store, NETBUFF_STORE_LENGTH, store_length, sizeof *store);
+    size_t *first = lend_size(in, "first"), *count = lend_size(in, "count");
+    lend_note();
+    netbuff_order(store, store_length, order, channel, first, count);
+    lend_check();
+    answered_plainly();
+    bool known = order < ORDERS_COUNT && channel < 3 && store_length == NETBUFF_STORE_LENGTH;
+    promise(*count == (known ? list_length(order) : 0), "%zu numbers", *count);
+    promise(*first == (known ? list_start(order, channel) : 0), "first number %zu", *first);
+}
+
+void host_places_fit(struct input *in)
+{
+    static const uint16_t numbers[8] = {0, 7, 8, 16, 255, 256, 0x8000, 0xffff};
+    size_t store_length = take_length(in, NETBUFF_STORE_LENGTH);
+    const uint16_t *kept = take_below(in, 2) == 0 ? natural_store : permuted_store;
+    uint16_t *store = lend_copy(in, "store", kept, NETBUFF_STORE_LENGTH, store_length, sizeof *store);
+    bool whole = store_length == NETBUFF_STORE_LENGTH;
+    for (uint32_t times = whole ? take_below(in, 3) : 0; times > 0; times--)
+        store[take_below(in, NETBUFF_STORE_LENGTH)] = numbers[take_below(in, 8)];
+    lend_note();
+    bool fit = netbuff_places_fit(store, store_length);
+    lend_check();
+    answered_plainly();
+    promise(fit == (whole && places_inside(store)), "places fit: %d", fit);
+}

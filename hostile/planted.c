@@ -1,0 +1,151 @@
+/*
+ * Calls with a fault planted, to see that the host finds it. Linked in place of the archive's calls
+ * (--wrap); HOSTILE_PLANT is the number of the fault, 0 for none. .ci/hostile tries each.
+ */
+#include "netbuff.h"
+
+#include <stdlib.h>
+
+enum plant {
+    NONE,
+    BYTE_BEHIND,
+    BYTE_BEFORE,
+    READ_BEHIND,
+    WRITE_TO_LENT,
+    WRITTEN_AFTER_1,
+    NOT_CLEARED,
+    NO_LAYOUT,
+    NUMBER_19,
+    POSITION_LEFT,
+    UNUSED_PLACE,
+    STORE_KEPT,
+    LOG_BEHIND,
+    GRID_AFTER_14,
+    ONE_SYMBOL_MORE
+};
+
+/* The wrappers pass on what they are given, by these names and types of the header. */
+__typeof__(netbuff_transform) __real_netbuff_transform, __wrap_netbuff_transform;
+__typeof__(netbuff_read_bits) __real_netbuff_read_bits, __wrap_netbuff_read_bits;
+__typeof__(netbuff_cut) __real_netbuff_cut, __wrap_netbuff_cut;
+__typeof__(netbuff_layout) __real_netbuff_layout, __wrap_netbuff_layout;
+__typeof__(netbuff_block_context) __real_netbuff_block_context, __wrap_netbuff_block_context;
+__typeof__(netbuff_orders) __real_netbuff_orders, __wrap_netbuff_orders;
+__typeof__(netbuff_coefficients) __real_netbuff_coefficients, __wrap_netbuff_coefficients;
+
+static enum plant planted(void)
+{
+    static const char *number;
+    if (number == NULL)
+        number = getenv("HOSTILE_PLANT");
+    return number == NULL ? NONE : (enum plant)atoi(number);
+}
+
+uint32_t __wrap_netbuff_transform(uint32_t number, size_t *wide, size_t *high, size_t *order, bool *turn,
+                                  size_t *x, size_t *y)
+{
+    size_t before = *x;
+    uint32_t refused = __real_netbuff_transform(number, wide, high, order, turn, x, y);
+    if (planted() == POSITION_LEFT && refused != 0)
+        *x = before;
+    return planted() == NUMBER_19 && refused != 0 ? 19 : refused;
+}
+
+uint32_t __wrap_netbuff_read_bits(const uint8_t *bytes, size_t length, size_t byte, uint32_t bit,
+                                  uint32_t n, uint32_t *value, size_t *next_byte, uint32_t *next_bit,
+                                  uint32_t *taken)
+{
+    if (planted() == READ_BEHIND)
+        *value = ((const volatile uint8_t *)bytes)[length];
+    return __real_netbuff_read_bits(bytes, length, byte, bit, n, value, next_byte, next_bit, taken);
+}
+
+uint32_t __wrap_netbuff_cut(size_t bw, size_t bh, const uint8_t *kinds, size_t kinds_length,
+                            const int32_t *hf_mul, size_t hf_mul_length, size_t index,
+                            uint8_t *out_kinds, size_t out_kinds_length, int32_t *out_hf_mul,
+                            size_t out_hf_mul_length, size_t *wide, size_t *high, size_t *x, size_t *y)
+{
+    uint32_t refused =
+        __real_netbuff_cut(bw, bh, kinds, kinds_length, hf_mul, hf_mul_length, index, out_kinds,
+                           out_kinds_length, out_hf_mul, out_hf_mul_length, wide, high, x, y);
+    if (planted() == BYTE_BEHIND && refused == 0)
+        out_kinds[out_kinds_length] = 1;
+    if (planted() == BYTE_BEFORE && refused == 0)
+        out_kinds[-1] = 1;
+    if (planted() == WRITE_TO_LENT && refused == 0)
+        ((uint8_t *)(uintptr_t)kinds)[kinds_length - 1] ^= 1;
+    return refused;
+}
+
+uint32_t __wrap_netbuff_layout(uint32_t width, uint32_t height, uint32_t mode0, uint32_t mode1,
+                               uint32_t mode2, const int32_t *types, size_t types_length,
+                               const int32_t *muls, size_t muls_length, const int32_t *sharpness,
+                               size_t sharpness_length, bool filter_on, float multiplier,
+                               const float lookup[8], uint32_t scale, uint8_t *kinds,
+                               size_t kinds_length, int32_t *hf_mul, size_t hf_mul_length, float *sigma,
+                               size_t sigma_length, size_t *used, size_t *x, size_t *y)
+{
+    uint32_t refused =
+        __real_netbuff_layout(width, height, mode0, mode1, mode2, types, types_length, muls, muls_length,
+                              sharpness, sharpness_length, filter_on, multiplier, lookup, scale, kinds,
+                              kinds_length, hf_mul, hf_mul_length, sigma, sigma_length, used, x, y);
+    if (planted() == WRITTEN_AFTER_1 && refused == 1 && kinds_length > 0 && kinds_length < 1 << 20)
+        kinds[kinds_length - 1] ^= 1;
+    if (planted() == NOT_CLEARED && refused >= 4 && refused <= 10)
+        hf_mul[hf_mul_length - 1] = 1;
+    if (planted() == NO_LAYOUT && refused == 0)
+        kinds[kinds_length - 1] = 0;
+    return refused;
+}
+
+uint32_t __wrap_netbuff_block_context(const uint8_t *bytes, size_t bytes_length, uint32_t num_clusters,
+                                      const uint8_t *map, size_t map_length,
+                                      uint32_t *num_block_clusters, uint32_t lengths[4],
+                                      int32_t lf_thresholds[45], uint32_t qf_thresholds[15],
+                                      uint8_t block_ctx_map[2496], size_t *bits_read, size_t *x,
+                                      size_t *y)
+{
+    uint32_t refused = __real_netbuff_block_context(bytes, bytes_length, num_clusters, map, map_length,
+                                                    num_block_clusters, lengths, lf_thresholds,
+                                                    qf_thresholds, block_ctx_map, bits_read, x, y);
+    if (planted() == UNUSED_PLACE && lengths[3] < 15)
+        qf_thresholds[14] = 1;
+    return refused;
+}
+
+uint32_t __wrap_netbuff_orders(const uint8_t *bytes, size_t bytes_length, const uint32_t *symbols,
+                               size_t symbols_length, uint16_t *store, size_t store_length,
+                               size_t *symbols_read, size_t *x, size_t *y)
+{
+    uint32_t refused = __real_netbuff_orders(bytes, bytes_length, symbols, symbols_length, store,
+                                             store_length, symbols_read, x, y);
+    if (planted() == STORE_KEPT && refused == 15)
+        store[store_length - 1] = 1;
+    return refused;
+}
+
+uint32_t __wrap_netbuff_coefficients(
+    size_t wide, size_t high, const uint8_t *kinds, size_t kinds_length, const int32_t *hf_mul,
+    size_t hf_mul_length, uint32_t num_block_clusters, const uint32_t lengths[4],
+    const int32_t lf_thresholds[45], const uint32_t qf_thresholds[15], const uint8_t block_ctx_map[2496],
+    bool lf_there, const int32_t *lf0, size_t lf0_length, const int32_t *lf1, size_t lf1_length,
+    const int32_t *lf2, size_t lf2_length, const uint16_t *store, size_t store_length, uint32_t presets,
+    const uint8_t *cluster_map, size_t cluster_map_length, uint32_t shift, const uint8_t *bytes,
+    size_t bytes_length, const uint32_t *symbols, size_t symbols_length, uint8_t *log, size_t log_length,
+    int32_t *grid0, size_t grid0_length, int32_t *grid1, size_t grid1_length, int32_t *grid2,
+    size_t grid2_length, size_t *symbols_read, size_t *x, size_t *y)
+{
+    uint32_t refused = __real_netbuff_coefficients(
+        wide, high, kinds, kinds_length, hf_mul, hf_mul_length, num_block_clusters, lengths,
+        lf_thresholds, qf_thresholds, block_ctx_map, lf_there, lf0, lf0_length, lf1, lf1_length, lf2,
+        lf2_length, store, store_length, presets, cluster_map, cluster_map_length, shift, bytes,
+        bytes_length, symbols, symbols_length, log, log_length, grid0, grid0_length, grid1, grid1_length,
+        grid2, grid2_length, symbols_read, x, y);
+    if (planted() == LOG_BEHIND && refused == 0 && *symbols_read < log_length)
+        log[*symbols_read] ^= 1;
+    if (planted() == GRID_AFTER_14 && refused == 14)
+        grid1[grid1_length - 1] ^= 1;
+    if (planted() == ONE_SYMBOL_MORE && refused == 0)
+        ++*symbols_read;
+    return refused;
+}
