@@ -1,28 +1,11 @@
--- What a call gave against what was recorded: the first field that differs is noted.
-use mathlib.Core.Bool.{Bool, cond}
-use mathlib.Core.List.{List}
-use Prim.Native.Nat.{ℕ, _+_}
-use lib.Dec.{eqb, leb}
-use lib.ListN.{length, getD}
-use Rattle.recorded.specs.declared.field.Field.{Field}
-use Rattle.recorded.specs.declared.compare.Cursor.{Cursor}
-use Rattle.recorded.specs.declared.compare.Standing.{Standing}
-use Rattle.recorded.specs.declared.compare.Standing.the-variants.{Agrees, Differs, Malformed}
+-- What a call gave against what was recorded.
+use mathlib.Core.Bool.{cond}
+use mathlib.Core.List.{List, [], _∷_}
+use Prim.Native.Nat.{ℕ, suc}
+use lib.Dec.{eqb}
 
-abbrev pub cursor : ℕ → Standing → Cursor
-cursor at s = record { at = at; standing = s }
-
--- the first field that differs is kept
-abbrev pub noted : Standing → Field → Standing
-noted Agrees f = Differs f
-noted (Differs first) f = Differs first
-noted Malformed f = Malformed
-
-abbrev pub judged : Standing → Bool → Field → Standing
-judged s agrees f = cond agrees s (noted s f)
-
--- the number at the cursor; a record that ends before is malformed
-abbrev pub valueOf : List ℕ → Cursor → Field → ℕ → Cursor
-valueOf w c f mine =
-    cond (leb (length w) (c .at)) (cursor (c .at) Malformed)
-    (cursor (c .at + 1) (judged (c .standing) (eqb (getD w (c .at) 0) mine) f))
+-- how many numbers agree before the first that does not
+unfoldable pub common : List ℕ → List ℕ → ℕ
+common [] b = 0
+common (x ∷ a) [] = 0
+common (x ∷ a) (y ∷ b) = cond (eqb x y) (suc (common a b)) 0

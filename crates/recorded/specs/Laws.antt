@@ -1,21 +1,18 @@
 -- Laws of digests, written lists, places and records, one step at a time.
 use mathlib.Core.Path.{_≡_, refl, ap, sym, _∙_}
-use mathlib.Core.Bool.{Bool, true, false}
 use mathlib.Core.List.{List, [], _∷_, _++_}
 use Prim.Native.Nat.{ℕ, zero, suc, _+_, _-_, _<_, _≤_}
 use native.Mathlib.Nat.{not-suc-le-zero, le-of-suc-le-suc}
 use native.Mathlib.Omega.{arith}
 use native.Mathlib.Numerals.{add-one}
-use lib.Dec.{eqb, leb}
 use lib.ListN.{length, getD, drop, take, set, drop-of-length-le, length-take}
 use lib.Seq.{drop-cons}
-use borrow.Author.Tests.{leb-true}
+use borrow.Author.Tests.{eq-eqb, ne-eqb}
 use Rattle.io.specs.Counts.{Counts}
 use Rattle.laws.specs.Lists.{tabulate}
-use Rattle.recorded.specs.declared.frame.Frame.the-variants.{Record}
 use Rattle.recorded.specs.Digest.{digest, digested}
+use Rattle.recorded.specs.Compare.{common}
 use Rattle.recorded.specs.Lists.{behindOne, placeOf}
-use Rattle.recorded.specs.Frames.{frameOf}
 
 -- One element more, and the end, of a digest.
 pub digest-step : (h : ℕ) (s : List ℕ) (i : ℕ) → i < length s → digest h (drop i s) ≡ digest (digested h (getD s i 0)) (drop (i + 1) s)
@@ -25,6 +22,27 @@ digest-step h s i l = rw (add-one, drop-cons s i 0)
 pub digest-all : (h : ℕ) (s : List ℕ) (i : ℕ) → length s ≤ i → digest h (drop i s) ≡ h
 unfolding digest
 digest-all h s i l = rw (drop-of-length-le s l)
+
+-- One number more agrees, and the ways to end.
+pub common-step : (a b : List ℕ) (i : ℕ) → i < length a → i < length b → getD a i 0 ≡ getD b i 0 → i + common (drop i a) (drop i b) ≡ i + 1 + common (drop (i + 1) a) (drop (i + 1) b)
+unfolding common
+common-step a b i l m e = rw (add-one, drop-cons a i 0, drop-cons b i 0, eq-eqb (getD a i 0) (getD b i 0) e) (omega arith)
+
+pub common-differs : (a b : List ℕ) (i : ℕ) → i < length a → i < length b → (getD a i 0 ≡ getD b i 0 → ⊥) → i + common (drop i a) (drop i b) ≡ i
+unfolding common
+common-differs a b i l m e = rw (drop-cons a i 0, drop-cons b i 0, ne-eqb (getD a i 0) (getD b i 0) e) (omega arith)
+
+pub common-short : (a b : List ℕ) (i : ℕ) → length a ≤ i → i + common (drop i a) (drop i b) ≡ i
+unfolding common
+common-short a b i l = rw (drop-of-length-le a l) (omega arith)
+
+common-none : (a : List ℕ) → common a [] ≡ 0
+unfolding common
+common-none [] = refl
+common-none (x ∷ a) = refl
+
+pub common-end : (a b : List ℕ) (i : ℕ) → length b ≤ i → i + common (drop i a) (drop i b) ≡ i
+common-end a b i l = rw (drop-of-length-le b l, common-none (drop i a)) (omega arith)
 
 -- One list more is passed.
 pub place-step : (w : List ℕ) (at i k : ℕ) → i < k → placeOf w (behindOne w at) (k - (i + 1)) ≡ placeOf w at (k - i)
@@ -50,24 +68,3 @@ module _ (f : ℕ → ℕ) where
 -- What was written lies at the start.
 pub counts-written : (n : ℕ) (last : List ℕ) → n ≤ length last → Counts n last
 counts-written n last h = (h, simp length-take (omega arith))
-
-pub record Inside (w : List ℕ) (at start end : ℕ) : Type 0 where
-  pub behind : at < start
-  pub ordered : start ≤ end
-  pub within : end ≤ length w
-
--- A record lies inside its list, behind the place where it was looked for.
-module _ (w : List ℕ) (at call start end : ℕ) where
-  pub inside : frameOf w at ≡ Record call start end → Inside w at start end
-  unfolding frameOf
-  inside e = go (eqb at (length w)) refl (leb (at + 2) (length w)) refl (leb (at + 2 + getD w (at + 1) 0) (length w)) refl
-    where
-      go : (a : Bool) → eqb at (length w) ≡ a → (b : Bool) → leb (at + 2) (length w) ≡ b → (c : Bool) → leb (at + 2 + getD w (at + 1) 0) (length w) ≡ c → Inside w at start end
-      go true f b g c h = absurd (let z : _≡_ {A = ℕ} 0 1 = cc (rw f at e) in omega arith)
-      go false f false g c h = absurd (let z : _≡_ {A = ℕ} 0 1 = cc (rw (f, g) at e) in omega arith)
-      go false f true g false h = absurd (let z : _≡_ {A = ℕ} 0 1 = cc (rw (f, g, h) at e) in omega arith)
-      go false f true g true h =
-          let p : at + 2 ≡ start = cc (rw (f, g, h) at e) in
-          let q : at + 2 + getD w (at + 1) 0 ≡ end = cc (rw (f, g, h) at e) in
-          let l = leb-true (at + 2 + getD w (at + 1) 0) (length w) h in
-          record { behind = omega arith; ordered = omega arith; within = omega arith }

@@ -1,55 +1,24 @@
 // The comparison of what a call gave with what was recorded.
-use crate::field::Field;
 use crate::wide;
 ghost use mathlib.Core.Path.{_≡_};
-ghost use Rattle.recorded.specs.Compare.{noted, valueOf};
+ghost use Prim.Native.Nat.{_≤_};
+ghost use lib.ListN.{length};
+ghost use Rattle.recorded.specs.Compare.{common};
 
-// How a record stands after what was compared of it.
-pub enum Standing {
-    Agrees,
-    // The first field that differs.
-    Differs(Field),
-    // Not of the list's form.
-    Malformed,
-}
-
-// A place in a record, and how the record stands up to it.
-pub struct Cursor {
-    pub at: usize,
-    pub standing: Standing,
-}
-
-// A field differs: the first is kept.
-fn noting(standing: Standing, field: Field) -> Standing
-    ensures { λ r. ⌜ r ≡ noted standing field ⌝ }
+// How many numbers agree before the first that does not.
+pub fn agreeing(theirs: &[u32], mine: &[usize]) -> usize
+    ensures { λ r. ⌜ r ≡ common (now (theirs .entry)) (now (mine .entry)) ⌝ }
+    ensures { λ r. ⌜ (r ≤ length (now (theirs .entry))) × (r ≤ length (now (mine .entry))) ⌝ }
 {
-    match standing {
-        Standing::Agrees => Standing::Differs(field),
-        Standing::Differs(first) => Standing::Differs(first),
-        Standing::Malformed => Standing::Malformed,
+    let mut i = 0;
+    while i < mine.len() {
+        if theirs.len() <= i {
+            return i;
+        }
+        if wide(theirs[i]) != mine[i] {
+            return i;
+        }
+        i += 1;
     }
-}
-
-// The next number of a record against the same thing of the call.
-pub fn value(words: &[u32], c: Cursor, field: Field, mine: usize) -> Cursor
-    ensures { λ r. ⌜ r ≡ valueOf (now (words .entry)) c field mine ⌝ }
-{
-    let at = c.at;
-    let standing = c.standing;
-    if words.len() <= at {
-        return Cursor {
-            at,
-            standing: Standing::Malformed,
-        };
-    }
-    if wide(words[at]) == mine {
-        return Cursor {
-            at: at + 1,
-            standing,
-        };
-    }
-    Cursor {
-        at: at + 1,
-        standing: noting(standing, field),
-    }
+    i
 }

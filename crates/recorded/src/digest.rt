@@ -1,10 +1,11 @@
 // The digest of a list: from 0, for each element in turn, 16777619 times what there is, plus the element,
 // modulo 2^32.
+use crate::wide;
 ghost use mathlib.Core.Path.{_≡_};
 ghost use Prim.Native.Nat.{_+_, _*_, _%_, _^_};
 ghost use Rattle.recorded.specs.Digest.{digest, digested};
 
-fn with(h: u32, element: u32) -> u32
+pub fn with(h: u32, element: u32) -> u32
     ensures { λ r. ⌜ r ≡ digested h element ⌝ }
 {
     ((16777619 * (h as u64) + (element as u64)) % 0x1_0000_0000) as u32
@@ -22,7 +23,7 @@ fn wide_short(x: u16) -> u32
     x as u32
 }
 
-pub fn of_bytes(list: &[u8]) -> u32
+pub fn of_bytes(list: &[u8]) -> usize
     ensures { λ r. ⌜ r ≡ digest 0 (now (list .entry)) ⌝ }
 {
     let mut h = 0;
@@ -31,10 +32,10 @@ pub fn of_bytes(list: &[u8]) -> u32
         h = with(h, wide_byte(list[i]));
         i += 1;
     }
-    h
+    wide(h)
 }
 
-pub fn of_shorts(list: &[u16]) -> u32
+pub fn of_shorts(list: &[u16]) -> usize
     ensures { λ r. ⌜ r ≡ digest 0 (now (list .entry)) ⌝ }
 {
     let mut h = 0;
@@ -43,10 +44,10 @@ pub fn of_shorts(list: &[u16]) -> u32
         h = with(h, wide_short(list[i]));
         i += 1;
     }
-    h
+    wide(h)
 }
 
-pub fn of_words(list: &[u32]) -> u32
+pub fn of_words(list: &[u32]) -> usize
     ensures { λ r. ⌜ r ≡ digest 0 (now (list .entry)) ⌝ }
 {
     let mut h = 0;
@@ -55,5 +56,5 @@ pub fn of_words(list: &[u32]) -> u32
         h = with(h, list[i]);
         i += 1;
     }
-    h
+    wide(h)
 }

@@ -5,7 +5,6 @@ ghost use Prim.Native.Nat.{_<_};
 
 pub mod compare;
 pub mod digest;
-pub mod field;
 pub mod frame;
 pub mod list;
 pub mod words;

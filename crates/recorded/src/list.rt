@@ -36,7 +36,7 @@ fn behind_one(words: &[u32], at: usize) -> usize
 }
 
 // The place behind the first k lists from a place on.
-pub fn place(words: &[u32], from: usize, k: usize) -> usize
+fn place(words: &[u32], from: usize, k: usize) -> usize
     ensures { λ r. ⌜ r ≡ placeOf (now (words .entry)) from k ⌝ }
 {
     let mut at = from;
