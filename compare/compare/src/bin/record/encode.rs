@@ -1,4 +1,5 @@
-//! Inputs and outcomes of each call as the body of a record.
+//! Inputs and outcomes of each call as the body of a record: the numbers that the call takes, then
+//! its lists, then its answer.
 
 use calls::{
     list_length, list_start, AlikeCall, CoefficientBuffers, ColumnCount, ColumnCountCall, Contexts,
@@ -7,7 +8,7 @@ use calls::{
 };
 use compare::cases::CoefficientsInput;
 
-use crate::writer::{digest, Body};
+use crate::writer::{Body, Element};
 
 pub fn transform(body: &mut Body, &number: &u32, outcome: &Outcome<Transform, ()>) {
     body.number(number);
@@ -15,13 +16,13 @@ pub fn transform(body: &mut Body, &number: &u32, outcome: &Outcome<Transform, ()
     let facts = outcome.answer.map_or([0; 4], |read| {
         [read.wide, read.high, read.order, usize::from(read.turns)]
     });
-    facts.into_iter().for_each(|fact| body.size(fact));
+    body.sizes(facts);
 }
 
 pub fn column_count(body: &mut Body, call: &ColumnCountCall, outcome: &Outcome<ColumnCount, ()>) {
-    body.lent(&call.bytes);
     body.numbers([call.width, call.height]);
     body.numbers(call.modes);
+    body.bytes(&call.bytes);
     body.answer(&outcome.answer);
     let (count, bits) = outcome
         .answer
@@ -33,90 +34,73 @@ pub fn column_count(body: &mut Body, call: &ColumnCountCall, outcome: &Outcome<C
 pub fn layout(body: &mut Body, call: &LayoutCall, outcome: &Outcome<usize, LayoutBuffers>) {
     body.numbers([call.width, call.height]);
     body.numbers(call.modes);
-    body.lent(&call.types);
-    body.lent(&call.muls);
-    body.lent(&call.sharpness);
     body.number(u32::from(call.filter.is_some()));
     body.number(call.filter.unwrap_or(0.0).to_bits());
     body.numbers(call.lookup.map(f32::to_bits));
     body.number(call.scale);
-    layout_buffers(body, &call.buffers, Body::lent, Body::lent, Body::lent);
+    let lent = &call.buffers;
+    body.sizes([lent.kinds.len(), lent.hf_mul.len(), lent.sigma.len()]);
+    body.list(&call.types);
+    body.list(&call.muls);
+    body.list(&call.sharpness);
     body.answer(&outcome.answer);
     body.size(*outcome.answer.as_ref().unwrap_or(&0));
-    layout_buffers(body, &outcome.buffers, Body::left, Body::left, Body::left);
-}
-
-fn layout_buffers(
-    body: &mut Body,
-    buffers: &LayoutBuffers,
-    kinds: fn(&mut Body, &[u8]),
-    hf_mul: fn(&mut Body, &[i32]),
-    sigma: fn(&mut Body, &[u32]),
-) {
-    let bits: Vec<u32> = buffers.sigma.iter().map(|sigma| sigma.to_bits()).collect();
-    kinds(body, &buffers.kinds);
-    hf_mul(body, &buffers.hf_mul);
-    sigma(body, &bits);
+    body.digest(&outcome.buffers.kinds);
+    body.digest(&outcome.buffers.hf_mul);
+    body.digest(&outcome.buffers.sigma);
 }
 
 pub fn cut(body: &mut Body, call: &CutCall, outcome: &Outcome<(usize, usize), GroupBuffers>) {
-    lent_layout(body, &call.layout);
-    body.size(call.group);
-    body.lent(&call.kinds);
-    body.lent(&call.hf_mul);
+    body.sizes([call.layout.wide, call.layout.high, call.group]);
+    body.sizes([call.kinds.len(), call.hf_mul.len()]);
+    layout_lists(body, &call.layout);
     body.answer(&outcome.answer);
     let (wide, high) = outcome.answer.unwrap_or((0, 0));
-    body.size(wide);
-    body.size(high);
-    body.left(&outcome.buffers.0);
-    body.left(&outcome.buffers.1);
+    body.sizes([wide, high]);
+    body.digest(&outcome.buffers.0);
+    body.digest(&outcome.buffers.1);
 }
 
 pub fn alike(body: &mut Body, call: &AlikeCall, outcome: &Outcome<bool, ()>) {
-    lent_layout(body, &call.left);
-    lent_layout(body, &call.right);
+    body.sizes([call.left.wide, call.left.high]);
+    body.sizes([call.right.wide, call.right.high]);
+    layout_lists(body, &call.left);
+    layout_lists(body, &call.right);
     body.answer(&outcome.answer);
     body.number(u32::from(outcome.answer == Ok(true)));
 }
 
-fn lent_layout(body: &mut Body, layout: &Layout) {
-    body.size(layout.wide);
-    body.size(layout.high);
-    body.lent(&layout.kinds);
-    body.lent(&layout.hf_mul);
+fn layout_lists(body: &mut Body, layout: &Layout) {
+    body.bytes(&layout.kinds);
+    body.list(&layout.hf_mul);
 }
 
 pub fn contexts(body: &mut Body, call: &ContextsCall, outcome: &Outcome<usize, Contexts>) {
-    body.lent(&call.bytes);
     body.number(call.count);
-    body.lent(&call.map);
+    body.bytes(&call.bytes);
+    body.bytes(&call.map);
     body.answer(&outcome.answer);
     body.size(*outcome.answer.as_ref().unwrap_or(&0));
     let record = &outcome.buffers;
-    record_numbers(body, record);
-    body.left(&record.lf);
-    body.left(&record.qf);
-    body.left(&record.map);
-}
-
-fn record_numbers(body: &mut Body, record: &Contexts) {
     body.number(record.count);
-    body.numbers(record.lengths);
+    body.digest(&record.lengths);
+    body.digest(&record.lf);
+    body.digest(&record.qf);
+    body.digest(&record.map);
 }
 
 pub fn orders(body: &mut Body, call: &OrdersCall, outcome: &Outcome<usize, Store>) {
-    body.lent(&call.bytes);
-    body.lent(&call.symbols);
-    body.lent(&call.store);
+    body.size(call.store.len());
+    body.bytes(&call.bytes);
+    body.list(&call.symbols);
     body.answer(&outcome.answer);
     body.size(*outcome.answer.as_ref().unwrap_or(&0));
     let store = &outcome.buffers;
-    if store.len() == STORE_LENGTH {
-        for order in 0..ORDER_COUNT {
-            for channel in 0..3 {
-                let list = &store[list_start(order, channel)..][..list_length(order)];
-                body.number(digest(list));
-            }
+    for order in 0..ORDER_COUNT {
+        for channel in 0..3 {
+            let range = list_start(order, channel)..list_start(order, channel) + list_length(order);
+            let fits = store.len() == STORE_LENGTH;
+            body.digest(if fits { &store[range] } else { &[] });
         }
     }
 }
@@ -127,36 +111,39 @@ pub fn coefficients(
     outcome: &Outcome<usize, CoefficientBuffers>,
 ) {
     let call = &input.call;
-    lent_layout(body, &call.group);
-    record_numbers(body, &call.contexts);
-    body.trimmed(&call.contexts.lf);
-    body.trimmed(&call.contexts.qf);
-    body.trimmed(&call.contexts.map);
+    body.sizes([call.group.wide, call.group.high]);
+    body.number(call.contexts.count);
+    body.numbers(call.contexts.lengths);
     body.number(u32::from(call.lf.is_some()));
-    let none = [(); 3].map(|()| Vec::new());
-    call.lf
-        .as_ref()
-        .unwrap_or(&none)
-        .iter()
-        .for_each(|grid| body.lent(grid));
-    body.lent(&input.orders.bytes);
-    body.lent(&input.orders.symbols);
     changed_store(body, input);
     body.number(call.presets);
-    body.lent(&call.cluster_map);
+    body.size(call.cluster_map.len());
     body.number(call.shift);
-    body.lent(&call.bytes);
-    body.lent(&call.symbols);
-    call.buffers.grids.iter().for_each(|grid| body.lent(grid));
-    body.lent(&call.buffers.log);
+    let lent = &call.buffers;
+    body.sizes(lent.grids.each_ref().map(Vec::len));
+    body.size(lent.log.len());
+    layout_lists(body, &call.group);
+    body.list(trimmed(&call.contexts.lf));
+    body.list(trimmed(&call.contexts.qf));
+    body.bytes(trimmed(&call.contexts.map));
+    let none = [(); 3].map(|()| Vec::new());
+    let lf = call.lf.as_ref().unwrap_or(&none);
+    lf.iter().for_each(|grid| body.list(grid));
+    body.bytes(&input.orders.bytes);
+    body.list(&input.orders.symbols);
+    body.bytes(&call.bytes);
+    body.list(&call.symbols);
     body.answer(&outcome.answer);
     body.size(*outcome.answer.as_ref().unwrap_or(&0));
-    outcome
-        .buffers
-        .grids
-        .iter()
-        .for_each(|grid| body.left(grid));
-    body.left(&outcome.buffers.log);
+    let left = &outcome.buffers;
+    left.grids.iter().for_each(|grid| body.digest(grid));
+    body.digest(&left.log);
+}
+
+/// A list of a fixed length without the zeros at its end.
+fn trimmed<E: Element>(list: &[E]) -> &[E] {
+    let used = list.iter().rposition(|element| element.pattern() != 0);
+    &list[..used.map_or(0, |last| last + 1)]
 }
 
 /// How the lent store differs from the one that the orders wrote: place, number, length.

@@ -1,16 +1,13 @@
 use calls::{Answer, Refusal};
 
-/// Lists with more elements than this are written as a digest behind an answer.
-const FULL_MOST: usize = 64;
 const PATTERN_FACTOR: u32 = 0x9E37_79B1;
 const PATTERN_OFFSET: u32 = 0x0123_4567;
+const DIGEST_FACTOR: u32 = 16_777_619;
 
 /// A number of 1, 2 or 4 bytes.
-pub trait Element: Copy + PartialEq {
+pub trait Element: Copy {
     /// The pattern of its bits.
     fn pattern(self) -> u32;
-    fn from_pattern(pattern: u32) -> Self;
-    fn put(self, bytes: &mut Vec<u8>);
 }
 
 macro_rules! element {
@@ -19,51 +16,42 @@ macro_rules! element {
             fn pattern(self) -> u32 {
                 self as u32
             }
-
-            fn from_pattern(pattern: u32) -> Self {
-                pattern as $kind
-            }
-
-            fn put(self, bytes: &mut Vec<u8>) {
-                bytes.extend(self.to_le_bytes());
-            }
         }
     )*};
 }
 
 element!(u8, u16, u32, i32);
 
-/// What lent memory holds that is not worth writing out.
-pub fn patterned<E: Element>(length: usize) -> Vec<E> {
-    let element = |i: usize| {
+impl Element for f32 {
+    fn pattern(self) -> u32 {
+        self.to_bits()
+    }
+}
+
+/// The entries of a cluster map that is not worth writing out.
+pub fn patterned(length: usize) -> Vec<u8> {
+    let entry = |i: usize| {
         let number = PATTERN_FACTOR
             .wrapping_mul(i as u32)
             .wrapping_add(PATTERN_OFFSET);
-        E::from_pattern(number / 256)
+        (number / 256) as u8
     };
-    (0..length).map(element).collect()
-}
-
-pub fn digest<E: Element>(list: &[E]) -> u32 {
-    let next = |h: u32, element: &E| h.wrapping_mul(31).wrapping_add(element.pattern());
-    list.iter().fold(0, next)
+    (0..length).map(entry).collect()
 }
 
 /// The body of a record.
 #[derive(Default)]
 pub struct Body {
-    pub bytes: Vec<u8>,
+    pub numbers: Vec<u32>,
 }
 
 impl Body {
     pub fn number(&mut self, number: u32) {
-        number.put(&mut self.bytes);
+        self.numbers.push(number);
     }
 
     pub fn numbers(&mut self, numbers: impl IntoIterator<Item = u32>) {
-        for number in numbers {
-            self.number(number);
-        }
+        self.numbers.extend(numbers);
     }
 
     /// A length, position or count, all of which are small here.
@@ -71,38 +59,30 @@ impl Body {
         self.number(u32::try_from(size).expect("a small number"));
     }
 
-    /// A lent list: in full, unless it is the pattern.
-    pub fn lent<E: Element>(&mut self, list: &[E]) {
-        if list.len() > 8 && list == patterned::<E>(list.len()) {
-            self.size(list.len());
-            self.numbers([1, PATTERN_FACTOR, PATTERN_OFFSET]);
-        } else {
-            self.full(list);
-        }
+    pub fn sizes(&mut self, sizes: impl IntoIterator<Item = usize>) {
+        sizes.into_iter().for_each(|size| self.size(size));
     }
 
-    /// A lent list of a fixed length without the zeros at its end.
-    pub fn trimmed<E: Element>(&mut self, list: &[E]) {
-        let used = list.iter().rposition(|element| element.pattern() != 0);
-        self.full(&list[..used.map_or(0, |last| last + 1)]);
+    pub fn list<E: Element>(&mut self, list: &[E]) {
+        self.sizes([list.len(), list.len()]);
+        self.numbers(list.iter().map(|element| element.pattern()));
     }
 
-    /// What a list holds in the end.
-    pub fn left<E: Element>(&mut self, list: &[E]) {
-        if list.len() > FULL_MOST {
-            self.size(list.len());
-            self.numbers([2, digest(list)]);
-        } else {
-            self.full(list);
-        }
+    pub fn bytes(&mut self, bytes: &[u8]) {
+        self.sizes([bytes.len().div_ceil(4), bytes.len()]);
+        self.numbers(bytes.chunks(4).map(|four| {
+            let mut number = [0; 4];
+            number[..four.len()].copy_from_slice(four);
+            u32::from_le_bytes(number)
+        }));
     }
 
-    fn full<E: Element>(&mut self, list: &[E]) {
-        self.size(list.len());
-        self.number(0);
-        for element in list {
-            element.put(&mut self.bytes);
-        }
+    pub fn digest<E: Element>(&mut self, list: &[E]) {
+        let next = |h: u32, element: &E| {
+            h.wrapping_mul(DIGEST_FACTOR)
+                .wrapping_add(element.pattern())
+        };
+        self.number(list.iter().fold(0, next));
     }
 
     pub fn answer<T>(&mut self, answer: &Answer<T>) {
@@ -111,7 +91,6 @@ impl Body {
             Err(refusal) => *refusal,
         };
         self.number(number);
-        self.size(x);
-        self.size(y);
+        self.sizes([x, y]);
     }
 }

@@ -1,0 +1,2 @@
+-- floats by their patterns
+pub mod Patterns
