@@ -1,15 +1,11 @@
 use Rattle.hf_pass.specs.Call.{outcome}
 use Rattle.hf_pass.specs.Parsing.{other-length, ready, bits-end, lists-read}
 use borrow.Author.Needs.{needs}
-use native.Mathlib.Omega.{arith}
-use mathlib.Core.Path.{_≡_, _∙_, ap, sym}
-use mathlib.Core.List.{_++_}
-use Prim.Native.Nat.{ℕ, _≤_, _<_, _-_, _+_, _*_}
-use lib.ListN.{length, getD, take, drop, set, length-set}
+use mathlib.Core.Path.{sym}
+use Prim.Native.Nat.{_-_}
+use lib.ListN.{length, take}
 use Rattle.hf_pass.proofs.parse.Statement.{statement}
 use Rattle.hf_pass.proofs.parse.Tie as tie
-use Rattle.hf_pass.proofs.parse.Reads as reads
-use Rattle.hf_pass.proofs.parse.Lts as lts
 use Rattle.bits.proofs.Place.start.Reads as start-reads
 use Rattle.bits.proofs.read_u32.Reads as read-u32-reads
 use Rattle.hf_pass.proofs.read_lists.Reads as read-lists-reads

@@ -2,14 +2,11 @@ use Rattle.hf_pass.specs.Lists.{list-unused, list-short, list-large, lis
 use borrow.Author.Tests.{not-true, not-false}
 use borrow.Author.Needs.{needs}
 use native.Mathlib.Omega.{arith}
-use mathlib.Core.Path.{_≡_, _∙_, ap, sym}
-use mathlib.Core.List.{_++_}
-use Prim.Native.Nat.{ℕ, _≤_, _<_, _-_, _+_, _*_}
-use lib.ListN.{length, getD, take, drop, set, length-set}
+use mathlib.Core.Path.{sym}
+use Prim.Native.Nat.{_-_}
+use lib.ListN.{length, take}
 use Rattle.hf_pass.proofs.read_list.Statement.{statement}
 use Rattle.hf_pass.proofs.read_list.Tie as tie
-use Rattle.hf_pass.proofs.read_list.Reads as reads
-use Rattle.hf_pass.proofs.read_list.Lts as lts
 use Rattle.hf_pass.proofs.lesser_of.Reads as lesser-of-reads
 use Rattle.hf_pass.proofs.wide.Reads as wide-reads
 use Rattle.permutation.proofs.digits_below.Reads as digits-below-reads

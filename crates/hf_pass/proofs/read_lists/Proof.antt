@@ -7,13 +7,10 @@ use Rattle.hf_pass_store.specs.Offsets.{from, from-start}
 use borrow.Author.Needs.{needs}
 use native.Mathlib.Omega.{arith}
 use mathlib.Core.Path.{_≡_, _∙_, ap, sym}
-use mathlib.Core.List.{_++_}
-use Prim.Native.Nat.{ℕ, _≤_, _<_, _-_, _+_, _*_}
-use lib.ListN.{length-replicate, length, getD, take, drop, set, length-set}
+use Prim.Native.Nat.{_-_, _+_, _*_}
+use lib.ListN.{length-replicate, length, take}
 use Rattle.hf_pass.proofs.read_lists.Statement.{statement}
 use Rattle.hf_pass.proofs.read_lists.Tie as tie
-use Rattle.hf_pass.proofs.read_lists.Reads as reads
-use Rattle.hf_pass.proofs.read_lists.Lts as lts
 use Rattle.dct_select.proofs.block_sizes.block_size.Reads as block-size-reads
 use Rattle.hf_pass.proofs.count_of.Reads as count-of-reads
 use Rattle.hf_pass.proofs.is_refused.Reads as is-refused-reads

@@ -1,10 +1,10 @@
 -- `zero` meets its contract. The invariant: the first i places are 0, and the rest is as it came.
 -- Assumes nothing.
-use mathlib.Core.Path.{_≡_, ap, _∙_, sym}
+use mathlib.Core.Path.{_≡_, _∙_}
 use mathlib.Core.List.{_++_}
 use Prim.Native.Nat.{_≤_, _-_, _+_}
 use native.Mathlib.Omega.{arith}
-use lib.ListN.{length, replicate, drop, length-append, length-drop, length-replicate, drop-of-length-le, length-set}
+use lib.ListN.{length, replicate, drop, length-set}
 use borrow.Author.Needs.{needs}
 use borrow.Author.Fill.{fill-more}
 use Rattle.hf_pass.specs.Lists.{zeros-all}

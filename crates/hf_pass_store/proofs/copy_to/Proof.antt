@@ -2,14 +2,11 @@ use Rattle.hf_pass_store.specs.Naturals.{copy-turn, copy-start}
 use lib.Seq.{paste}
 use borrow.Author.Needs.{needs}
 use native.Mathlib.Omega.{arith}
-use mathlib.Core.Path.{_≡_, _∙_, ap, sym}
-use mathlib.Core.List.{_++_}
-use Prim.Native.Nat.{ℕ, _≤_, _<_, _-_, _+_, _*_}
-use lib.ListN.{length, getD, take, drop, set, length-set}
+use mathlib.Core.Path.{_≡_, _∙_, ap}
+use Prim.Native.Nat.{ℕ, _≤_, _-_}
+use lib.ListN.{length}
 use Rattle.hf_pass_store.proofs.copy_to.Statement.{statement}
 use Rattle.hf_pass_store.proofs.copy_to.Tie as tie
-use Rattle.hf_pass_store.proofs.copy_to.Reads as reads
-use Rattle.hf_pass_store.proofs.copy_to.Lts as lts
 
 abbrev Inv-loop : tie.InvT-loop
 Inv-loop list₀ to n j₀ list j = (j ≤ n) × (length list ≡ length list₀) × (list ≡ paste list₀ to list₀ j)

@@ -8,14 +8,11 @@ use Rattle.dct_select.specs.BlockSizes.{BLOCK-SIZES}
 use lib.Seq.{sets}
 use borrow.Author.Needs.{needs}
 use native.Mathlib.Omega.{arith}
-use mathlib.Core.Path.{_≡_, _∙_, ap, sym}
-use mathlib.Core.List.{_++_}
-use Prim.Native.Nat.{ℕ, _≤_, _<_, _-_, _+_, _*_}
-use lib.ListN.{length, getD, take, drop, set, length-set}
+use mathlib.Core.Path.{_≡_, _∙_, sym}
+use Prim.Native.Nat.{_≤_, _-_, _+_, _*_}
+use lib.ListN.{length, take, set}
 use Rattle.hf_pass_store.proofs.fill_natural_orders.Statement.{statement}
 use Rattle.hf_pass_store.proofs.fill_natural_orders.Tie as tie
-use Rattle.hf_pass_store.proofs.fill_natural_orders.Reads as reads
-use Rattle.hf_pass_store.proofs.fill_natural_orders.Lts as lts
 use Rattle.dct_select.proofs.block_sizes.block_size.Reads as block-size-reads
 use Rattle.hf_pass_store.proofs.fill_order.Reads as fill-order-reads
 

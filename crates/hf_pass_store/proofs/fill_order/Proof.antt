@@ -2,15 +2,10 @@ use Rattle.hf_pass_store.specs.Naturals.{three-times}
 use borrow.Rule.Slice.PartMut.{putMid}
 use mathlib.Core.Path.{refl}
 use borrow.Author.Needs.{needs}
-use native.Mathlib.Omega.{arith}
-use mathlib.Core.Path.{_≡_, _∙_, ap, sym}
-use mathlib.Core.List.{_++_}
-use Prim.Native.Nat.{ℕ, _≤_, _<_, _-_, _+_, _*_}
-use lib.ListN.{length, getD, take, drop, set, length-set}
+use Prim.Native.Nat.{_-_}
+use lib.ListN.{length}
 use Rattle.hf_pass_store.proofs.fill_order.Statement.{statement}
 use Rattle.hf_pass_store.proofs.fill_order.Tie as tie
-use Rattle.hf_pass_store.proofs.fill_order.Reads as reads
-use Rattle.hf_pass_store.proofs.fill_order.Lts as lts
 use Rattle.hf_pass_store.proofs.copy_to.Reads as copy-to-reads
 use Rattle.natural_order.proofs.fill_natural_order.Reads as fill-natural-order-reads
 

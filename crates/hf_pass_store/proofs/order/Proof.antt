@@ -1,14 +1,9 @@
 use Rattle.hf_pass_store.specs.LookedUp.{ends-inside, handed-back}
 use borrow.Author.Needs.{needs}
 use native.Mathlib.Omega.{arith}
-use mathlib.Core.Path.{_≡_, _∙_, ap, sym}
-use mathlib.Core.List.{_++_}
-use Prim.Native.Nat.{ℕ, _≤_, _<_, _-_, _+_, _*_}
-use lib.ListN.{length, getD, take, drop, set, length-set}
+use Prim.Native.Nat.{_-_}
 use Rattle.hf_pass_store.proofs.order.Statement.{statement}
 use Rattle.hf_pass_store.proofs.order.Tie as tie
-use Rattle.hf_pass_store.proofs.order.Reads as reads
-use Rattle.hf_pass_store.proofs.order.Lts as lts
 use Rattle.hf_pass_store.proofs.stretch_of.Reads as stretch-of-reads
 
 stretch-of-requires : tie.Need-stretch-of-requires

@@ -1,14 +1,9 @@
 use Rattle.hf_pass_store.specs.LookedUp.{starts, starts-at}
 use borrow.Author.Needs.{needs}
 use native.Mathlib.Omega.{arith}
-use mathlib.Core.Path.{_≡_, _∙_, ap, sym}
-use mathlib.Core.List.{_++_}
-use Prim.Native.Nat.{ℕ, _≤_, _<_, _-_, _+_, _*_}
-use lib.ListN.{length, getD, take, drop, set, length-set}
+use Prim.Native.Nat.{_-_}
 use Rattle.hf_pass_store.proofs.start_of.Statement.{statement}
 use Rattle.hf_pass_store.proofs.start_of.Tie as tie
-use Rattle.hf_pass_store.proofs.start_of.Reads as reads
-use Rattle.hf_pass_store.proofs.start_of.Lts as lts
 
 mul-result : tie.Need-mul-result
 mul-result c = search needs

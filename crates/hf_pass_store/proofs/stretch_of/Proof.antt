@@ -2,14 +2,10 @@ use Rattle.hf_pass_store.specs.LookedUp.{stretch-order, stretch-channel,
 use Rattle.natural_order.specs.Filling.{sided}
 use borrow.Author.Needs.{needs}
 use native.Mathlib.Omega.{arith}
-use mathlib.Core.Path.{_≡_, _∙_, ap, sym}
-use mathlib.Core.List.{_++_}
-use Prim.Native.Nat.{ℕ, _≤_, _<_, _-_, _+_, _*_}
-use lib.ListN.{length, getD, take, drop, set, length-set}
+use Prim.Native.Nat.{_-_}
+use lib.ListN.{length, take}
 use Rattle.hf_pass_store.proofs.stretch_of.Statement.{statement}
 use Rattle.hf_pass_store.proofs.stretch_of.Tie as tie
-use Rattle.hf_pass_store.proofs.stretch_of.Reads as reads
-use Rattle.hf_pass_store.proofs.stretch_of.Lts as lts
 use Rattle.dct_select.proofs.block_sizes.block_size.Reads as block-size-reads
 use Rattle.hf_pass_store.proofs.start_of.Reads as start-of-reads
 
