@@ -17,7 +17,7 @@ use Rattle.layout.specs.Walk.{cells, rows}
 use Rattle.layout.specs.Grid.{paint}
 use Rattle.layout.specs.Check.{clear, fitting, visitCell, checkRun}
 use Rattle.layout.specs.Varblocks.{cornersRow, cornersFrom}
-use Rattle.block_record.specs.Calls.{inLimits}
+use Rattle.block_check.specs.Calls.{inLimits}
 use Rattle.block_context.specs.Record.{fit, fitOf, bsizeOf}
 use Rattle.block_context.specs.Contexts.{sizeOf, above, lfIndexIn, placeOf}
 use Rattle.hf_block_context.specs.Call.{stored as contextsOf}
