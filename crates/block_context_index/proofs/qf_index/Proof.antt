@@ -1,13 +1,13 @@
 use mathlib.Core.List.{List}
 use lib.Seq.{take-all}
-use Rattle.block_context.specs.Contexts.{above}
+use Rattle.block_context_index.specs.Contexts.{above}
 use borrow.Author.Needs.{needs}
 use native.Mathlib.Omega.{arith}
 use mathlib.Core.Path.{_∙_, ap}
 use Prim.Native.Nat.{ℕ, _-_}
 use lib.ListN.{getD, take}
-use Rattle.block_context.proofs.index.qf_index.Statement.{statement}
-use Rattle.block_context.proofs.index.qf_index.Tie as tie
+use Rattle.block_context_index.proofs.qf_index.Statement.{statement}
+use Rattle.block_context_index.proofs.qf_index.Tie as tie
 
 array-read-count-above : tie.Need-array-read-count-above
 array-read-count-above c = search needs

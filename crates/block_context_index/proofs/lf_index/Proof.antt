@@ -1,10 +1,10 @@
-use Rattle.block_context.specs.Laws.{digits-le, lf-index-is}
+use Rattle.block_context_index.specs.Laws.{digits-le, lf-index-is}
 use borrow.Author.Needs.{needs}
 use native.Mathlib.Omega.{arith}
 use Prim.Native.Nat.{_-_, _+_}
 use lib.ListN.{getD}
-use Rattle.block_context.proofs.index.lf_index.Statement.{statement}
-use Rattle.block_context.proofs.index.lf_index.Tie as tie
+use Rattle.block_context_index.proofs.lf_index.Statement.{statement}
+use Rattle.block_context_index.proofs.lf_index.Tie as tie
 
 array-read-count-above : tie.Need-array-read-count-above
 array-read-count-above c = search needs

@@ -2,8 +2,8 @@ use mathlib.Core.Bool.{true}
 use borrow.Author.Needs.{needs}
 use mathlib.Core.Path.{_≡_, _∙_}
 use Prim.Native.Nat.{_-_}
-use Rattle.block_context.proofs.index.lf_index_of.Statement.{statement}
-use Rattle.block_context.proofs.index.lf_index_of.Tie as tie
+use Rattle.block_context_index.proofs.lf_index_of.Statement.{statement}
+use Rattle.block_context_index.proofs.lf_index_of.Tie as tie
 
 lf-index-requires : tie.Need-lf-index-requires
 lf-index-requires c κs = search needs

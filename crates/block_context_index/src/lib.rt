@@ -1,12 +1,12 @@
 // The block contexts of a varblock (`write_hf_coeff` of `hf_coeff.rs`).
-use super::sizes::lf_size;
-use super::sizes::used;
+use block_context::sizes::lf_size;
+use block_context::sizes::used;
 ghost use mathlib.Core.Path.{_≡_};
 ghost use mathlib.Core.Bool.{cond};
 ghost use Prim.Native.Nat.{min, _+_, _*_, _≤_, _<_};
 ghost use lib.ListN.{length, take, drop, getD};
-ghost use Rattle.block_context.specs.Contexts.{sizeOf, above, greater, lfIndexIn, placeOf, blockContexts};
-ghost use Rattle.block_context.specs.Record.{lfList, lists};
+ghost use Rattle.block_context_index.specs.Contexts.{sizeOf, above, greater, lfIndexIn, placeOf, blockContexts};
+ghost use Rattle.block_context_index.specs.Lists.{lfList, lists};
 
 // 1 if a > b as signed numbers.
 fn one_if_greater(a: u32, b: u32) -> usize

@@ -1,12 +1,12 @@
 use lib.ListN.{List·getD-eq-default}
-use Rattle.block_context.specs.Contexts.{placeOf}
-use Rattle.block_context.specs.Laws.{place-le, place-ge}
+use Rattle.block_context_index.specs.Contexts.{placeOf}
+use Rattle.block_context_index.specs.Laws.{place-le, place-ge}
 use borrow.Author.Needs.{needs}
 use native.Mathlib.Omega.{arith}
 use mathlib.Core.Path.{sym}
 use Prim.Native.Nat.{_-_, _+_, _*_}
-use Rattle.block_context.proofs.index.context_at.Statement.{statement}
-use Rattle.block_context.proofs.index.context_at.Tie as tie
+use Rattle.block_context_index.proofs.context_at.Statement.{statement}
+use Rattle.block_context_index.proofs.context_at.Tie as tie
 
 returns : tie.Need-returns
 returns c =

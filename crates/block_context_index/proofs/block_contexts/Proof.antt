@@ -1,12 +1,12 @@
 use lib.ListN.{length-take, getD}
-use Rattle.block_context.specs.Record.{lists}
-use Rattle.block_context.specs.Laws.{lf-size-is, contexts-are}
+use Rattle.block_context_index.specs.Lists.{lists}
+use Rattle.block_context_index.specs.Laws.{lf-size-is, contexts-are}
 use borrow.Author.Needs.{needs}
 use native.Mathlib.Omega.{arith}
 use mathlib.Core.Path.{_∙_, sym}
 use Prim.Native.Nat.{_-_, _+_}
-use Rattle.block_context.proofs.index.block_contexts.Statement.{statement}
-use Rattle.block_context.proofs.index.block_contexts.Tie as tie
+use Rattle.block_context_index.proofs.block_contexts.Statement.{statement}
+use Rattle.block_context_index.proofs.block_contexts.Tie as tie
 
 qf-index-requires : tie.Need-qf-index-requires
 qf-index-requires c κs = search needs

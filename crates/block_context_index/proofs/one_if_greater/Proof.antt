@@ -2,8 +2,8 @@ use borrow.Author.Tests.{lt-ltb, le-ltb}
 use Prim.Native.Nat.{_%_, _^_, _-_, _+_}
 use borrow.Author.Needs.{needs}
 use native.Mathlib.Omega.{arith}
-use Rattle.block_context.proofs.index.one_if_greater.Statement.{statement}
-use Rattle.block_context.proofs.index.one_if_greater.Tie as tie
+use Rattle.block_context_index.proofs.one_if_greater.Statement.{statement}
+use Rattle.block_context_index.proofs.one_if_greater.Tie as tie
 
 wrapping-add-u32-requires : tie.Need-wrapping-add-u32-requires
 wrapping-add-u32-requires c κs = search needs
