@@ -2,13 +2,13 @@ use Prim.Native.Nat.{min, ℕ, _-_, _+_}
 use Rattle.bits.specs.Bits.{readBits}
 use Rattle.bits.specs.Reads.{passed, gotOf}
 use Rattle.bits.specs.Laws.{ended-at}
-use Rattle.hf_block_context.specs.declared.thresholds.Step.the-variants as step
-use Rattle.hf_block_context.specs.StepLaws.{field-value, field-end}
+use Rattle.thresholds.specs.declared.Step.the-variants as step
+use Rattle.thresholds.specs.StepLaws.{field-value, field-end}
 use borrow.Author.Needs.{needs}
 use native.Mathlib.Omega.{arith}
 use mathlib.Core.Path.{_≡_, _∙_, ap, sym}
-use Rattle.hf_block_context.proofs.thresholds.field.Statement.{statement}
-use Rattle.hf_block_context.proofs.thresholds.field.Tie as tie
+use Rattle.thresholds.proofs.field.Statement.{statement}
+use Rattle.thresholds.proofs.field.Tie as tie
 
 read-bits-requires : tie.Need-read-bits-requires
 read-bits-requires c κs = search needs

@@ -6,8 +6,8 @@ ghost use mathlib.Core.Path.{_≡_};
 ghost use Prim.Native.Nat.{_≤_, _<_};
 ghost use Rattle.bits.specs.Bits.{readBits};
 ghost use Rattle.bits.specs.Reads.{passed};
-ghost use Rattle.hf_block_context.specs.Reading.{lfValue, qfValue, readValues, readList};
-ghost use Rattle.hf_block_context.specs.Steps.{readValue, stepOf, thresholdsOf};
+ghost use Rattle.thresholds.specs.Reading.{lfValue, qfValue, readValues, readList};
+ghost use Rattle.thresholds.specs.Steps.{readValue, stepOf, thresholdsOf};
 
 pub enum Kind {
     Lf,

@@ -9,12 +9,12 @@ use Rattle.bits.specs.Bits.{Read, Value, Ended, readBits}
 use Rattle.bits.specs.Reads.{passed}
 use Rattle.bits.specs.Numbers.{Bytes}
 use Rattle.bits.specs.Laws.{passed-at, value-at}
-use Rattle.hf_block_context.specs.declared.thresholds.Step.the-variants as step
-use Rattle.hf_block_context.specs.declared.thresholds.ListStep.the-variants as listStep
-use Rattle.hf_block_context.specs.Reading.{Reading, Is, Short, readValues, readList}
-use Rattle.hf_block_context.specs.Reads.{field-lt}
-use Rattle.hf_block_context.specs.Steps.{stepOf, thresholdsOf}
-use Rattle.hf_block_context.specs.StepLaws.{stepped, ended}
+use Rattle.thresholds.specs.declared.Step.the-variants as step
+use Rattle.thresholds.specs.declared.ListStep.the-variants as listStep
+use Rattle.thresholds.specs.Reading.{Reading, Is, Short, readValues, readList}
+use Rattle.thresholds.specs.Reads.{field-lt}
+use Rattle.thresholds.specs.Steps.{stepOf, thresholdsOf}
+use Rattle.thresholds.specs.StepLaws.{stepped, ended}
 
 module _ (s : List ℕ) (value : ℕ → Read) (p : ℕ) where
   pub list-short : (at : ℕ) → stepOf (readBits s p 4) ≡ step.End at

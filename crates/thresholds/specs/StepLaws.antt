@@ -8,11 +8,11 @@ use Rattle.bits.specs.declared.Got.the-variants as got
 use Rattle.bits.specs.Bits.{Read, Value, Ended, then}
 use Rattle.bits.specs.Reads.{placeAt, gotOf}
 use Rattle.bits.specs.Laws.{was-value, was-end}
-use Rattle.hf_block_context.specs.declared.thresholds.Step.the-variants as step
+use Rattle.thresholds.specs.declared.Step.the-variants as step
 use Rattle.bits.specs.Numbers.{Bytes}
-use Rattle.hf_block_context.specs.Reading.{qfU32}
-use Rattle.hf_block_context.specs.Reads.{qf-u32}
-use Rattle.hf_block_context.specs.Steps.{stepOf}
+use Rattle.thresholds.specs.Reading.{qfU32}
+use Rattle.thresholds.specs.Reads.{qf-u32}
+use Rattle.thresholds.specs.Steps.{stepOf}
 
 -- the number f u of a read's u
 abbrev pub by : (ℕ → ℕ) → Read → Read

@@ -1,13 +1,13 @@
 use Rattle.bits.specs.Reads.{passed}
-use Rattle.hf_block_context.specs.Steps.{readValue, thresholdsOf}
-use Rattle.hf_block_context.specs.ListLaws.{list-short, list-begins, list-length}
+use Rattle.thresholds.specs.Steps.{readValue, thresholdsOf}
+use Rattle.thresholds.specs.ListLaws.{list-short, list-begins, list-length}
 use borrow.Author.Needs.{needs}
 use native.Mathlib.Omega.{arith}
 use mathlib.Core.Path.{_∙_, ap, sym}
 use Prim.Native.Nat.{_-_}
 use lib.ListN.{length}
-use Rattle.hf_block_context.proofs.thresholds.read_list.Statement.{statement}
-use Rattle.hf_block_context.proofs.thresholds.read_list.Tie as tie
+use Rattle.thresholds.proofs.read_list.Statement.{statement}
+use Rattle.thresholds.proofs.read_list.Tie as tie
 
 field-requires : tie.Need-field-requires
 field-requires c κs = search needs

@@ -1,15 +1,15 @@
 use Rattle.bits.specs.Reads.{passed}
 use Rattle.bits.specs.Signed.{unpackSigned}
-use Rattle.hf_block_context.specs.declared.thresholds.Step.the-variants as step
-use Rattle.hf_block_context.specs.Reading.{lfU32, lfValue}
-use Rattle.hf_block_context.specs.Reads.{lf-u32}
-use Rattle.hf_block_context.specs.StepLaws.{step-value, step-end}
+use Rattle.thresholds.specs.declared.Step.the-variants as step
+use Rattle.thresholds.specs.Reading.{lfU32, lfValue}
+use Rattle.thresholds.specs.Reads.{lf-u32}
+use Rattle.thresholds.specs.StepLaws.{step-value, step-end}
 use borrow.Author.Needs.{needs}
 use native.Mathlib.Omega.{arith}
 use mathlib.Core.Path.{_≡_, _∙_, ap, sym}
 use Prim.Native.Nat.{ℕ, _-_, _+_}
-use Rattle.hf_block_context.proofs.thresholds.lf_value.Statement.{statement}
-use Rattle.hf_block_context.proofs.thresholds.lf_value.Tie as tie
+use Rattle.thresholds.proofs.lf_value.Statement.{statement}
+use Rattle.thresholds.proofs.lf_value.Tie as tie
 
 read-u32-requires : tie.Need-read-u32-requires
 read-u32-requires c κs = search needs

@@ -11,10 +11,10 @@ use Rattle.bits.specs.Bits.{Read, Value, Ended, then, Choice, Constant, Offset,
 use Rattle.bits.specs.Numbers.{Bytes, number}
 use Rattle.bits.specs.Laws.{value-at, ended-at, read-whole}
 use Rattle.bits.specs.Signed.{unpackSigned}
-use Rattle.hf_block_context.specs.declared.thresholds.Kind.{Kind}
-use Rattle.hf_block_context.specs.declared.thresholds.Kind.the-variants.{Lf, Qf}
-use Rattle.hf_block_context.specs.Reading.{lfU32, lfValue, qfU32, qfValue}
-use Rattle.hf_block_context.specs.Steps.{readValue}
+use Rattle.thresholds.specs.declared.Kind.{Kind}
+use Rattle.thresholds.specs.declared.Kind.the-variants.{Lf, Qf}
+use Rattle.thresholds.specs.Reading.{lfU32, lfValue, qfU32, qfValue}
+use Rattle.thresholds.specs.Steps.{readValue}
 
 -- a field is below its power of two
 pub field-lt : (s : List ℕ) (p n v at : ℕ) → Bytes s → readBits s p n ≡ Value v at → v < 2 ^ n

@@ -1,6 +1,7 @@
 -- What the bits of block contexts say (document 01, Block contexts; `HfBlockContext::parse` of `lf.rs`).
-use mathlib.Core.List.{List, [], _∷_}
-use Prim.Native.Nat.{ℕ, zero, suc, _+_}
+use mathlib.Core.List.{List, [], _∷_, _++_}
+use Prim.Native.Nat.{ℕ, zero, suc, _+_, _-_}
+use lib.ListN.{length, replicate}
 use Rattle.bits.specs.Bits.{Read, Value, Ended, then, Offset, readBits, readU32}
 use Rattle.bits.specs.Signed.{unpackSigned}
 
@@ -62,3 +63,7 @@ readLists s p =
     andThen (readList s (lfValue s) at0) (λ b at1.
     andThen (readList s (lfValue s) at1) (λ c at2.
     andThen (readList s (qfValue s) at2) (λ d at3. Is (listsOf a b c d) at3))))
+
+-- a list in n places, unused places 0
+abbrev pub pad : ℕ → List ℕ → List ℕ
+pad n l = l ++ replicate (n - length l) 0

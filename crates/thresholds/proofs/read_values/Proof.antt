@@ -1,15 +1,15 @@
 use Rattle.bits.specs.Reads.{passed}
 use Rattle.bits.specs.Laws.{at-passed, passed-at}
-use Rattle.hf_block_context.specs.Reads.{value-near}
-use Rattle.hf_block_context.specs.Steps.{readValue}
-use Rattle.hf_block_context.specs.StepLaws.{stepped, ended}
-use Rattle.hf_block_context.specs.Halfway.{Half, half-start, half-step, half-short, half-done}
+use Rattle.thresholds.specs.Reads.{value-near}
+use Rattle.thresholds.specs.Steps.{readValue}
+use Rattle.thresholds.specs.StepLaws.{stepped, ended}
+use Rattle.thresholds.specs.Halfway.{Half, half-start, half-step, half-short, half-done}
 use borrow.Author.Needs.{needs}
 use native.Mathlib.Omega.{arith}
 use mathlib.Core.Path.{_∙_, ap, sym}
 use Prim.Native.Nat.{_≤_, _-_}
-use Rattle.hf_block_context.proofs.thresholds.read_values.Statement.{statement}
-use Rattle.hf_block_context.proofs.thresholds.read_values.Tie as tie
+use Rattle.thresholds.proofs.read_values.Statement.{statement}
+use Rattle.thresholds.proofs.read_values.Tie as tie
 
 abbrev Inv-loop : tie.InvT-loop
 Inv-loop bytes kind n end values₀ p₀ k₀ values p k = (k ≤ n) × Half (readValue kind bytes) n (passed p₀) values p k

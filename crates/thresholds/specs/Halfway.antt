@@ -8,10 +8,9 @@ use lib.Seq.{set-at}
 use Rattle.bits.specs.declared.Place.{Place}
 use Rattle.bits.specs.Bits.{Read, Value, Ended}
 use Rattle.bits.specs.Reads.{placeAt}
-use Rattle.hf_block_context.specs.declared.thresholds.ListStep.the-variants as listStep
-use Rattle.hf_block_context.specs.Reading.{Reading, Is, Short, prepend, readValues}
-use Rattle.hf_block_context.specs.Call.{pad}
-use Rattle.hf_block_context.specs.Steps.{thresholdsOf}
+use Rattle.thresholds.specs.declared.ListStep.the-variants as listStep
+use Rattle.thresholds.specs.Reading.{Reading, Is, Short, prepend, readValues, pad}
+use Rattle.thresholds.specs.Steps.{thresholdsOf}
 
 -- values read before the others
 abbrev pub prefix : List ℕ → Reading (List ℕ) → Reading (List ℕ)

@@ -4,14 +4,13 @@ use Prim.Native.Nat.{ℕ}
 use lib.ListN.{length, replicate}
 use Rattle.bits.specs.Bits.{Read, Value, Ended}
 use Rattle.bits.specs.Reads.{placeAt}
-use Rattle.hf_block_context.specs.declared.thresholds.Kind.{Kind}
-use Rattle.hf_block_context.specs.declared.thresholds.Kind.the-variants.{Lf, Qf}
-use Rattle.hf_block_context.specs.declared.thresholds.Step.{Step}
-use Rattle.hf_block_context.specs.declared.thresholds.Step.the-variants as step
-use Rattle.hf_block_context.specs.declared.thresholds.ListStep.the-variants as listStep
-use Rattle.hf_block_context.specs.declared.thresholds.Thresholds.{Thresholds}
-use Rattle.hf_block_context.specs.Reading.{Reading, Is, Short, lfValue, qfValue}
-use Rattle.hf_block_context.specs.Call.{pad}
+use Rattle.thresholds.specs.declared.Kind.{Kind}
+use Rattle.thresholds.specs.declared.Kind.the-variants.{Lf, Qf}
+use Rattle.thresholds.specs.declared.Step.{Step}
+use Rattle.thresholds.specs.declared.Step.the-variants as step
+use Rattle.thresholds.specs.declared.ListStep.the-variants as listStep
+use Rattle.thresholds.specs.declared.Thresholds.{Thresholds}
+use Rattle.thresholds.specs.Reading.{Reading, Is, Short, lfValue, qfValue, pad}
 
 abbrev pub readValue : Kind → List ℕ → ℕ → Read
 readValue Lf = lfValue
