@@ -1,5 +1,4 @@
--- what a block context is, the lent record, and laws on both
-pub mod Contexts
+-- the lent record, when it is fit, and laws on that
 pub mod Record
 pub mod Every
 pub mod Largest

@@ -1,8 +1,6 @@
-// Block contexts: the record, its limits, and the block contexts of a varblock (`HfBlockContext` of
-// `lf.rs`).
+// Block contexts: the record and its limits (`HfBlockContext` of `lf.rs`).
 pub mod fit;
-pub mod index;
-mod sizes;
+pub mod sizes;
 
 // Signed numbers are 32-bit patterns. Places behind a list's length are not looked at.
 pub struct HfBlockContext {

@@ -1,5 +1,5 @@
 -- The ends of the cut's checks, and its copying loops.
-use mathlib.Core.Path.{_≡_, refl, sym, _∙_, ap}
+use mathlib.Core.Path.{_≡_, sym, _∙_, ap}
 use mathlib.Core.Bool.{true, false}
 use mathlib.Core.List.{List}
 use Prim.Native.Nat.{ℕ, _+_, _-_, _*_, _≤_, _<_}
@@ -8,16 +8,17 @@ use native.Mathlib.Omega.{arith}
 use lib.ListN.{length, set}
 use Rattle.refusal.specs.declared.Said.{Said}
 use Rattle.refusal.specs.Said.{at}
-use Rattle.layout.specs.Walk.{cells, rows, walk}
+use Rattle.layout.specs.Walk.{cells, rows}
 use Rattle.layout.specs.WalkSteps.{cells-step, cells-end, rows-step, rows-end, rows-start}
 use Rattle.layout.specs.Grid.{gridOf, at as cellAt}
 use Rattle.layout.specs.Fill.{write, written}
 use Rattle.layout.specs.Check.{isLayout}
 use Rattle.layout.specs.Cut.{groupX, groupY, hasGroup, groupWide, groupHigh, cut}
 use Rattle.layout.specs.CutLaws.{starts-x, starts-y}
-use Rattle.block_record.specs.Calls.{Answer, gives, refuses, inLimits, lengthsFit, group, Outcome, outcome, cutCheck, cutOf}
-use Rattle.block_record.specs.Laws.{pass, in-limits, lengths-fit}
-use Rattle.block_record.specs.declared.Group.{Group}
+use Rattle.block_check.specs.Calls.{gives, refuses, inLimits, lengthsFit}
+use Rattle.block_record.specs.Calls.{group, outcome, cutCheck, cutOf}
+use Rattle.block_check.specs.Laws.{pass, in-limits, lengths-fit}
+use Rattle.block_check.specs.declared.Group.{Group}
 
 module _ (bw bh : ℕ) (kinds muls : List ℕ) (g ok om : ℕ) where
   pub cut-size : inLimits 256 bw bh ≡ false → cutCheck bw bh kinds muls g ok om ≡ refuses (at 2 0 0)

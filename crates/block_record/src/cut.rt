@@ -1,9 +1,9 @@
 // The cut of a lent layout into pass groups, counted row by row from 0.
-use crate::Checked;
-use crate::Group;
-use crate::check::in_limits;
-use crate::check::is_layout;
-use crate::check::lengths_fit;
+use block_check::Checked;
+use block_check::Group;
+use block_check::check::in_limits;
+use block_check::check::is_layout;
+use block_check::check::lengths_fit;
 use refusal::Refusal;
 ghost use mathlib.Core.Path.{_≡_};
 ghost use mathlib.Core.Bool.{true};
@@ -11,7 +11,8 @@ ghost use Prim.Native.Nat.{_+_, _*_, _≤_, _<_};
 ghost use lib.ListN.{length};
 ghost use Rattle.layout.specs.Grid.{at, gridOf};
 ghost use Rattle.layout.specs.Cut.{groups, groupX, groupY, hasGroup, side, groupWide, groupHigh};
-ghost use Rattle.block_record.specs.Calls.{saidCheck, saidCut, group, outcome, inLimits, cutCheck, cutOf};
+ghost use Rattle.block_check.specs.Calls.{saidCheck, inLimits};
+ghost use Rattle.block_record.specs.Calls.{saidCut, group, outcome, cutCheck, cutOf};
 
 // What the cut answers: the sides of the group.
 pub enum CutAnswer {

@@ -18,10 +18,10 @@ use Rattle.block_context.specs.Record.{bsizeOf, qfFit, bytesBelow, fitOf, fit}
 use Rattle.block_context.specs.Bounds.{fit-last}
 use Rattle.hf_block_context.specs.declared.ContextResult.{ContextResult}
 use Rattle.hf_block_context.specs.declared.ContextAnswer.the-variants.{Accepted}
-use Rattle.hf_block_context.specs.Reading.{Reading, Is, Short, andThen, reading, prepend, Lists, listsOf, lfValue, qfValue, readValues, readList, readLists}
-use Rattle.hf_block_context.specs.Call.{pad, lengthsOf, stored, noLists, DEFAULT-MAP, accepted, refused, unless, judged, judgedLists, orEnded, byFirst, parsed}
-use Rattle.hf_block_context.specs.Reads.{lf-near, qf-near, qf-some}
-use Rattle.hf_block_context.specs.ListLaws.{list-near}
+use Rattle.thresholds.specs.Reading.{Reading, Is, Short, andThen, reading, prepend, Lists, listsOf, lfValue, qfValue, readValues, readList, readLists, pad}
+use Rattle.hf_block_context.specs.Call.{lengthsOf, stored, noLists, DEFAULT-MAP, accepted, refused, unless, judged, judgedLists, orEnded, byFirst, parsed}
+use Rattle.thresholds.specs.Reads.{lf-near, qf-near, qf-some}
+use Rattle.thresholds.specs.ListLaws.{list-near}
 
 -- What was read one after the other.
 record Through {A B : Type 0} (r : Reading A) (k : A → ℕ → Reading B) (b : B) (at : ℕ) : Type 0 where

@@ -1,9 +1,9 @@
 -- The context call (document 01, Block contexts and Refused).
 use mathlib.Core.Bool.{Bool, cond}
 use mathlib.Core.List.{List, [], _∷_, _++_}
-use Prim.Native.Nat.{ℕ, _*_, _-_}
+use Prim.Native.Nat.{ℕ, _*_}
 use lib.Dec.{eqb, leb}
-use lib.ListN.{length, replicate}
+use lib.ListN.{length}
 use Rattle.refusal.specs.declared.Refusal.{Refusal}
 use Rattle.refusal.specs.declared.Refusal.the-variants.{Length, BitsEnd, Context}
 use Rattle.bits.specs.Bits.{readBits}
@@ -11,11 +11,7 @@ use Rattle.block_context.specs.declared.HfBlockContext.{HfBlockContext}
 use Rattle.block_context.specs.Record.{bsizeOf, bytesBelow}
 use Rattle.hf_block_context.specs.declared.ContextAnswer.the-variants.{Accepted, Refused}
 use Rattle.hf_block_context.specs.declared.ContextResult.{ContextResult}
-use Rattle.hf_block_context.specs.Reading.{Reading, Is, Short, reading, Lists, listsOf, readLists}
-
--- a list in n places, unused places 0
-abbrev pub pad : ℕ → List ℕ → List ℕ
-pad n l = l ++ replicate (n - length l) 0
+use Rattle.thresholds.specs.Reading.{Reading, Is, Short, reading, Lists, listsOf, readLists, pad}
 
 abbrev pub lengthsOf : Lists → List ℕ
 lengthsOf l = length (l .lf0) ∷ length (l .lf1) ∷ length (l .lf2) ∷ length (l .qf) ∷ []

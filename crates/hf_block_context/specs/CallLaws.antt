@@ -15,12 +15,12 @@ use Rattle.bits.specs.Laws.{passed-at}
 use Rattle.block_context.specs.declared.HfBlockContext.{HfBlockContext}
 use Rattle.block_context.specs.Record.{bsizeOf, bytesBelow}
 use Rattle.hf_block_context.specs.declared.ContextResult.{ContextResult}
-use Rattle.hf_block_context.specs.declared.thresholds.ListStep.the-variants as listStep
-use Rattle.hf_block_context.specs.declared.thresholds.Thresholds.{Thresholds}
-use Rattle.hf_block_context.specs.Reading.{Reading, Is, Short, reading, Lists, listsOf, lfValue, qfValue, readList, readLists}
-use Rattle.hf_block_context.specs.Call.{pad, recordOf, stored, accepted, refused, judged, judgedLists, orEnded, noLists, DEFAULT-MAP, parsed}
-use Rattle.hf_block_context.specs.Steps.{thresholdsOf}
-use Rattle.hf_block_context.specs.ListLaws.{list-near}
+use Rattle.thresholds.specs.declared.ListStep.the-variants as listStep
+use Rattle.thresholds.specs.declared.Thresholds.{Thresholds}
+use Rattle.thresholds.specs.Reading.{Reading, Is, Short, reading, Lists, listsOf, lfValue, qfValue, readList, readLists, pad}
+use Rattle.hf_block_context.specs.Call.{recordOf, stored, accepted, refused, judged, judgedLists, orEnded, noLists, DEFAULT-MAP, parsed}
+use Rattle.thresholds.specs.Steps.{thresholdsOf}
+use Rattle.thresholds.specs.ListLaws.{list-near}
 
 -- The tests behind the bits.
 module _ (count : ℕ) (map lengths : List ℕ) (R : HfBlockContext) (at : ℕ) where

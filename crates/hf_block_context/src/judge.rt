@@ -9,7 +9,8 @@ use refusal::Refusal;
 ghost use mathlib.Core.Path.{_≡_};
 ghost use Prim.Native.Nat.{_≤_};
 ghost use lib.ListN.{getD};
-ghost use Rattle.hf_block_context.specs.Call.{pad, recordOf, refused, judged, accepted, stored, noLists, DEFAULT-MAP};
+ghost use Rattle.thresholds.specs.Reading.{pad};
+ghost use Rattle.hf_block_context.specs.Call.{recordOf, refused, judged, accepted, stored, noLists, DEFAULT-MAP};
 
 // The map where the first bit is 1.
 const DEFAULT_MAP: [u8; 39] = [

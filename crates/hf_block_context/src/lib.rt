@@ -1,7 +1,6 @@
 // The context call (`HfBlockContext::parse` of `lf.rs`).
 mod judge;
 mod record;
-mod thresholds;
 
 use bits::Place;
 use block_context::HfBlockContext;
@@ -18,7 +17,7 @@ use thresholds::read_list;
 ghost use mathlib.Core.Path.{_≡_};
 ghost use Prim.Native.Nat.{_≤_, _<_};
 ghost use Rattle.bits.specs.Reads.{passed};
-ghost use Rattle.hf_block_context.specs.Reading.{readLists};
+ghost use Rattle.thresholds.specs.Reading.{readLists};
 ghost use Rattle.hf_block_context.specs.Call.{judgedLists, orEnded, parsed};
 
 // Accepted: the bits read.

@@ -4,7 +4,7 @@ ghost use mathlib.Core.List.{_++_};
 ghost use Prim.Native.Nat.{_+_, _≤_};
 ghost use lib.ListN.{length};
 ghost use lib.Seq.{paste};
-ghost use Rattle.hf_block_context.specs.Call.{pad};
+ghost use Rattle.thresholds.specs.Reading.{pad};
 
 // The map, and 0 behind it.
 pub fn padded(map: &[u8]) -> [u8; 2496]

@@ -9,7 +9,7 @@ use Rattle.refusal.specs.declared.Refusal.the-variants.{Size, Parameter, Contex
 use Rattle.bits.specs.Bits.{Read, Value, Ended, readBits}
 use Rattle.bits.specs.Exponent.{exponent}
 use Rattle.layout.specs.Check.{isLayout}
-use Rattle.block_record.specs.Calls.{inLimits}
+use Rattle.block_check.specs.Calls.{inLimits}
 use Rattle.hf_pass_store.specs.Store.{PLACES, placesFit}
 use Rattle.block_context.specs.declared.HfBlockContext.{HfBlockContext}
 use Rattle.block_context.specs.Record.{fit}

@@ -20,10 +20,10 @@ use Rattle.bits.specs.Laws.{was-value, was-end, value-at, ended-at}
 use Rattle.bits.specs.Exponent.{exponent, exponent-least}
 use Rattle.layout.specs.Check.{isLayout}
 use Rattle.layout.specs.Theorems.{layout-iff}
-use Rattle.block_record.specs.declared.Checked.{Checked}
-use Rattle.block_record.specs.declared.Checked.the-variants as checked
-use Rattle.block_record.specs.Calls.{Answer, gives, refuses, inLimits, lengthsFit as cellsFit, saidCheck, checkOf}
-use Rattle.block_record.specs.Laws.{check-fault, check-fine}
+use Rattle.block_check.specs.declared.Checked.{Checked}
+use Rattle.block_check.specs.declared.Checked.the-variants as checked
+use Rattle.block_check.specs.Calls.{Answer, gives, refuses, inLimits, lengthsFit as cellsFit, saidCheck, checkOf}
+use Rattle.block_check.specs.Laws.{check-fault, check-fine}
 use Rattle.block_context.specs.declared.HfBlockContext.{HfBlockContext}
 use Rattle.block_context.specs.Record.{fit}
 use Rattle.block_context.specs.Bounds.{is-fit}

@@ -1,14 +1,14 @@
 // The checks before work.
-use block_record::Checked;
-use block_record::Group;
-use block_record::check::check_group;
+use block_check::Checked;
+use block_check::Group;
+use block_check::check::check_group;
 use hf_pass_store::NUMBERS;
 ghost use mathlib.Core.Path.{_≡_};
 ghost use mathlib.Core.Bool.{true};
 ghost use Prim.Native.Nat.{_*_, _≤_};
 ghost use lib.ListN.{length};
 ghost use Rattle.layout.specs.Check.{isLayout};
-ghost use Rattle.block_record.specs.Calls.{inLimits};
+ghost use Rattle.block_check.specs.Calls.{inLimits};
 ghost use Rattle.hf_coeff.specs.Call.{parametersFit};
 ghost use Rattle.hf_coeff.specs.CallSteps.{threeFit, lfLengthsFit, readFit, writtenFit};
 

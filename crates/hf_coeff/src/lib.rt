@@ -1,7 +1,7 @@
 // The coefficients of a pass group (`hf_coeff.rs`).
+use block_check::Group;
 use block_context::HfBlockContext;
 use block_context::fit::is_fit;
-use block_record::Group;
 use hf_coeff_group::group::read_group;
 use hf_coeff_walk::Walk;
 use hf_pass_store::places_fit;

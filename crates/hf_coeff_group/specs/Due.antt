@@ -22,8 +22,9 @@ use Rattle.layout.specs.Varblocks as layout
 use Rattle.layout.specs.Theorems.{layout-area}
 use Rattle.hf_pass_store.specs.Store.{PLACES, stretch, placesFit}
 use Rattle.block_context.specs.declared.HfBlockContext.{HfBlockContext}
-use Rattle.block_context.specs.Record.{fit, used}
-use Rattle.block_context.specs.Bounds.{context-lt}
+use Rattle.block_context.specs.Record.{fit}
+use Rattle.block_context_index.specs.Lists.{used}
+use Rattle.block_context_index.specs.Bounds.{context-lt}
 use Rattle.hf_coeff_walk.specs.declared.Walk.{Walk}
 use Rattle.hf_coeff_walk.specs.declared.Walk.the-variants.{Ended, Stopped}
 use Rattle.hf_coeff_walk.specs.Places.{across, down, cellOf, paired, placesOf}

@@ -8,8 +8,8 @@ use Rattle.layout.specs.Grid.{at}
 use Rattle.layout.specs.Varblocks.{Varblock, varblocksOf}
 use Rattle.hf_pass_store.specs.Store.{stretch}
 use Rattle.block_context.specs.declared.HfBlockContext.{HfBlockContext}
-use Rattle.block_context.specs.Record.{used}
-use Rattle.block_context.specs.Contexts.{blockContext}
+use Rattle.block_context_index.specs.Lists.{used}
+use Rattle.block_context_index.specs.Contexts.{blockContext}
 use Rattle.hf_coeff_walk.specs.Places.{paired, placesOf}
 use Rattle.hf_coeff_walk.specs.Item.{Item}
 

@@ -18,8 +18,8 @@ use Rattle.dct_select.specs.Transforms.{Row, row, TRANSFORMS, wide, high, order
 use Rattle.dct_select.specs.LookUp.{numberOf, known, lookUp}
 use Rattle.layout.specs.Grid.{at}
 use Rattle.hf_pass_store.specs.Store.{stretch}
-use Rattle.block_context.specs.Contexts.{blockContexts}
-use Rattle.block_context.specs.Record.{lists}
+use Rattle.block_context_index.specs.Contexts.{blockContexts}
+use Rattle.block_context_index.specs.Lists.{lists}
 use Rattle.hf_coeff_walk.specs.Item.{Item}
 use Rattle.hf_coeff_walk.specs.Items.{itemAt}
 use Rattle.hf_coeff_walk.specs.declared.item.Varblock.{Varblock}

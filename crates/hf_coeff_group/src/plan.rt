@@ -1,5 +1,5 @@
 // What of a varblock no symbol decides.
-use block_context::index::block_contexts;
+use block_context_index::block_contexts;
 use dct_select::Looked;
 use dct_select::TransformType;
 use hf_coeff_walk::item::Varblock;

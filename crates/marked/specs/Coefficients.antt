@@ -17,9 +17,9 @@ use Rattle.layout.specs.Walk.{cells, rows}
 use Rattle.layout.specs.Grid.{paint}
 use Rattle.layout.specs.Check.{clear, fitting, visitCell, checkRun}
 use Rattle.layout.specs.Varblocks.{cornersRow, cornersFrom}
-use Rattle.block_record.specs.Calls.{inLimits}
+use Rattle.block_check.specs.Calls.{inLimits}
 use Rattle.block_context.specs.Record.{fit, fitOf, bsizeOf}
-use Rattle.block_context.specs.Contexts.{sizeOf, above, lfIndexIn, placeOf}
+use Rattle.block_context_index.specs.Contexts.{sizeOf, above, lfIndexIn, placeOf}
 use Rattle.hf_block_context.specs.Call.{stored as contextsOf}
 use Rattle.hf_pass_store.specs.Store.{PLACES}
 use Rattle.hf_coeff_walk.specs.Walk.{walk, coeffContext, FREQ, NUM-NONZERO}

@@ -3,8 +3,9 @@ use mathlib.Core.Path.{_≡_}
 use mathlib.Core.Bool.{Bool, false}
 use mathlib.Core.List.{List}
 use Prim.Native.Nat.{ℕ}
-use Rattle.block_record.specs.declared.Group.{Group}
-use Rattle.block_record.specs.Calls.{Answer, gives, refuses, Outcome}
+use Rattle.block_check.specs.declared.Group.{Group}
+use Rattle.block_check.specs.Calls.{Answer, gives, refuses}
+use Rattle.block_record.specs.Calls.{Outcome}
 use Rattle.netbuff.specs.declared.record.CutFacts.{CutFacts}
 use Rattle.netbuff.specs.declared.record.LikeFacts.{LikeFacts}
 

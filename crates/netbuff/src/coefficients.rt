@@ -1,6 +1,6 @@
 // The coefficient call.
+use block_check::Group;
 use block_context::HfBlockContext;
-use block_record::Group;
 use hf_coeff::CoeffAnswer;
 ghost use mathlib.Core.Path.{_≡_};
 ghost use Rattle.hf_coeff.specs.Call.{passWith, lent, call};

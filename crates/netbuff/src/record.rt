@@ -1,9 +1,10 @@
 // Lent layouts: the cut and likeness.
 use block_record::cut::CutAnswer;
-use block_record::likeness::LikeAnswer;
+use likeness::LikeAnswer;
 ghost use mathlib.Core.Path.{_≡_};
 ghost use Rattle.layout.specs.Like.{lent};
-ghost use Rattle.block_record.specs.Calls.{outcome, cutOf, saidCut, saidLike, likeOf};
+ghost use Rattle.block_record.specs.Calls.{outcome, cutOf, saidCut};
+ghost use Rattle.likeness.specs.Calls.{saidLike, likeOf};
 ghost use Rattle.netbuff.specs.Record.{cutFacts, handedCut, CutLeaves, likeFacts, handedLike};
 
 // What a cut hands out.
@@ -118,7 +119,7 @@ pub extern "C" fn netbuff_alike(
     ensures { λ r. ⌜ likeFacts r (now (alike .exit)) (now (x .exit)) (now (y .exit))
         ≡ handedLike (likeOf (lent bw bh (now (kinds .entry)) (now («hf_mul» .entry))) (lent bw2 bh2 (now (kinds2 .entry)) (now («hf_mul2» .entry)))) ⌝ }
 {
-    let answer = block_record::likeness::alike(bw, bh, kinds, hf_mul, bw2, bh2, kinds2, hf_mul2);
+    let answer = likeness::alike(bw, bh, kinds, hf_mul, bw2, bh2, kinds2, hf_mul2);
     let found = like_facts(answer);
     *alike = found.alike;
     *x = found.x;

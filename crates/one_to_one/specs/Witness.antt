@@ -31,7 +31,7 @@ use Rattle.hf_coeff_walk.specs.Places.{paired, placesOf}
 use Rattle.hf_coeff_group.specs.Pass.{varblocks, itemOf, itemsOf}
 use Rattle.hf_coeff_group.specs.Group.{Grids}
 use Rattle.hf_coeff.specs.Call.{Lent, sidesFit, lengthsFit, readPreset}
-use Rattle.block_record.specs.Calls.{inLimits as inLimits32}
+use Rattle.block_check.specs.Calls.{inLimits as inLimits32}
 use Rattle.accepted_layout.specs.Theorems.{bwOf, bhOf}
 use Rattle.one_to_one.specs.Symbols.{symbol, pack}
 use Rattle.one_to_one.specs.Sequence.{differing, coeffs, sequence}

@@ -1,8 +1,8 @@
 // Call 5: the likeness of two layouts. Width and height of each; kinds and hf_mul of each.
 use crate::answer::refuse;
 use crate::lent::length;
-use block_record::likeness::LikeAnswer;
-use block_record::likeness::alike;
+use likeness::LikeAnswer;
+use likeness::alike;
 use recorded::list::bytes;
 use recorded::list::list;
 

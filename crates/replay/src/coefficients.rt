@@ -10,7 +10,7 @@ use crate::lent::fit_words;
 use crate::lent::length;
 use crate::record;
 use crate::store;
-use block_record::Group;
+use block_check::Group;
 use hf_coeff::CoeffAnswer;
 use hf_coeff::write_hf_coeff;
 use recorded::digest::of_bytes;

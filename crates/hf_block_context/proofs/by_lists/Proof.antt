@@ -1,9 +1,9 @@
 use Rattle.bits.specs.Numbers.{Bytes}
 use Rattle.bits.specs.Reads.{passed}
-use Rattle.hf_block_context.specs.Reading.{listsOf, lfValue, qfValue, readList, readLists}
+use Rattle.thresholds.specs.Reading.{listsOf, lfValue, qfValue, readList, readLists}
 use Rattle.hf_block_context.specs.Call.{judgedLists}
-use Rattle.hf_block_context.specs.Reads.{lf-near, qf-near}
-use Rattle.hf_block_context.specs.Steps.{thresholdsOf}
+use Rattle.thresholds.specs.Reads.{lf-near, qf-near}
+use Rattle.thresholds.specs.Steps.{thresholdsOf}
 use Rattle.hf_block_context.specs.CallLaws.{WasList, was-list, was-short, short0, short1, short2, short3, whole, judged-arrays, or-ended, or-judged}
 use borrow.Author.Needs.{needs}
 use native.Mathlib.Omega.{arith}

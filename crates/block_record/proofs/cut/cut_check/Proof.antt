@@ -2,9 +2,9 @@ use mathlib.Core.Path.{_≡_, _∙_, sym, ap}
 use lib.ListN.{length}
 use borrow.Author.Tests.{not-true, not-false}
 use Rattle.layout.specs.Cut.{groupWide, groupHigh}
-use Rattle.block_record.specs.declared.Group.{Group}
-use Rattle.block_record.specs.Calls.{lengthsFit}
-use Rattle.block_record.specs.Laws.{in-limits, lengths-fit}
+use Rattle.block_check.specs.declared.Group.{Group}
+use Rattle.block_check.specs.Calls.{lengthsFit}
+use Rattle.block_check.specs.Laws.{in-limits, lengths-fit}
 use Rattle.block_record.specs.CutSteps.{cut-size, cut-index, cut-lent, cut-buffers, cut-fault, cut-fine}
 use borrow.Author.Needs.{needs}
 use native.Mathlib.Omega.{arith}

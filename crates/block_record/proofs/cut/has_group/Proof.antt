@@ -1,4 +1,4 @@
-use Rattle.block_record.specs.Laws.{area}
+use Rattle.block_check.specs.Laws.{area}
 use borrow.Author.Needs.{needs}
 use native.Mathlib.Omega.{arith}
 use Rattle.block_record.proofs.cut.has_group.Statement.{statement}

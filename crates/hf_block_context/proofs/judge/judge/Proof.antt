@@ -1,7 +1,8 @@
 use mathlib.Core.List.{List}
 use borrow.Author.Tests.{not-true, not-false}
 use Rattle.block_context.specs.Laws.{capped}
-use Rattle.hf_block_context.specs.Call.{pad, recordOf, accepted}
+use Rattle.thresholds.specs.Reading.{pad}
+use Rattle.hf_block_context.specs.Call.{recordOf, accepted}
 use Rattle.hf_block_context.specs.CallLaws.{judged-size, judged-length, judged-none, judged-many, judged-bytes, judged-fit}
 use borrow.Author.Needs.{needs}
 use native.Mathlib.Omega.{arith}

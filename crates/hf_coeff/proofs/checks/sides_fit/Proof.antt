@@ -1,4 +1,4 @@
-use Rattle.block_record.specs.Calls.{inLimits}
+use Rattle.block_check.specs.Calls.{inLimits}
 use borrow.Author.Tests.{le-leb, lt-leb}
 use native.Mathlib.Omega.{arith}
 use Rattle.hf_coeff.proofs.checks.sides_fit.Statement.{statement}

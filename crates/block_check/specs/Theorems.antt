@@ -1,0 +1,47 @@
+-- What the check promises of layouts and groups (document 00, demand 3; document 01, Layout, "Added by us").
+use mathlib.Core.Path.{_≡_}
+use mathlib.Core.Bool.{true}
+use mathlib.Core.List.{List}
+use Prim.Native.Nat.{ℕ, _*_, _<_}
+use lib.ListN.{length}
+use borrow.Author.Tests.{le-leb, eq-eqb}
+use Rattle.layout.specs.Valid.{Covers, Layout}
+use Rattle.layout.specs.Grid.{at as cellAt}
+use Rattle.layout.specs.Check.{isLayout}
+use Rattle.layout.specs.Varblocks.{varblocksOf, area}
+use Rattle.layout.specs.Theorems.{layout-iff, disjoint, layout-area}
+use Rattle.block_check.specs.declared.Group.{Group}
+use Rattle.block_check.specs.Calls.{gives, inLimits, lengthsFit, checkOf}
+use Rattle.block_check.specs.Laws.{pass, Sided, in-limits, lengths-fit, check-fine}
+
+pub limits-in : (limit w h : ℕ) → Sided limit w h → inLimits limit w h ≡ true
+unfolding inLimits
+limits-in limit w h s = rw (le-leb 1 w (s .wideFrom), le-leb w limit (s .wideTo), le-leb 1 h (s .highFrom), le-leb h limit (s .highTo))
+
+pub fit-lengths : (w h kinds muls : ℕ) → kinds ≡ h * w → muls ≡ h * w → lengthsFit w h kinds muls ≡ true
+unfolding lengthsFit
+fit-lengths w h kinds muls e f = rw (eq-eqb kinds (h * w) e, eq-eqb muls (h * w) f)
+
+-- The check passes layouts with sides in the limits, and no other lent record.
+module _ (limit w h : ℕ) (kinds muls : List ℕ) where
+  pub checked : checkOf limit w h kinds muls ≡ gives tt → Sided limit w h × Layout w h kinds muls
+  unfolding checkOf
+  checked e =
+      let a = pass 2 (inLimits limit w h) _ tt e in
+      let b = pass 1 (lengthsFit w h (length kinds) (length muls)) _ tt (a .1) in
+      let c = pass 18 (isLayout w h kinds muls) (gives tt) tt (b .1) in
+      let l = lengths-fit w h (length kinds) (length muls) (b .0) in
+      (in-limits limit w h (a .0), layout-iff w h kinds muls (l .0) (l .1) .0 (c .0))
+
+  pub checks : Sided limit w h → Layout w h kinds muls → checkOf limit w h kinds muls ≡ gives tt
+  checks s ok =
+      check-fine limit w h kinds muls (limits-in limit w h s) (fit-lengths w h (length kinds) (length muls) (ok .kindsLength) (ok .mulsLength))
+      (layout-iff w h kinds muls (ok .kindsLength) (ok .mulsLength) .1 ok)
+
+-- A group that the check passes: its varblocks are disjoint, and their areas sum to its blocks.
+module _ (g : Group) (kinds muls : List ℕ) (fine : checkOf 32 (g .wide) (g .high) kinds muls ≡ gives tt) where
+  pub group-disjoint : (a b c d x y : ℕ) → x < g .wide → y < g .high → Covers (cellAt kinds (g .wide)) a b x y → Covers (cellAt kinds (g .wide)) c d x y → (a ≡ c) × (b ≡ d)
+  group-disjoint = disjoint (g .wide) (g .high) kinds muls (checked 32 (g .wide) (g .high) kinds muls fine .1)
+
+  pub group-area : area (varblocksOf (g .wide) (g .high) kinds muls) ≡ g .wide * g .high
+  group-area = layout-area (g .wide) (g .high) kinds muls (checked 32 (g .wide) (g .high) kinds muls fine .1)

@@ -1,0 +1,109 @@
+// Likeness of two lent layouts: the same rectangles and hf_mul.
+use block_check::check::HIGH;
+use block_check::check::WIDE;
+use block_check::check::in_limits;
+use block_check::check::is_layout;
+use block_check::check::lengths_fit;
+use block_check::check::size_of;
+use refusal::Refusal;
+ghost use mathlib.Core.Path.{_≡_};
+ghost use Prim.Native.Nat.{_≤_};
+ghost use lib.ListN.{length};
+ghost use Rattle.layout.specs.Like.{lent, alikeCell, alikeFrom};
+ghost use Rattle.block_check.specs.Sizes.{widths, heights};
+ghost use Rattle.likeness.specs.Calls.{saidLike, likeOf};
+
+pub enum LikeAnswer {
+    Alike,
+    Unlike,
+    Refused(Refusal),
+}
+
+// Two cells: corners of one size and hf_mul, or no corners.
+fn alike_cell(
+    wides: &[usize; 27],
+    highs: &[usize; 27],
+    kind: u8,
+    mul: u32,
+    kind2: u8,
+    mul2: u32,
+) -> bool
+    requires { ⌜ (now wides ≡ widths) × (now highs ≡ heights) ⌝ }
+    ensures { λ r. ⌜ r ≡ alikeCell kind mul kind2 mul2 ⌝ }
+{
+    if kind < 2 {
+        return kind2 < 2;
+    }
+    if kind2 < 2 {
+        return false;
+    }
+    if mul != mul2 {
+        return false;
+    }
+    let size = size_of(wides, highs, kind);
+    let size2 = size_of(wides, highs, kind2);
+    if size.wide != size2.wide {
+        return false;
+    }
+    size.high == size2.high
+}
+
+// All cells of two layouts of the same sides.
+fn alike_cells(kinds: &[u8], muls: &[u32], kinds2: &[u8], muls2: &[u32]) -> bool
+    requires { ⌜ (length (now muls) ≡ length (now kinds)) × (length (now kinds2) ≡ length (now kinds)) × (length (now muls2) ≡ length (now kinds)) ⌝ }
+    ensures { λ r. ⌜ r ≡ alikeFrom (now (kinds .entry)) (now (muls .entry)) (now (kinds2 .entry)) (now (muls2 .entry)) (length (now (kinds .entry))) 0 ⌝ }
+{
+    let wides = WIDE;
+    let highs = HIGH;
+    let mut i = 0;
+    while i < kinds.len() {
+        if !alike_cell(&wides, &highs, kinds[i], muls[i], kinds2[i], muls2[i]) {
+            return false;
+        }
+        i += 1;
+    }
+    true
+}
+
+// Whether two lent layouts are alike. Each refusal is tried over both before the next: sides (2), lengths (1), 18.
+pub fn alike(
+    bw: usize,
+    bh: usize,
+    kinds: &[u8],
+    muls: &[u32],
+    bw2: usize,
+    bh2: usize,
+    kinds2: &[u8],
+    muls2: &[u32],
+) -> LikeAnswer
+    ensures { λ r. ⌜ saidLike r ≡ likeOf (lent bw bh (now (kinds .entry)) (now (muls .entry))) (lent bw2 bh2 (now (kinds2 .entry)) (now (muls2 .entry))) ⌝ }
+{
+    if !in_limits(256, bw, bh) {
+        return LikeAnswer::Refused(Refusal::Size);
+    }
+    if !in_limits(256, bw2, bh2) {
+        return LikeAnswer::Refused(Refusal::Size);
+    }
+    if !lengths_fit(bw, bh, kinds.len(), muls.len()) {
+        return LikeAnswer::Refused(Refusal::Length);
+    }
+    if !lengths_fit(bw2, bh2, kinds2.len(), muls2.len()) {
+        return LikeAnswer::Refused(Refusal::Length);
+    }
+    if !is_layout(bw, bh, kinds, muls) {
+        return LikeAnswer::Refused(Refusal::Layout);
+    }
+    if !is_layout(bw2, bh2, kinds2, muls2) {
+        return LikeAnswer::Refused(Refusal::Layout);
+    }
+    if bw != bw2 {
+        return LikeAnswer::Unlike;
+    }
+    if bh != bh2 {
+        return LikeAnswer::Unlike;
+    }
+    if alike_cells(kinds, muls, kinds2, muls2) {
+        return LikeAnswer::Alike;
+    }
+    LikeAnswer::Unlike
+}
