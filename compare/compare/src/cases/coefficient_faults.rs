@@ -19,7 +19,7 @@ pub fn damage_symbols(rng: &mut Rng, symbols: &mut Vec<u32>) {
 
 pub fn damage_call(rng: &mut Rng, call: &mut CoefficientsCall) {
     let channel = rng.below(3);
-    match rng.below(16) {
+    match rng.below(18) {
         0 => call.group.wide = rng.pick(&[0, 33, usize::MAX]),
         1 => call.group.high = rng.pick(&[0, 33, usize::MAX]),
         2 => call.shift = rng.pick(&[4, u32::MAX]),
@@ -41,7 +41,7 @@ pub fn damage_call(rng: &mut Rng, call: &mut CoefficientsCall) {
             .iter_mut()
             .for_each(|lf| misfit_grid(rng, &mut lf[channel])),
         12 => call.group.kinds.push(1),
-        13 => damage_store(rng, call),
+        13..=15 => damage_store(rng, call),
         _ => damage(rng, &mut call.group),
     }
 }

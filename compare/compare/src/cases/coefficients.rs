@@ -8,7 +8,7 @@ use super::coefficient_smaller::smaller;
 use super::digits::{lists_count, Digits};
 use super::orders::symbols;
 use super::placing::{fill, single};
-use super::symbol_stream::symbol_stream;
+use super::symbol_stream::{crowded_stream, symbol_stream};
 use super::Case;
 use crate::expected;
 use crate::make::{self, OrdersAndStore};
@@ -148,7 +148,11 @@ impl Case for CoefficientsCase {
         let mut input = self.input(rng.below(self.orders.len()), group, contexts);
         let call = &mut input.call;
         let sparseness = rng.pick(&[1, 2, 8, 64]);
-        call.symbols = symbol_stream(rng, &call.group, sparseness);
+        call.symbols = if rng.once_in(16) {
+            crowded_stream(rng, &call.group, sparseness)
+        } else {
+            symbol_stream(rng, &call.group, sparseness)
+        };
         call.shift = rng.below(4) as u32;
         presets(rng, call, &input.orders.cluster_map);
         if rng.once_in(2) {

@@ -6,15 +6,36 @@ use crate::rng::Rng;
 /// which at most one in `sparseness` is filled.
 pub fn symbol_stream(rng: &mut Rng, group: &Layout, sparseness: usize) -> Vec<u32> {
     let mut symbols = Vec::new();
-    for &kind in &group.kinds {
-        let Some((wide, high)) = paper::kind_sides(kind) else {
-            continue;
-        };
-        for _ in 0..3 {
-            places(rng, 63 * wide * high, sparseness, &mut symbols);
-        }
+    for count in channels(group) {
+        places(rng, count, sparseness, &mut symbols);
     }
     symbols
+}
+
+/// The same, but one of its channels has a count of all its places and a 0 among them.
+pub fn crowded_stream(rng: &mut Rng, group: &Layout, sparseness: usize) -> Vec<u32> {
+    let mut symbols = Vec::new();
+    let crowded = rng.below(channels(group).count());
+    for (channel, count) in channels(group).enumerate() {
+        if channel != crowded {
+            places(rng, count, sparseness, &mut symbols);
+            continue;
+        }
+        symbols.push(count as u32);
+        let hole = symbols.len() + rng.below(count);
+        symbols.extend((0..count).map(|_| coefficient(rng)));
+        symbols[hole] = 0;
+    }
+    symbols
+}
+
+/// How many places each channel of each varblock has.
+fn channels(group: &Layout) -> impl Iterator<Item = usize> + '_ {
+    let sides = group
+        .kinds
+        .iter()
+        .filter_map(|&kind| paper::kind_sides(kind));
+    sides.flat_map(|(wide, high)| [63 * wide * high; 3])
 }
 
 fn places(rng: &mut Rng, places: usize, sparseness: usize, symbols: &mut Vec<u32>) {
