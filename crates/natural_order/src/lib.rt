@@ -11,6 +11,7 @@ ghost use Rattle.natural_order.specs.Natural.{rows, diagonal, square, li
 ghost use Rattle.natural_order.specs.Sizes.{Size};
 ghost use Rattle.natural_order.specs.Filled.{roomFor, filled};
 ghost use Rattle.natural_order.specs.Turns.{onePlace, restOfRow};
+ghost use Rattle.natural_order.specs.Slants.{multiples, ups, downs};
 
 // y / s; the constants spare a division for the ratios that the 13 sizes have.
 fn quotient(y: usize, s: usize) -> usize
@@ -85,7 +86,8 @@ fn put_cell(list: &mut [u16], at: usize, w: usize, s: usize, x: usize, y: usize)
     at
 }
 
-fn put_diagonal(list: &mut [u16], start: usize, w: usize, s: usize, b: usize, dist: usize) -> usize
+// A diagonal, cell by cell.
+fn put_cells(list: &mut [u16], start: usize, w: usize, s: usize, b: usize, dist: usize) -> usize
     requires { ⌜ (0 < s) × (dist < 512) × (start + length (flat (keep w s (diagonal b dist))) ≤ length (now list)) ⌝ }
     ensures { λ r. ⌜ (r ≡ start + length (flat (keep w s (diagonal b dist)))) × (now (list .exit) ≡ sets (now (list .entry)) start (flat (keep w s (diagonal b dist)))) ⌝ }
 {
@@ -103,8 +105,71 @@ fn put_diagonal(list: &mut [u16], start: usize, w: usize, s: usize, b: usize, di
     at
 }
 
+// How many multiples of s are below u.
+fn multiples_below(u: usize, s: usize) -> usize
+    requires { ⌜ (0 < s) × (s ≤ 256) × (u < 512) ⌝ }
+    ensures { λ r. ⌜ r ≡ multiples s u ⌝ }
+{
+    quotient(u + (s - 1), s)
+}
+
+// Of the diagonal x + y = t the cells in n rows q * s, q upwards from `first`.
+fn put_up(list: &mut [u16], start: usize, t: u16, s: u16, first: u16, n: usize) -> usize
+    requires { ⌜ (start + 2 * n ≤ length (now list)) × (first + n ≤ 1024) × ((q : ℕ) → q < first + n → q * s ≤ t) ⌝ }
+    ensures { λ r. ⌜ (r ≡ start + 2 * n) × (now (list .exit) ≡ sets (now (list .entry)) start (flat (ups t s n first))) ⌝ }
+{
+    let mut at = start;
+    let mut q = first;
+    let mut j = 0;
+    while j < n {
+        list[at] = t - q * s;
+        list[at + 1] = q;
+        at += 2;
+        q += 1;
+        j += 1;
+    }
+    at
+}
+
+// The same downwards from below `end`.
+fn put_down(list: &mut [u16], start: usize, t: u16, s: u16, end: u16, n: usize) -> usize
+    requires { ⌜ (start + 2 * n ≤ length (now list)) × (n ≤ end) × (end ≤ 1024) × ((q : ℕ) → q < end → q * s ≤ t) ⌝ }
+    ensures { λ r. ⌜ (r ≡ start + 2 * n) × (now (list .exit) ≡ sets (now (list .entry)) start (flat (downs t s n end))) ⌝ }
+{
+    let mut at = start;
+    let mut q = end;
+    let mut j = 0;
+    while j < n {
+        q -= 1;
+        list[at] = t - q * s;
+        list[at + 1] = q;
+        at += 2;
+        j += 1;
+    }
+    at
+}
+
+// A diagonal; one that passes the corner has a place for each row divisible by s, and no test for each cell.
+fn put_diagonal(list: &mut [u16], start: usize, w: usize, s: usize, b: usize, dist: usize) -> usize
+    requires { ⌜ (0 < s) × (s ≤ 256) × (w < 512) × (0 < dist) × (dist < 512) × (dist ≤ 2 * b) × (start + length (flat (keep w s (diagonal b dist))) ≤ length (now list)) ⌝ }
+    ensures { λ r. ⌜ (r ≡ start + length (flat (keep w s (diagonal b dist)))) × (now (list .exit) ≡ sets (now (list .entry)) start (flat (keep w s (diagonal b dist)))) ⌝ }
+{
+    if dist < 2 * w {
+        return put_cells(&mut list[..], start, w, s, b, dist);
+    }
+    let m = margin(dist, b);
+    let lowest = multiples_below(m, s);
+    let highest = multiples_below(dist - m, s);
+    let t = (dist - 1) as u16;
+    let n = highest - lowest;
+    if dist % 2 == 1 {
+        return put_down(&mut list[..], start, t, s as u16, highest as u16, n);
+    }
+    put_up(&mut list[..], start, t, s as u16, lowest as u16, n)
+}
+
 fn put_square(list: &mut [u16], start: usize, w: usize, s: usize, b: usize) -> usize
-    requires { ⌜ (0 < s) × (0 < b) × (b ≤ 256) × (start + length (flat (keep w s (square b))) ≤ length (now list)) ⌝ }
+    requires { ⌜ (0 < s) × (s ≤ 256) × (w < 512) × (0 < b) × (b ≤ 256) × (start + length (flat (keep w s (square b))) ≤ length (now list)) ⌝ }
     ensures { λ r. ⌜ (r ≡ start + length (flat (keep w s (square b)))) × (now (list .exit) ≡ sets (now (list .entry)) start (flat (keep w s (square b)))) ⌝ }
 {
     let mut at = start;

@@ -1,120 +1,151 @@
-use mathlib.Core.Path.{refl}
-use Rattle.natural_order.specs.Turns.{diagonal-turn-at, piece-fits, all-laid}
-use lib.Dec.{eqb}
 use lib.Seq.{sets}
-use Prim.Native.Nat.{_%_}
-use Rattle.natural_order.specs.Natural.{diagonal, keep}
-use Rattle.natural_order.specs.Places.{flat}
-use Rattle.natural_order.specs.Turns.{cond-lt, onePlace, restOfDiagonal, laid, grown, diagonal-turn, diagonal-start, diagonal-end}
+use mathlib.Core.List.{List}
+use Rattle.natural_order.specs.Natural.{diagonal}
+use Rattle.natural_order.specs.Slants.{ups-long, downs-long, slant}
 use borrow.Author.Needs.{needs}
 use native.Mathlib.Omega.{arith}
-use mathlib.Core.Path.{_≡_, _∙_, ap, sym}
-use mathlib.Core.List.{_++_}
-use Prim.Native.Nat.{ℕ, _≤_, _<_, _-_, _+_, _*_}
-use lib.ListN.{length, getD, take, drop, set, length-set}
+use mathlib.Core.Path.{_∙_, ap, sym}
+use Prim.Native.Nat.{ℕ, _-_}
+use lib.ListN.{length, take, set}
 use Rattle.natural_order.proofs.put_diagonal.Statement.{statement}
 use Rattle.natural_order.proofs.put_diagonal.Tie as tie
+use Rattle.natural_order.proofs.margin.Reads as margin-reads
+use Rattle.natural_order.proofs.multiples_below.Reads as multiples-below-reads
+use Rattle.natural_order.proofs.put_cells.Reads as put-cells-reads
+use Rattle.natural_order.proofs.put_down.Reads as put-down-reads
+use Rattle.natural_order.proofs.put_up.Reads as put-up-reads
 
-abbrev Inv-loop : tie.InvT-loop
-Inv-loop list₀ start w s b d m e at₀ o₀ list at o =
-    (length list ≡ length list₀)
-    × (at + length (restOfDiagonal w s d e o) ≡ start + length (flat (keep w s (diagonal b d))))
-    × (sets list at (restOfDiagonal w s d e o) ≡ sets list₀ start (flat (keep w s (diagonal b d))))
+mul-if1 : tie.Need-mul-if1
+mul-if1 c = search needs
 
-abbrev μ-loop : tie.MeasureT-loop
-μ-loop list₀ start w s b d m e at₀ o₀ list at o = e - o
+put-cells-requires : tie.Need-put-cells-requires
+put-cells-requires c κs = search needs
 
-margin-requires : tie.Need-margin-requires Inv-loop μ-loop
-margin-requires c κs = search needs
-
-sub-e : tie.Need-sub-e Inv-loop μ-loop
-sub-e c = search needs
-
-loop-holds : tie.Need-loop-holds Inv-loop μ-loop
-loop-holds c =
-    let a = c .before .before .args in
-    (refl, rw (c .margin .ensures, diagonal-start (a .w) (a .s) (a .b) (a .dist)), rw (c .margin .ensures, diagonal-start (a .w) (a .s) (a .b) (a .dist)))
-
-sub-c : tie.Need-sub-c Inv-loop μ-loop
-sub-c c = search needs
-
-sub-c-2 : tie.Need-sub-c-2 Inv-loop μ-loop
-sub-c-2 c = search needs
-
-choose-requires : tie.Need-choose-requires Inv-loop μ-loop
-choose-requires c κs = search needs
-
-choose-requires-2 : tie.Need-choose-requires-2 Inv-loop μ-loop
-choose-requires-2 c κs = search needs
-
-put-cell-requires : tie.Need-put-cell-requires Inv-loop μ-loop
-put-cell-requires c κs =
-    let a = c .before .before .before .before .before .before .before .args in
-    let pre = c .before .before .before .before .before .before .before .pre in
-    let l = c .before .before .before .before .loop in
-    let m = c .before .before .before .before .before .margin .result in
-    let x = c .before .before .choose in
-    let y = c .before .choose2 in
-    let t = diagonal-turn-at (a .w) (a .s) (a .dist) (a .dist - m) (l .o) (x .result) (y .result) (omega arith) (x .ensures) (y .ensures) in
-    let p : x .result < 512 = rw (x .ensures) (cond-lt (eqb (a .dist % 2) 1) (l .o) (a .dist - 1 - l .o) 512 (omega arith) (omega arith)) in
-    let q : y .result < 512 = rw (y .ensures) (cond-lt (eqb (a .dist % 2) 1) (a .dist - 1 - l .o) (l .o) 512 (omega arith) (omega arith)) in (
-      omega arith,
-      p,
-      q,
-      piece-fits (l .at) (a .start + length (flat (keep (a .w) (a .s) (diagonal (a .b) (a .dist))))) (length (l .list)) (onePlace (a .w) (a .s) (x .result) (y .result))
-          (restOfDiagonal (a .w) (a .s) (a .dist) (a .dist - m) (l .o + 1)) (restOfDiagonal (a .w) (a .s) (a .dist) (a .dist - m) (l .o)) t (l .inv .1) (omega arith),
-    )
-
-add-o : tie.Need-add-o Inv-loop μ-loop
-add-o c = search needs
-
-loop-less : tie.Need-loop-less Inv-loop μ-loop
-loop-less c = search needs
-
-loop-again : tie.Need-loop-again Inv-loop μ-loop
-loop-again c =
-    let a = c .before .before .before .before .before .before .before .before .before .before .args in
-    let l = c .before .before .before .before .before .before .before .loop in
-    let m = c .before .before .before .before .before .before .before .before .margin .result in
-    let x = c .before .before .before .before .before .choose in
-    let y = c .before .before .before .before .choose2 in
-    let r = c .before .before .put-cell in
-    let t = diagonal-turn-at (a .w) (a .s) (a .dist) (a .dist - m) (l .o) (x .result) (y .result) (omega arith) (x .ensures) (y .ensures) in
-    let piece = onePlace (a .w) (a .s) (x .result) (y .result) in
-    let rest = restOfDiagonal (a .w) (a .s) (a .dist) (a .dist - m) (l .o + 1) in
-    let now = restOfDiagonal (a .w) (a .s) (a .dist) (a .dist - m) (l .o) in (
-      search needs,
-      grown (l .at) (r .result) (a .start + length (flat (keep (a .w) (a .s) (diagonal (a .b) (a .dist))))) piece rest now t (r .ensures .0) (l .inv .1),
-      laid (l .list) (r .last .0) (l .at) (r .result) piece rest now t (r .ensures .0) (r .ensures .1) ∙ l .inv .2,
-    )
-
-same-length : tie.Need-same-length Inv-loop μ-loop
+same-length : tie.Need-same-length
 same-length c = search needs
 
-returns : tie.Need-returns Inv-loop μ-loop
-returns c =
-    let a = c .before .before .before .before .args in
-    let l = c .before .loop in
-    let m = c .before .before .margin .result in
-    all-laid (l .list) (a .list .now) (l .at) (a .start) (restOfDiagonal (a .w) (a .s) (a .dist) (a .dist - m) (l .o)) (flat (keep (a .w) (a .s) (diagonal (a .b) (a .dist))))
-    (diagonal-end (a .w) (a .s) (a .dist) (a .dist - m) (l .o) (omega arith)) (l .inv .1) (l .inv .2)
+returns : tie.Need-returns
+returns c = search needs
+
+margin-requires : tie.Need-margin-requires
+margin-requires c κs = search needs
+
+multiples-below-requires : tie.Need-multiples-below-requires
+multiples-below-requires c κs = search needs
+
+sub-multiples-below : tie.Need-sub-multiples-below
+sub-multiples-below c = search needs
+
+multiples-below-requires-2 : tie.Need-multiples-below-requires-2
+multiples-below-requires-2 c κs = search needs
+
+sub-t : tie.Need-sub-t
+sub-t c = search needs
+
+cast-t : tie.Need-cast-t
+cast-t c = search needs
+
+sub-n : tie.Need-sub-n
+sub-n c =
+    let a = c .before .before .before .before .before .args in
+    let p = c .before .before .before .before .before .pre in
+    let lo = c .before .multiples-below .result in
+    let hi = c .multiples-below2 .result in
+    let k = slant (a .w) (a .s) (a .b) (a .dist) (c .before .before .margin .result) lo hi (p .0) (p .3) (p .5) (omega arith) (c .before .before .margin .ensures) (c .before .multiples-below .ensures) (c .multiples-below2 .ensures) in
+    omega (arith, k .few)
+
+cast-put-down : tie.Need-cast-put-down
+cast-put-down c = search needs
+
+cast-put-down-2 : tie.Need-cast-put-down-2
+cast-put-down-2 c =
+    let a = c .before .before .before .before .before .before .before .args in
+    let p = c .before .before .before .before .before .before .before .pre in
+    let lo = c .before .before .before .multiples-below .result in
+    let hi = c .before .before .multiples-below2 .result in
+    let k = slant (a .w) (a .s) (a .b) (a .dist) (c .before .before .before .before .margin .result) lo hi (p .0) (p .3) (p .5) (omega arith) (c .before .before .before .before .margin .ensures) (c .before .before .before .multiples-below .ensures) (c .before .before .multiples-below2 .ensures) in
+    omega (arith, k .most)
+
+put-down-requires : tie.Need-put-down-requires
+put-down-requires c κs =
+    let a = c .before .before .before .before .before .before .before .args in
+    let p = c .before .before .before .before .before .before .before .pre in
+    let lo = c .before .before .before .multiples-below .result in
+    let hi = c .before .before .multiples-below2 .result in
+    let k = slant (a .w) (a .s) (a .b) (a .dist) (c .before .before .before .before .margin .result) lo hi (p .0) (p .3) (p .5) (omega arith) (c .before .before .before .before .margin .ensures) (c .before .before .before .multiples-below .ensures) (c .before .before .multiples-below2 .ensures) in
+    let e = k .down (c .before .if2 .taken) in
+    (omega (arith, p .6, ap length e, downs-long (a .dist - 1) (a .s) (hi - lo) hi), omega arith, omega (arith, k .most), k .rows)
+
+same-length-2 : tie.Need-same-length-2
+same-length-2 c = search needs
+
+returns-2 : tie.Need-returns-2
+returns-2 c =
+    let a = c .before .before .before .before .before .before .before .before .before .before .args in
+    let p = c .before .before .before .before .before .before .before .before .before .before .pre in
+    let lo = c .before .before .before .before .before .before .multiples-below .result in
+    let hi = c .before .before .before .before .before .multiples-below2 .result in
+    let k = slant (a .w) (a .s) (a .b) (a .dist) (c .before .before .before .before .before .before .before .margin .result) lo hi (p .0) (p .3) (p .5) (omega arith) (c .before .before .before .before .before .before .before .margin .ensures) (c .before .before .before .before .before .before .multiples-below .ensures) (c .before .before .before .before .before .multiples-below2 .ensures) in
+    let e = k .down (c .before .before .before .before .if2 .taken) in
+    (omega (arith, c .before .before .put-down .ensures .0, ap length e, downs-long (a .dist - 1) (a .s) (hi - lo) hi), c .before .before .put-down .ensures .1 ∙ ap (λ (l : List ℕ). sets (a .list .now) (a .start) l) (sym e))
+
+cast-put-up : tie.Need-cast-put-up
+cast-put-up c = search needs
+
+cast-put-up-2 : tie.Need-cast-put-up-2
+cast-put-up-2 c =
+    let a = c .before .before .before .before .before .before .before .args in
+    let p = c .before .before .before .before .before .before .before .pre in
+    let lo = c .before .before .before .multiples-below .result in
+    let hi = c .before .before .multiples-below2 .result in
+    let k = slant (a .w) (a .s) (a .b) (a .dist) (c .before .before .before .before .margin .result) lo hi (p .0) (p .3) (p .5) (omega arith) (c .before .before .before .before .margin .ensures) (c .before .before .before .multiples-below .ensures) (c .before .before .multiples-below2 .ensures) in
+    omega (arith, k .few, k .most)
+
+put-up-requires : tie.Need-put-up-requires
+put-up-requires c κs =
+    let a = c .before .before .before .before .before .before .before .args in
+    let p = c .before .before .before .before .before .before .before .pre in
+    let lo = c .before .before .before .multiples-below .result in
+    let hi = c .before .before .multiples-below2 .result in
+    let k = slant (a .w) (a .s) (a .b) (a .dist) (c .before .before .before .before .margin .result) lo hi (p .0) (p .3) (p .5) (omega arith) (c .before .before .before .before .margin .ensures) (c .before .before .before .multiples-below .ensures) (c .before .before .multiples-below2 .ensures) in
+    let e = k .up (c .before .if2 .left) in
+    (omega (arith, p .6, ap length e, ups-long (a .dist - 1) (a .s) (hi - lo) lo), omega (arith, k .few, k .most), λ q h. k .rows q (omega (arith, k .few)))
+
+same-length-3 : tie.Need-same-length-3
+same-length-3 c = search needs
+
+returns-3 : tie.Need-returns-3
+returns-3 c =
+    let a = c .before .before .before .before .before .before .before .before .before .before .args in
+    let p = c .before .before .before .before .before .before .before .before .before .before .pre in
+    let lo = c .before .before .before .before .before .before .multiples-below .result in
+    let hi = c .before .before .before .before .before .multiples-below2 .result in
+    let k = slant (a .w) (a .s) (a .b) (a .dist) (c .before .before .before .before .before .before .before .margin .result) lo hi (p .0) (p .3) (p .5) (omega arith) (c .before .before .before .before .before .before .before .margin .ensures) (c .before .before .before .before .before .before .multiples-below .ensures) (c .before .before .before .before .before .multiples-below2 .ensures) in
+    let e = k .up (c .before .before .before .before .if2 .left) in
+    (omega (arith, c .before .before .put-up .ensures .0, ap length e, ups-long (a .dist - 1) (a .s) (hi - lo) lo), c .before .before .put-up .ensures .1 ∙ ap (λ (l : List ℕ). sets (a .list .now) (a .start) l) (sym e))
 
 pub put-diagonal-spec : {M : Type 1} → statement M
 put-diagonal-spec =
     tie.close
     (tie.spec
-    Inv-loop
-    μ-loop
-    margin-requires
-    sub-e
-    loop-holds
-    sub-c
-    sub-c-2
-    choose-requires
-    choose-requires-2
-    put-cell-requires
-    add-o
-    loop-less
-    loop-again
+    mul-if1
+    put-cells-requires
     same-length
-    returns)
+    returns
+    margin-requires
+    multiples-below-requires
+    sub-multiples-below
+    multiples-below-requires-2
+    sub-t
+    cast-t
+    sub-n
+    cast-put-down
+    cast-put-down-2
+    put-down-requires
+    same-length-2
+    returns-2
+    cast-put-up
+    cast-put-up-2
+    put-up-requires
+    same-length-3
+    returns-3)

@@ -1,3 +1,4 @@
+use native.Mathlib.Nat.{div-le-self}
 use Rattle.natural_order.specs.Turns.{laid, natural-parts, natural-sum, natural-laid}
 use Rattle.natural_order.specs.Sizes.{s-some, not-higher}
 use Rattle.natural_order.specs.Natural.{rows, square, keep, natural}
@@ -35,6 +36,8 @@ put-square-requires c κs =
     let r = c .before .before .before .put-corner in
     let n = natural-sum (a .bw) (a .bh) (pre .0) in (
       s-some (a .bw) (a .bh) (pre .0),
+      omega (arith, div-le-self (a .bw) (a .bh)),
+      omega arith,
       pre .0 .wide,
       omega arith,
       omega (arith, r .ensures .0, ap length (r .ensures .1) ∙ length-sets (a .list .now) 0 (flat (rows (a .bw / 8) (a .bh / 8)))),

@@ -38,6 +38,10 @@ put-diagonal-requires c κs =
     let l = c .before .before .loop in (
       omega arith,
       omega arith,
+      omega arith,
+      omega arith,
+      omega arith,
+      omega arith,
       piece-fits (l .at) (a .start + length (flat (keep (a .w) (a .s) (square (a .b))))) (length (l .list)) (flat (keep (a .w) (a .s) (diagonal (a .b) (l .dist))))
           (restOfSquare (a .w) (a .s) (a .b) (l .dist + 1)) (restOfSquare (a .w) (a .s) (a .b) (l .dist)) (square-turn (a .w) (a .s) (a .b) (l .dist) (omega arith)) (l .inv .3) (omega arith),
     )
