@@ -15,3 +15,4 @@ pub mod Beyond
 pub mod Turns
 pub mod Filled
 pub mod Filling
+pub mod Slants

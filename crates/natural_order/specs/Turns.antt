@@ -2,14 +2,13 @@
 use mathlib.Core.Path.{_≡_, refl, ap, sym, _∙_}
 use mathlib.Core.Bool.{Bool, true, false, cond}
 use mathlib.Core.List.{List, [], _∷_, _++_, append-nil}
-use Prim.Native.Nat.{ℕ, zero, suc, _+_, _*_, _-_, _/_, _%_, _<_, _≤_}
+use Prim.Native.Nat.{ℕ, suc, _+_, _*_, _-_, _/_, _<_, _≤_}
 use native.Mathlib.Numerals.{add-one}
 use native.Mathlib.Omega.{arith}
-use lib.Dec.{eqb}
 use lib.ListN.{length, set, length-append, drop-of-length-le}
 use lib.Seq.{sets, sets-eq}
 use Rattle.natural_order.specs.Places.{Place, run, joins, flat}
-use Rattle.natural_order.specs.Natural.{spot, cell, diagonal, square, listed, keep, rows, natural}
+use Rattle.natural_order.specs.Natural.{spot, diagonal, square, listed, keep, rows, natural}
 use Rattle.natural_order.specs.Sizes.{Size}
 use Rattle.natural_order.specs.Facts.{natural-facts}
 
@@ -42,30 +41,7 @@ pub flat-append : (l m : List Place) → flat (l ++ m) ≡ flat l ++ flat m
 flat-append [] m = refl
 flat-append (p ∷ l) m = ap (λ (r : List ℕ). p .0 ∷ p .1 ∷ r) (flat-append l m)
 
-pub cond-lt : (b : Bool) (x y m : ℕ) → x < m → y < m → cond b x y < m
-cond-lt true x y m h l = h
-cond-lt false x y m h l = l
-
-cell-by : (b : Bool) (x y : ℕ) → _≡_ {A = Place} (cond b (x, y) (y, x)) (cond b x y, cond b y x)
-cell-by true x y = refl
-cell-by false x y = refl
-
--- what a cell of the square adds to the store
-unfoldable pub onePlace : ℕ → ℕ → ℕ → ℕ → List ℕ
-onePlace w s x y = flat (keep w s ((x, y) ∷ []))
-
-pub onePlace-in : (w s x y : ℕ) → listed w s (x, y) ≡ true → onePlace w s x y ≡ x ∷ (y / s) ∷ []
-unfolding onePlace
-onePlace-in w s x y e = rw e
-
-pub onePlace-out : (w s x y : ℕ) → listed w s (x, y) ≡ false → onePlace w s x y ≡ []
-unfolding onePlace
-onePlace-out w s x y e = rw e
-
--- what is left of a diagonal, of the square
-unfoldable pub restOfDiagonal : ℕ → ℕ → ℕ → ℕ → ℕ → List ℕ
-restOfDiagonal w s d e o = flat (keep w s (run (cell d) (e - o) o))
-
+-- what is left of the square
 unfoldable pub restOfSquare : ℕ → ℕ → ℕ → ℕ → List ℕ
 restOfSquare w s b d = flat (keep w s (joins (diagonal b) (2 * b - d) d))
 
@@ -88,24 +64,6 @@ laid st st' at r piece rest whole w er es = rw (er, es, w) (sym (sets-append pie
 pub grown : (at r n : ℕ) (piece rest whole : List ℕ) → whole ≡ piece ++ rest → r ≡ at + length piece → at + length whole ≡ n → r + length rest ≡ n
 grown at r n piece rest whole w er en = omega (arith, ap length w, length-append piece rest)
 
-pub diagonal-turn : (w s d e o : ℕ) → o < e
-    → restOfDiagonal w s d e o ≡ onePlace w s (cond (eqb (d % 2) 1) o (d - 1 - o)) (cond (eqb (d % 2) 1) (d - 1 - o) o) ++ restOfDiagonal w s d e (o + 1)
-unfolding restOfDiagonal onePlace
-diagonal-turn w s d e o h =
-    let rest = run (cell d) (e - (o + 1)) (o + 1) in
-    ap (λ (l : List Place). flat (keep w s l)) (run-from (cell d) o e h)
-    ∙ ap flat (keep-append w s (cell d o ∷ []) rest)
-    ∙ flat-append (keep w s (cell d o ∷ [])) (keep w s rest)
-    ∙ ap (λ (p : Place). flat (keep w s (p ∷ [])) ++ flat (keep w s rest)) (cell-by (eqb (d % 2) 1) o (d - 1 - o))
-
-pub diagonal-start : (w s b d : ℕ) → restOfDiagonal w s d (d - (d - b)) (d - b) ≡ flat (keep w s (diagonal b d))
-unfolding restOfDiagonal
-diagonal-start w s b d = refl
-
-pub diagonal-end : (w s d e o : ℕ) → e ≤ o → restOfDiagonal w s d e o ≡ []
-unfolding restOfDiagonal
-diagonal-end w s d e o h = ap (λ (l : List Place). flat (keep w s l)) (run-end (cell d) o e h)
-
 pub square-turn : (w s b d : ℕ) → d < 2 * b → restOfSquare w s b d ≡ flat (keep w s (diagonal b d)) ++ restOfSquare w s b (d + 1)
 unfolding restOfSquare
 square-turn w s b d h =
@@ -121,10 +79,6 @@ square-start w s b = refl
 pub square-end : (w s b d : ℕ) → 2 * b ≤ d → restOfSquare w s b d ≡ []
 unfolding restOfSquare
 square-end w s b d h = ap (λ (l : List Place). flat (keep w s l)) (joins-end (diagonal b) d (2 * b) h)
-
-pub diagonal-turn-at : (w s d e o x y : ℕ) → o < e → x ≡ cond (eqb (d % 2) 1) o (d - 1 - o) → y ≡ cond (eqb (d % 2) 1) (d - 1 - o) o
-    → restOfDiagonal w s d e o ≡ onePlace w s x y ++ restOfDiagonal w s d e (o + 1)
-diagonal-turn-at w s d e o x y h ex ey = rw (ex, ey) (diagonal-turn w s d e o h)
 
 -- a piece of what is left fits
 pub piece-fits : (at n m : ℕ) (piece rest whole : List ℕ) → whole ≡ piece ++ rest → at + length whole ≡ n → n ≤ m → at + length piece ≤ m

@@ -1,14 +1,10 @@
 use Rattle.natural_order.specs.Filling.{sided, no-order, no-room, room}
 use borrow.Author.Needs.{needs}
 use native.Mathlib.Omega.{arith}
-use mathlib.Core.Path.{_≡_, _∙_, ap, sym}
-use mathlib.Core.List.{_++_}
-use Prim.Native.Nat.{ℕ, _≤_, _<_, _-_, _+_, _*_}
-use lib.ListN.{length, getD, take, drop, set, length-set}
+use Prim.Native.Nat.{_-_}
+use lib.ListN.{length, take}
 use Rattle.natural_order.proofs.fill_natural_order.Statement.{statement}
 use Rattle.natural_order.proofs.fill_natural_order.Tie as tie
-use Rattle.natural_order.proofs.fill_natural_order.Reads as reads
-use Rattle.natural_order.proofs.fill_natural_order.Lts as lts
 use Rattle.dct_select.proofs.block_sizes.block_size.Reads as block-size-reads
 use Rattle.natural_order.proofs.put_natural.Reads as put-natural-reads
 
