@@ -57,10 +57,18 @@ fn replay_all<'a>(file: &'a [u8], words: &'a [u32]) {
     names::text(b" records\n");
 }
 
+fn run(file: &mut [u8], words: &mut [u32]) {
+    let n = read_file(file);
+    let k = decode(&file[..n], words);
+    replay_all(&file[..n], &words[..k]);
+}
+
+fn run_in(file: &mut [u8; 262144], words: &mut [u32; 65536]) {
+    run(file, words);
+}
+
 fn main() {
     let mut file = [0u8; 262144];
-    let n = read_file(&mut file);
     let mut words = [0u32; 65536];
-    let k = decode(&file[..n], &mut words);
-    replay_all(&file[..n], &words[..k]);
+    run_in(&mut file, &mut words);
 }
