@@ -16,7 +16,7 @@ use Rattle.layout.specs.Walk.{walk, forward}
 use Rattle.layout.specs.Grid.{at, place-lt}
 use Rattle.layout.specs.Valid.{Cells, Covers, Fits, Owned, Valid, Layout}
 use Rattle.layout.specs.Order.{Here, Before, later, last}
-use Rattle.hf_metadata.specs.Reading.{Job, Placed, Reading, Going, Stopped, column, visit, start, reading}
+use Rattle.layout_reading.specs.Reading.{Job, Placed, Reading, Going, Stopped, column, visit, start, reading}
 use Rattle.accepted_layout.specs.Took.{InRect}
 use Rattle.accepted_layout.specs.Puts.{Puts, Column, Spot, corner, body, beyond, spot, nextType, nextMul, column-put}
 

@@ -15,8 +15,8 @@ use Rattle.filter_strength.specs.declared.Filter.{Filter}
 use Rattle.filter_strength.specs.declared.Filter.the-variants.{Off, On}
 use Rattle.filter_strength.specs.Strength.{zero32, scaledFilter, sharedFilter}
 use Rattle.filter_strength.specs.Limits.{inLimits}
-use Rattle.hf_metadata.specs.Scan.{takeCell, scan}
-use Rattle.hf_metadata.specs.Reading.{place, judge, column, reading}
+use Rattle.varblock_scan.specs.Scan.{takeCell, scan}
+use Rattle.layout_reading.specs.Reading.{place, judge, column, reading}
 use Rattle.hf_metadata.specs.Call.{Answer, accepted, refused, Outcome, inputs, layoutOf}
 
 -- modes 0, filter off, over cleared buffers of bw x bh blocks

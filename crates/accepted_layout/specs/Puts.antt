@@ -18,10 +18,10 @@ use Rattle.layout.specs.Grid.{at, set-same, set-other}
 use Rattle.layout.specs.Order.{Here}
 use Rattle.filter_strength.specs.declared.Filter.{Filter}
 use Rattle.filter_strength.specs.Strength.{sharedFilter}
-use Rattle.hf_metadata.specs.Columns.{lowBits, hfMulOf, positive}
-use Rattle.hf_metadata.specs.Scan.{Scan, Taking, Left, scan}
-use Rattle.hf_metadata.specs.Reading.{Job, Placed, Reading, Going, Stopped, refuseIf, placed, placeIn, judge, column}
-use Rattle.hf_metadata.specs.Reading as reading
+use Rattle.layout_column.specs.Columns.{lowBits, hfMulOf, positive}
+use Rattle.varblock_scan.specs.Scan.{Scan, Taking, Left, scan}
+use Rattle.layout_reading.specs.Reading.{Job, Placed, Reading, Going, Stopped, refuseIf, placed, placeIn, judge, column}
+use Rattle.layout_reading.specs.Reading as reading
 use Rattle.accepted_layout.specs.Took.{InRect, Took, took}
 
 -- a varblock of type t and hf_mul h is put at (x, y)

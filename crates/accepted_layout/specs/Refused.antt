@@ -17,9 +17,9 @@ use Rattle.layout.specs.Grid.{at}
 use Rattle.lf_group.specs.Blocks.{sizeFits}
 use Rattle.filter_strength.specs.declared.Filter.{Filter}
 use Rattle.filter_strength.specs.Strength.{zero32, sharedFilter}
-use Rattle.hf_metadata.specs.Columns.{lowBits, hfMulOf, positive}
-use Rattle.hf_metadata.specs.Scan.{Scan, Taking, Left, isOn, sigmaWith, takeCell, scan}
-use Rattle.hf_metadata.specs.Reading.{Job, Placed, Reading, Going, Stopped, refuseIf, placed, place, placeIn, judge, column, visit, start, zeros, zeroSigma, reading}
+use Rattle.layout_column.specs.Columns.{lowBits, hfMulOf, positive}
+use Rattle.varblock_scan.specs.Scan.{Scan, Taking, Left, isOn, sigmaWith, takeCell, scan}
+use Rattle.layout_reading.specs.Reading.{Job, Placed, Reading, Going, Stopped, refuseIf, placed, place, placeIn, judge, column, visit, start, zeros, zeroSigma, reading}
 use Rattle.hf_metadata.specs.Call.{Answer, accepted, refused, Outcome, outcomeOf, Inputs, jobOf, parametersFit, lengthsFit, refuseWith, layoutOf}
 use Rattle.accepted_layout.specs.Theorems.{bwOf, bhOf, off-size, off-parameters, off-lengths, works}
 

@@ -15,7 +15,7 @@ use Rattle.layout.specs.Valid.{Covers, Owned, Layout}
 use Rattle.layout.specs.Check.{check}
 use Rattle.layout.specs.Varblocks.{varblocksOf, area}
 use Rattle.layout.specs.Theorems.{layout-check, disjoint, covered, layout-area}
-use Rattle.hf_metadata.specs.Reading.{Job, Placed, Reading, Going, Stopped, reading}
+use Rattle.layout_reading.specs.Reading.{Job, Placed, Reading, Going, Stopped, reading}
 use Rattle.hf_metadata.specs.Call.{Answer, accepted, refused, Outcome, outcomeOf, Inputs, jobOf, parametersFit, lengthsFit, refuseWith, layoutOf}
 use Rattle.accepted_layout.specs.Accepted.{read-layout}
 

@@ -15,10 +15,10 @@ use Rattle.filter_strength.specs.Strength.{scaledFilter}
 use Rattle.filter_strength.specs.Limits.{paramsFit}
 use Rattle.layout.specs.Walk.{walk}
 use Rattle.hf_metadata.specs.declared.LayoutAnswer.the-variants.{Accepted, Refused}
-use Rattle.hf_metadata.specs.declared.column.Step.{Step}
-use Rattle.hf_metadata.specs.declared.column.Step.the-variants.{Going as GoesOn, Stopped as Stops}
-use Rattle.hf_metadata.specs.Reading.{Job, Reading, Going, visit, zeros, zeroSigma, reading}
-use Rattle.hf_metadata.specs.Places.{stateOf, jobWith, stepped}
+use Rattle.layout_reading.specs.declared.column.Step.{Step}
+use Rattle.layout_reading.specs.declared.column.Step.the-variants.{Going as GoesOn, Stopped as Stops}
+use Rattle.layout_reading.specs.Reading.{Job, Reading, Going, visit, zeros, zeroSigma, reading}
+use Rattle.layout_reading.specs.Places.{stateOf, jobWith, stepped}
 use Rattle.hf_metadata.specs.Call.{Outcome, leaves, outcomeOf, Inputs, jobOf, countsFit, lengthsFit, refuseWith, layoutOf}
 
 -- the work, from buffers that were cleared

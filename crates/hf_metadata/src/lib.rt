@@ -1,17 +1,13 @@
 // The layout of an LF group and its filter strengths (`hf_metadata.rs`).
-use column::Step;
 use filter_strength::Filter;
+use layout_reading::column::Step;
+use layout_reading::reading::read;
 use refusal::Refusal;
-
-mod column;
-mod reading;
-mod rectangle;
-
 ghost use mathlib.Core.Path.{_≡_};
 ghost use Prim.Native.Nat.{_*_, _≤_};
 ghost use lib.ListN.{length};
-ghost use Rattle.hf_metadata.specs.Reading.{reading as readingOf};
-ghost use Rattle.hf_metadata.specs.Places.{jobWith};
+ghost use Rattle.layout_reading.specs.Reading.{reading as readingOf};
+ghost use Rattle.layout_reading.specs.Places.{jobWith};
 ghost use Rattle.hf_metadata.specs.Call.{countsFit, inputs, leaves, outcomeOf, layoutOf};
 
 // Accepted with the number of columns used, or refused.
@@ -66,7 +62,7 @@ fn fill(
     zeros::clear_u8(kinds);
     zeros::clear_u32(hf_mul);
     zeros::clear_f32(sigma);
-    let step = reading::read(
+    let step = read(
         kinds,
         hf_mul,
         sigma,

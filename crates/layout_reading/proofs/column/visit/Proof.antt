@@ -1,0 +1,105 @@
+use Rattle.layout_reading.specs.Places.{stateOf, jobWith, byJudged, visit-taken, visit-ends, visit-judged}
+use Rattle.layout_column.specs.Judged.{asks-most}
+use Rattle.layout_column.specs.Columns.{lowBits, hfMulOf}
+use lib.ListN.{getD}
+use lib.Arith.{digits-lt}
+use borrow.Author.Needs.{needs}
+use native.Mathlib.Omega.{arith}
+use mathlib.Core.Path.{_∙_, ap, sym}
+use lib.ListN.{getD}
+use Rattle.layout_reading.proofs.column.visit.Statement.{statement}
+use Rattle.layout_reading.proofs.column.visit.Tie as tie
+
+mul-i : tie.Need-mul-i
+mul-i c =
+    let a = c .before .before .before .before .before .before .args in
+    omega (arith, digits-lt {q = a .y} {m = a .bh} {r = a .x} {c = a .bw} (omega arith) (omega arith))
+
+add-i : tie.Need-add-i
+add-i c =
+    let a = c .before .before .before .before .before .before .args in
+    omega (arith, digits-lt {q = a .y} {m = a .bh} {r = a .x} {c = a .bw} (omega arith) (omega arith))
+
+slice-read-if1 : tie.Need-slice-read-if1
+slice-read-if1 c =
+    let a = c .before .before .before .before .before .before .before .args in
+    omega (arith, digits-lt {q = a .y} {m = a .bh} {r = a .x} {c = a .bw} (omega arith) (omega arith))
+
+returns : tie.Need-returns
+returns c =
+    let a = c .before .before .before .before .before .before .before .before .args in
+    visit-taken (jobWith (a .bw) (a .bh) (a .types .now) (a .muls .now) (a .sharpness .now) (a .filter) (a .lookups .now)) (a .x) (a .y) (stateOf (a .used) (a .kinds .now) (a .hf-mul .now) (a .sigma .now)) (omega arith)
+
+returns-2 : tie.Need-returns-2
+returns-2 c =
+    let a = c .before .before .before .before .before .before .before .before .before .args in
+    visit-ends (jobWith (a .bw) (a .bh) (a .types .now) (a .muls .now) (a .sharpness .now) (a .filter) (a .lookups .now)) (a .x) (a .y) (stateOf (a .used) (a .kinds .now) (a .hf-mul .now) (a .sigma .now)) (omega arith) (omega arith)
+
+mul-judge : tie.Need-mul-judge
+mul-judge c = search needs
+
+shared-slice-read-judge : tie.Need-shared-slice-read-judge
+shared-slice-read-judge c = search needs
+
+mul-judge-2 : tie.Need-mul-judge-2
+mul-judge-2 c = search needs
+
+shared-slice-read-judge-2 : tie.Need-shared-slice-read-judge-2
+shared-slice-read-judge-2 c = search needs
+
+judge-requires : tie.Need-judge-requires
+judge-requires c κs = search needs
+
+enum-known-judged : tie.Need-enum-known-judged
+enum-known-judged c = search needs
+
+enum-known-judged-2 : tie.Need-enum-known-judged-2
+enum-known-judged-2 c = search needs
+
+place-requires : tie.Need-place-requires
+place-requires c κs =
+    let a = c .before .before .before .before .before .before .before .before .before .before .before .before .before .before .before .before .before .before .args in
+    let m = asks-most (lowBits (getD (a .types .now) (a .used) 0)) (hfMulOf (getD (a .muls .now) (a .used) 0)) (a .x) (a .y) _ (sym (c .before .before .before .before .before .before .judge .ensures) ∙ c .before .before .before .before .judged2 .given .1) in
+    search needs
+
+returns-3 : tie.Need-returns-3
+returns-3 c =
+    let a = c .before .before .before .before .before .before .before .before .before .before .before .before .before .before .before .args in
+    sym (ap (byJudged (jobWith (a .bw) (a .bh) (a .types .now) (a .muls .now) (a .sharpness .now) (a .filter) (a .lookups .now)) (a .x) (a .y) (stateOf (a .used) (a .kinds .now) (a .hf-mul .now) (a .sigma .now))) (c .before .judged .given .1)) ∙ visit-judged (jobWith (a .bw) (a .bh) (a .types .now) (a .muls .now) (a .sharpness .now) (a .filter) (a .lookups .now)) (a .x) (a .y) (stateOf (a .used) (a .kinds .now) (a .hf-mul .now) (a .sigma .now)) (omega arith) (c .before .before .before .judge .result) (omega arith) (c .before .before .before .judge .ensures)
+
+same-length : tie.Need-same-length
+same-length c = search needs
+
+same-length-2 : tie.Need-same-length-2
+same-length-2 c = search needs
+
+same-length-3 : tie.Need-same-length-3
+same-length-3 c = search needs
+
+returns-4 : tie.Need-returns-4
+returns-4 c =
+    let a = c .before .before .before .before .before .before .before .before .before .before .before .before .before .before .before .before .before .before .before .before .before .before .before .before .before .args in
+    c .before .before .before .before .before .before .place .ensures ∙ sym (ap (byJudged (jobWith (a .bw) (a .bh) (a .types .now) (a .muls .now) (a .sharpness .now) (a .filter) (a .lookups .now)) (a .x) (a .y) (stateOf (a .used) (a .kinds .now) (a .hf-mul .now) (a .sigma .now))) (c .before .before .before .before .before .before .before .before .before .before .before .judged2 .given .1)) ∙ visit-judged (jobWith (a .bw) (a .bh) (a .types .now) (a .muls .now) (a .sharpness .now) (a .filter) (a .lookups .now)) (a .x) (a .y) (stateOf (a .used) (a .kinds .now) (a .hf-mul .now) (a .sigma .now)) (omega arith) (c .before .before .before .before .before .before .before .before .before .before .before .before .before .judge .result) (omega arith) (c .before .before .before .before .before .before .before .before .before .before .before .before .before .judge .ensures)
+
+pub visit-spec : {M : Type 1} → statement M
+visit-spec =
+    tie.close
+    (tie.spec
+    mul-i
+    add-i
+    slice-read-if1
+    returns
+    returns-2
+    mul-judge
+    shared-slice-read-judge
+    mul-judge-2
+    shared-slice-read-judge-2
+    judge-requires
+    enum-known-judged
+    enum-known-judged-2
+    place-requires
+    returns-3
+    same-length
+    same-length-2
+    same-length-3
+    returns-4)

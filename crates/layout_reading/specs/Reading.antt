@@ -1,0 +1,93 @@
+-- The layout reading (document 01, Layout and filter strength): blocks are visited row by row, a free block takes the next column.
+use mathlib.Core.Bool.{Bool, cond, not}
+use mathlib.Core.List.{List}
+use Prim.Native.Nat.{ℕ, _+_, _*_, _%_}
+use lib.Dec.{ltb, leb, eqb}
+use lib.ListN.{length, getD, set, replicate}
+use lib.Ieee.{Float}
+use Rattle.refusal.specs.declared.Said.{Said}
+use Rattle.refusal.specs.Said as refusals
+use Rattle.dct_select.specs.Transforms.{COUNT, wide, high}
+use Rattle.layout.specs.Walk.{walk}
+use Rattle.layout.specs.Grid.{at}
+use Rattle.filter_strength.specs.declared.Filter.{Filter}
+use Rattle.filter_strength.specs.Strength.{zero32, sharedFilter}
+use Rattle.layout_column.specs.Columns.{lowBits, hfMulOf, positive}
+use Rattle.varblock_scan.specs.Scan.{Scan, Taking, Left, scan}
+
+-- what is read: a grid of bw x bh blocks, columns, a sharpness number per block, the filter with its multiplier × 65536 / scale,
+-- and the look-up numbers
+pub record Job : Type 0 where
+  pub bw : ℕ
+  pub bh : ℕ
+  pub types : List ℕ
+  pub muls : List ℕ
+  pub sharpness : List ℕ
+  pub filter : Filter
+  pub lookups : List Float
+
+-- columns used so far, and what they have placed: kinds, hf_mul, sigma
+pub record Placed : Type 0 where
+  pub used : ℕ
+  pub kinds : List ℕ
+  pub muls : List ℕ
+  pub sigma : List Float
+
+pub data Reading : Type 0 where
+  Going : Placed → Reading
+  Stopped : Said → Reading
+
+-- refused with n at (x, y), or else what follows
+abbrev pub refuseIf : Bool → ℕ → ℕ → ℕ → Reading → Reading
+refuseIf test n x y next = cond test (Stopped (refusals.at n x y)) next
+
+module _ (bw bh : ℕ) (filter : Filter) (lookups : List Float) (sharpness : List ℕ) where
+  -- after the scan of the rectangle: the corner gets its kind and hf_mul
+  abbrev pub placed : ℕ → ℕ → ℕ → ℕ → Placed → Scan → Reading
+  placed kind h x y p (Left n cx cy) = Stopped (refusals.at n x y)
+  placed kind h x y p (Taking kinds sigma) =
+      Going (record {
+        used = p .used + 1;
+        kinds = set kinds (y * bw + x) kind;
+        muls = set (p .muls) (y * bw + x) h;
+        sigma = sigma;
+      })
+
+  -- a varblock of w x n blocks at the free block (x, y)
+  unfoldable pub place : ℕ → ℕ → ℕ → ℕ → ℕ → ℕ → Placed → Reading
+  place kind h w n x y p = placed kind h x y p (scan bw bh (sharedFilter filter h) lookups sharpness x y w n (Taking (p .kinds) (p .sigma)))
+
+module _ (J : Job) where
+  abbrev pub placeIn : ℕ → ℕ → ℕ → ℕ → ℕ → ℕ → Placed → Reading
+  placeIn = place (J .bw) (J .bh) (J .filter) (J .lookups) (J .sharpness)
+
+  -- a column of type t and hf_mul h at the free block (x, y), checks in turn
+  unfoldable pub judge : ℕ → ℕ → ℕ → ℕ → Placed → Reading
+  judge t h x y p =
+      refuseIf (leb COUNT t) 5 x y
+      (refuseIf (not (positive h)) 6 x y
+      (refuseIf (ltb 32 (x % 32 + wide t)) 7 x y
+      (refuseIf (ltb 32 (y % 32 + high t)) 7 x y (placeIn (2 + t) h (wide t) (high t) x y p))))
+
+  -- the free block (x, y) takes the next column
+  unfoldable pub column : ℕ → ℕ → Placed → Reading
+  column x y p =
+      refuseIf (leb (length (J .types)) (p .used)) 4 x y
+      (judge (lowBits (getD (J .types) (p .used) 0)) (hfMulOf (getD (J .muls) (p .used) 0)) x y p)
+
+  abbrev pub visit : ℕ → ℕ → Reading → Reading
+  visit x y (Stopped r) = Stopped r
+  visit x y (Going p) = cond (eqb (at (p .kinds) (J .bw) x y) 0) (column x y p) (Going p)
+
+  -- all free, hf_mul 0, sigma +0.0
+  abbrev pub zeros : List ℕ
+  zeros = replicate (J .bh * J .bw) 0
+
+  abbrev pub zeroSigma : List Float
+  zeroSigma = replicate (J .bh * J .bw) zero32
+
+  abbrev pub start : Placed
+  start = record { used = 0; kinds = zeros; muls = zeros; sigma = zeroSigma }
+
+  unfoldable pub reading : Reading
+  reading = walk visit (J .bw) (J .bh) (Going start)

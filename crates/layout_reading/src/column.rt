@@ -1,0 +1,110 @@
+// The columns of a layout, placed one after the other.
+use filter_strength::Filter;
+use layout_column::Judged;
+use layout_column::Varblock;
+use layout_column::judge;
+use refusal::Refusal;
+use varblock_scan::Fault;
+use varblock_scan::scan;
+ghost use mathlib.Core.Path.{_≡_};
+ghost use Prim.Native.Nat.{_+_, _*_, _≤_, _<_};
+ghost use lib.ListN.{length};
+ghost use Rattle.layout_reading.specs.Reading.{Going, place as placeOf, visit as visitOf};
+ghost use Rattle.layout_reading.specs.Places.{stateOf, stepped, jobWith};
+
+// The reading goes on with that many columns used, or stops.
+pub enum Step {
+    Going(usize),
+    Stopped(Refusal),
+}
+
+// A varblock at the free block (x, y). A refusal hands back the free block, not the cell.
+fn place(
+    kinds: &mut [u8],
+    hf_mul: &mut [u32],
+    sigma: &mut [f32],
+    sharpness: &[u32],
+    lookups: &[f32; 8],
+    filter: Filter,
+    bw: usize,
+    bh: usize,
+    v: Varblock,
+    used: usize,
+    x: usize,
+    y: usize,
+) -> Step
+    requires { ⌜ (length (now kinds) ≡ bh * bw) × (length (now «hf_mul») ≡ bh * bw) × (length (now sigma) ≡ bh * bw) × (length (now sharpness) ≡ bh * bw) × (bw ≤ 256) × (bh ≤ 256) × (v .wide ≤ 32) × (v .high ≤ 32) × (x < bw) × (y < bh) × (used < 18446744073709551615) ⌝ }
+    ensures { λ r. ⌜ stepped r (now (kinds .exit)) (now («hf_mul» .exit)) (now (sigma .exit)) ≡ placeOf bw bh filter (now (lookups .entry)) (now (sharpness .entry)) (v .kind) (v .«hf_mul») (v .wide) (v .high) x y (stateOf used (now (kinds .entry)) (now («hf_mul» .entry)) (now (sigma .entry))) ⌝ }
+{
+    let share = filter.shared_by(v.hf_mul);
+    let fault = scan(
+        kinds,
+        sigma,
+        sharpness,
+        lookups,
+        share,
+        bw,
+        bh,
+        x,
+        y,
+        v.wide,
+        v.high,
+    );
+    match fault {
+        Fault::Outside(_cx, _cy) => Step::Stopped(Refusal::Outside(x, y)),
+        Fault::Overlap(_cx, _cy) => Step::Stopped(Refusal::Overlap(x, y)),
+        Fault::Sharpness(_cx, _cy) => Step::Stopped(Refusal::Sharpness(x, y)),
+        Fault::Clear => {
+            let i = y * bw + x;
+            kinds[i] = v.kind;
+            hf_mul[i] = v.hf_mul;
+            Step::Going(used + 1)
+        }
+    }
+}
+
+// The block (x, y): passed over where it is taken, else it takes the next column.
+pub fn visit(
+    kinds: &mut [u8],
+    hf_mul: &mut [u32],
+    sigma: &mut [f32],
+    types: &[u32],
+    muls: &[u32],
+    sharpness: &[u32],
+    lookups: &[f32; 8],
+    filter: Filter,
+    bw: usize,
+    bh: usize,
+    used: usize,
+    x: usize,
+    y: usize,
+) -> Step
+    requires { ⌜ (length (now kinds) ≡ bh * bw) × (length (now «hf_mul») ≡ bh * bw) × (length (now sigma) ≡ bh * bw) × (length (now sharpness) ≡ bh * bw) × (length (now muls) ≡ length (now types)) × (bw ≤ 256) × (bh ≤ 256) × (x < bw) × (y < bh) ⌝ }
+    ensures { λ r. ⌜ stepped r (now (kinds .exit)) (now («hf_mul» .exit)) (now (sigma .exit)) ≡ visitOf (jobWith bw bh (now (types .entry)) (now (muls .entry)) (now (sharpness .entry)) filter (now (lookups .entry))) x y (Going (stateOf used (now (kinds .entry)) (now («hf_mul» .entry)) (now (sigma .entry)))) ⌝ }
+{
+    let i = y * bw + x;
+    if 0 < kinds[i] {
+        return Step::Going(used);
+    }
+    if types.len() <= used {
+        return Step::Stopped(Refusal::ColumnsEnd(x, y));
+    }
+    let judged = judge(types[used], muls[used], x, y);
+    match judged {
+        Judged::Refused(why) => Step::Stopped(why),
+        Judged::Asks(v) => place(
+            kinds,
+            hf_mul,
+            sigma,
+            sharpness,
+            lookups,
+            filter,
+            bw,
+            bh,
+            v,
+            used,
+            x,
+            y,
+        ),
+    }
+}

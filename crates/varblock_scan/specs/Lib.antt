@@ -1,0 +1,4 @@
+-- the scan of a varblock's rectangle, and laws on it
+pub mod Scan
+pub mod Loops
+pub mod Steps
