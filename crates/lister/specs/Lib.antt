@@ -1,6 +1,3 @@
--- the layout lister: a job's bytes, and the text that is printed
-pub mod Job
+-- the layout lister: the text that is printed for a job
 pub mod Listing
-pub mod JobSteps
-pub mod Lines
 pub mod ListSteps

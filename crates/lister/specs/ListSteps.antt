@@ -21,9 +21,10 @@ use Rattle.hf_metadata.specs.Call.{Outcome, leaves, inputs, layoutOf}
 use Rattle.accepted_layout.specs.Theorems.{accepted-layout, accepted-area}
 use Rattle.filter_strength.specs.declared.Filter.the-variants.{Off}
 use Rattle.filter_strength.specs.Strength.{zero32}
-use Rattle.lister.specs.JobSteps.{prefixed}
-use Rattle.lister.specs.Job.{width, height, columnPlace, columns, types, muls, hasSize, hasEnd}
-use Rattle.lister.specs.Listing.{acceptedText, refusedText, textBy, BAD-INPUT, MODES, bwOf, bhOf, listed, outcome, layoutText, textOf}
+use Rattle.lister_job.specs.JobSteps.{prefixed}
+use Rattle.lister_job.specs.Job.{width, height, columnPlace, columns, types, muls, hasSize, hasEnd}
+use Rattle.lister_lines.specs.Texts.{acceptedText, refusedText, BAD-INPUT}
+use Rattle.lister.specs.Listing.{textBy, MODES, bwOf, bhOf, listed, outcome, layoutText, textOf}
 use Rattle.lister.specs.Listing as listing
 
 -- at most 64 blocks each way

@@ -1,17 +1,14 @@
 // The layout lister: from a job's bytes to the printed bytes (document 01, The lister).
 use filter_strength::Filter;
 use hf_metadata::LayoutAnswer;
-
-mod job;
-mod listing;
-
 ghost use mathlib.Core.Path.{_≡_};
 ghost use Prim.Native.Nat.{_*_, _≤_};
 ghost use lib.ListN.{length, getD, replicate};
 ghost use Rattle.filter_strength.specs.Strength.{zero32};
 ghost use Rattle.text.specs.Text.{Puts};
-ghost use Rattle.lister.specs.Job.{width as widthOf, height as heightOf};
-ghost use Rattle.lister.specs.Listing.{BAD-INPUT, bwOf, bhOf, layoutText, textOf};
+ghost use Rattle.lister_job.specs.Job.{width as widthOf, height as heightOf};
+ghost use Rattle.lister_lines.specs.Texts.{BAD-INPUT};
+ghost use Rattle.lister.specs.Listing.{bwOf, bhOf, layoutText, textOf};
 
 fn put_bad(out: &mut [u8]) -> usize
     ensures { λ r. ⌜ Puts (now (out .entry)) 0 BAD-INPUT (now (out .exit)) r ⌝ }
@@ -51,8 +48,8 @@ fn list_layout(
         sigma,
     );
     match answer {
-        LayoutAnswer::Accepted(_) => listing::put_accepted(out, kinds, hf_mul, bw, bh),
-        LayoutAnswer::Refused(why) => listing::put_refused(out, why.numbers()),
+        LayoutAnswer::Accepted(_) => lister_lines::put_accepted(out, kinds, hf_mul, bw, bh),
+        LayoutAnswer::Refused(why) => lister_lines::put_refused(out, why.numbers()),
     }
 }
 
@@ -124,7 +121,7 @@ fn list_job(
     requires { ⌜ (5 ≤ length (now job)) × (getD (now job) 0 0 ≡ 16) × (width ≡ widthOf (now job)) × (height ≡ heightOf (now job)) × (width ≤ 512) × (height ≤ 512) × (length (now types) ≡ 4096) × (length (now muls) ≡ 4096) ⌝ }
     ensures { λ r. ⌜ Puts (now (out .entry)) 0 (textOf (now (job .entry))) (now (out .exit)) r ⌝ }
 {
-    let n = job::read_columns(job, types, muls);
+    let n = lister_job::read_columns(job, types, muls);
     let end = 5 + 9 * n;
     if job.len() <= end {
         return put_bad(out);
@@ -145,8 +142,8 @@ pub fn list(job: &[u8], out: &mut [u8]) -> usize
     if job[0] != 0x10 {
         return put_bad(out);
     }
-    let width = job::number16(job, 1);
-    let height = job::number16(job, 3);
+    let width = lister_job::number16(job, 1);
+    let height = lister_job::number16(job, 3);
     if 512 < width {
         return put_bad(out);
     }

@@ -1,6 +1,6 @@
 use Rattle.lister.specs.ListSteps.{bad-cut, bad-end, good, job-text, read-first}
-use Rattle.lister.specs.JobSteps.{columns-most}
-use Rattle.lister.specs.Job.{typeAt, mulAt}
+use Rattle.lister_job.specs.JobSteps.{columns-most}
+use Rattle.lister_job.specs.Job.{typeAt, mulAt}
 use Rattle.laws.specs.Lists.{tabulate}
 use lib.Seq.{length-take-le}
 use lib.ListN.{take}

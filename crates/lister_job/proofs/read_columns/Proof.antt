@@ -1,14 +1,14 @@
 use mathlib.Core.List.{List}
-use Rattle.lister.specs.JobSteps.{prefixed, prefixed-more, countLeft, count-next, count-cut, count-other, count-full}
-use Rattle.lister.specs.Job.{columns, typeAt, mulAt}
+use Rattle.lister_job.specs.JobSteps.{prefixed, prefixed-more, countLeft, count-next, count-cut, count-other, count-full}
+use Rattle.lister_job.specs.Job.{columns, typeAt, mulAt}
 use mathlib.Core.Path.{refl}
 use borrow.Author.Needs.{needs}
 use native.Mathlib.Omega.{arith}
 use mathlib.Core.Path.{_≡_, _∙_, ap, sym}
 use Prim.Native.Nat.{ℕ, _≤_, _-_}
 use lib.ListN.{length, set, length-set}
-use Rattle.lister.proofs.job.read_columns.Statement.{statement}
-use Rattle.lister.proofs.job.read_columns.Tie as tie
+use Rattle.lister_job.proofs.read_columns.Statement.{statement}
+use Rattle.lister_job.proofs.read_columns.Tie as tie
 
 abbrev Inv-loop : tie.InvT-loop
 Inv-loop job types₀ muls₀ n₀ types muls n = (n ≤ 4096) × (length types ≡ 4096) × (length muls ≡ 4096) × (types ≡ prefixed (typeAt job) n types₀) × (muls ≡ prefixed (mulAt job) n muls₀) × (columns job ≡ countLeft job n)

@@ -13,7 +13,7 @@ use Rattle.layout.specs.Grid.{at}
 use Rattle.layout.specs.Varblocks.{Varblock, varblocksOf, cornersFrom}
 use Rattle.layout.specs.Rest.{rest, rest-corner, rest-plain, rest-rows, rest-turn, rest-end}
 use Rattle.text.specs.Text.{Puts, puts-then, puts-none}
-use Rattle.lister.specs.Listing.{lineOf, linesOf}
+use Rattle.lister_lines.specs.Texts.{lineOf, linesOf}
 
 abbrev pub varblockOf : ℕ → ℕ → ℕ → ℕ → Varblock
 varblockOf x y t m = record { x = x; y = y; type = t; mul = m }

@@ -2,8 +2,8 @@
 ghost use mathlib.Core.Path.{_≡_};
 ghost use Prim.Native.Nat.{_+_, _≤_};
 ghost use lib.ListN.{length};
-ghost use Rattle.lister.specs.Job.{number16 as number16Of, number32 as number32Of};
-ghost use Rattle.lister.specs.JobSteps.{ReadColumns};
+ghost use Rattle.lister_job.specs.Job.{number16 as number16Of, number32 as number32Of};
+ghost use Rattle.lister_job.specs.JobSteps.{ReadColumns};
 
 fn wide(x: u8) -> u32
     ensures { λ r. ⌜ r ≡ x ⌝ }
@@ -11,7 +11,7 @@ fn wide(x: u8) -> u32
     x as u32
 }
 
-pub(crate) fn number16(s: &[u8], i: usize) -> u32
+pub fn number16(s: &[u8], i: usize) -> u32
     requires { ⌜ i + 2 ≤ length (now s) ⌝ }
     ensures { λ r. ⌜ r ≡ number16Of (now (s .entry)) i ⌝ }
 {
@@ -26,7 +26,7 @@ fn number32(s: &[u8], i: usize) -> u32
 }
 
 // The columns of a job, at most 4,096, and how many there are.
-pub(crate) fn read_columns(job: &[u8], types: &mut [u32], muls: &mut [u32]) -> usize
+pub fn read_columns(job: &[u8], types: &mut [u32], muls: &mut [u32]) -> usize
     requires { ⌜ (length (now types) ≡ 4096) × (length (now muls) ≡ 4096) ⌝ }
     ensures { λ r. ⌜ ReadColumns (now (job .entry)) r (now (types .entry)) (now (muls .entry)) (now (types .exit)) (now (muls .exit)) ⌝ }
 {

@@ -1,8 +1,8 @@
 use borrow.Author.Needs.{needs}
 use native.Mathlib.Omega.{arith}
 use Prim.Native.Nat.{_+_}
-use Rattle.lister.proofs.job.number32.Statement.{statement}
-use Rattle.lister.proofs.job.number32.Tie as tie
+use Rattle.lister_job.proofs.number32.Statement.{statement}
+use Rattle.lister_job.proofs.number32.Tie as tie
 
 number16-requires : tie.Need-number16-requires
 number16-requires c κs = search needs

@@ -9,7 +9,7 @@ use lib.ListN.{length, getD, set, drop}
 use lib.Seq.{drop-cons, set-at}
 use borrow.Author.Tests.{le-leb, lt-leb, eq-eqb, ne-eqb}
 use Rattle.laws.specs.Lists.{tabulate, length-tabulate}
-use Rattle.lister.specs.Job.{typeAt, mulAt, columnPlace, isColumn, countFrom, columns}
+use Rattle.lister_job.specs.Job.{typeAt, mulAt, columnPlace, isColumn, countFrom, columns}
 
 -- the first n places hold f 0, f 1, .., the rest is as it came
 abbrev pub prefixed : (ℕ → ℕ) → ℕ → List ℕ → List ℕ

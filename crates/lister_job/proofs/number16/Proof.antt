@@ -1,8 +1,8 @@
 use borrow.Author.Needs.{needs}
 use native.Mathlib.Omega.{arith}
 use Prim.Native.Nat.{_+_}
-use Rattle.lister.proofs.job.number16.Statement.{statement}
-use Rattle.lister.proofs.job.number16.Tie as tie
+use Rattle.lister_job.proofs.number16.Statement.{statement}
+use Rattle.lister_job.proofs.number16.Tie as tie
 
 shared-slice-read-wide : tie.Need-shared-slice-read-wide
 shared-slice-read-wide c = search needs

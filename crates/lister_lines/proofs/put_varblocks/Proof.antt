@@ -1,5 +1,5 @@
 use mathlib.Core.List.{[], _++_}
-use Rattle.lister.specs.Lines.{lineAt, linesLeft, lines-start, lines-next, lines-turn, lines-end, Continues, goes-start, goes-same, goes-on, goes-far, goes-end}
+use Rattle.lister_lines.specs.Lines.{lineAt, linesLeft, lines-start, lines-next, lines-turn, lines-end, Continues, goes-start, goes-same, goes-on, goes-far, goes-end}
 use Rattle.text.specs.Text.{Puts}
 use mathlib.Core.List.{List}
 use mathlib.Core.Path.{subst}
@@ -9,8 +9,8 @@ use mathlib.Core.Path.{_≡_, _∙_, ap, sym}
 use mathlib.Core.List.{_++_}
 use Prim.Native.Nat.{ℕ, _≤_, _-_, _+_}
 use lib.ListN.{length}
-use Rattle.lister.proofs.listing.put_varblocks.Statement.{statement}
-use Rattle.lister.proofs.listing.put_varblocks.Tie as tie
+use Rattle.lister_lines.proofs.put_varblocks.Statement.{statement}
+use Rattle.lister_lines.proofs.put_varblocks.Tie as tie
 
 abbrev Inv-loop2 : tie.InvT-loop2
 Inv-loop2 out₀ at kinds hf-mul bw bh to₀ y x₀ out to x = (x ≤ bw) × (to ≤ length out) × (length out ≡ length out₀) × Continues out₀ to₀ (linesLeft bw kinds hf-mul bh 0 y) out to (linesLeft bw kinds hf-mul bh x y)

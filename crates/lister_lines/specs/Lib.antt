@@ -1,0 +1,3 @@
+-- the printed lines, and laws on them
+pub mod Texts
+pub mod Lines
