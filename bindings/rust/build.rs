@@ -1,5 +1,5 @@
 //! Names the folder of libnetbuff.a: NETBUFF_LIB_DIR, or target/staticlib of the repository, where
-//! `rt staticlib netbuff` writes it.
+//! `.ci/archive` writes it.
 
 use std::env;
 use std::path::{Path, PathBuf};

@@ -1,6 +1,6 @@
 //! From a scan's columns to its coefficients, 16 x 16 pixels: the same path as examples/c.
 //!
-//! `cargo run --release --example path` (in bindings/rust, once `rt staticlib netbuff` has been run).
+//! `cargo run --release --example path` (in bindings/rust, once `.ci/archive` has been run).
 
 use netbuff::{
     block_context, coefficients, column_count, cut, layout, orders, BlockContexts,

@@ -1,6 +1,6 @@
 //! Runs inputs through a call and through what is expected of it, until a difference is found.
 
-use std::collections::BTreeMap;
+use std::collections::{BTreeMap, HashSet};
 use std::fmt;
 use std::panic::{catch_unwind, AssertUnwindSafe};
 use std::time::{Duration, Instant};
@@ -24,6 +24,8 @@ pub struct Report {
     pub short: usize,
     pub short_of: usize,
     pub random: usize,
+    /// How many of them were different, for calls that tell it.
+    pub different: Option<usize>,
     /// How many inputs were answered with each refusal; 0 counts those that were accepted.
     pub by_number: BTreeMap<u32, usize>,
     pub difference: Option<String>,
@@ -66,6 +68,9 @@ impl fmt::Display for Report {
         if !refusals.is_empty() {
             write!(f, ", {refusals}")?;
         }
+        if let Some(different) = self.different {
+            write!(f, "; {different} different")?;
+        }
         write!(f, "; {seconds:.1} s")?;
         if let Some(difference) = &self.difference {
             write!(f, "\n  DIFFERENCE\n{difference}")?;
@@ -85,6 +90,9 @@ pub trait Comparison {
     /// random ones; not at all once a difference was found.
     fn advance(&mut self, effort: Effort, watch: Watch);
 
+    /// How many calls' share of a given time it has.
+    fn share(&self) -> u32;
+
     fn report(&self) -> &Report;
 }
 
@@ -96,6 +104,7 @@ pub struct Run<'a, C, F> {
     next_short: usize,
     stride: usize,
     rng: Rng,
+    met: HashSet<u64>,
     report: Report,
 }
 
@@ -108,6 +117,7 @@ impl<'a, C: Case, F: Fn(&C::Input) -> Answered<C>> Run<'a, C, F> {
             next_short: 0,
             stride: coprime_stride(short_of, seed),
             rng: Rng::new(seed),
+            met: HashSet::new(),
             report: Report {
                 name: C::NAME,
                 short_of,
@@ -118,15 +128,23 @@ impl<'a, C: Case, F: Fn(&C::Input) -> Answered<C>> Run<'a, C, F> {
 
     fn step_short(&mut self) {
         let input = self.case.short(self.next_short);
-        step(self.case, &self.ours, input, &mut self.report);
+        self.step(input);
         self.report.short += 1;
         self.next_short = (self.next_short + self.stride) % self.report.short_of;
     }
 
     fn step_random(&mut self) {
         let input = self.case.random(&mut self.rng);
-        step(self.case, &self.ours, input, &mut self.report);
+        self.step(input);
         self.report.random += 1;
+    }
+
+    fn step(&mut self, input: C::Input) {
+        if let Some(digest) = self.case.digest(&input) {
+            self.met.insert(digest);
+            self.report.different = Some(self.met.len());
+        }
+        step(self.case, &self.ours, input, &mut self.report);
     }
 }
 
@@ -150,6 +168,10 @@ impl<C: Case, F: Fn(&C::Input) -> Answered<C>> Comparison for Run<'_, C, F> {
             watch(&self.report);
         }
         self.report.seconds += start.elapsed().as_secs_f64();
+    }
+
+    fn share(&self) -> u32 {
+        C::SHARE
     }
 
     fn report(&self) -> &Report {

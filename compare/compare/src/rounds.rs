@@ -15,14 +15,15 @@ pub type Comparisons = [Box<dyn Comparison>];
 /// Runs the comparisons in turns for `total`, or to the first difference.
 pub fn run(comparisons: &mut Comparisons, total: Duration, watch: Watch) {
     let start = Instant::now();
-    let turn = (total / TURNS / comparisons.len().max(1) as u32).clamp(SHORTEST, LONGEST);
+    let shares: u32 = comparisons.iter().map(|each| each.share()).sum();
+    let turn = (total / TURNS / shares.max(1)).clamp(SHORTEST, LONGEST);
     while !comparisons.is_empty() {
         for comparison in comparisons.iter_mut() {
             let left = total.saturating_sub(start.elapsed());
             if left.is_zero() {
                 return;
             }
-            comparison.advance(Effort::Time(turn.min(left)), watch);
+            comparison.advance(Effort::Time((turn * comparison.share()).min(left)), watch);
             if comparison.report().difference.is_some() {
                 return;
             }
@@ -36,13 +37,14 @@ pub fn difference(comparisons: &Comparisons) -> Option<&Report> {
     reports.find(|report| report.difference.is_some())
 }
 
-/// One table: call, inputs, accepted, refusals by number.
+/// One table: call, inputs, how many were different, accepted, refusals by number.
 pub fn table(comparisons: &Comparisons) -> String {
-    let mut table = String::from("| call | inputs | accepted | refused |\n|--|--|--|--|\n");
+    let mut table = String::from("| call | inputs | different | accepted | refused |\n|--|--|--|--|--|\n");
     for report in comparisons.iter().map(|comparison| comparison.report()) {
         let (name, inputs, accepted) = (report.name, report.inputs(), report.accepted());
+        let different = report.different.map_or(String::new(), |n| n.to_string());
         let refusals = report.refusals();
-        table += &format!("| {name} | {inputs} | {accepted} | {refusals} |\n");
+        table += &format!("| {name} | {inputs} | {different} | {accepted} | {refusals} |\n");
     }
     table
 }

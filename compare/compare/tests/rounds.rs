@@ -77,9 +77,9 @@ fn a_table_counts_by_number() {
     let (accepted, refused) = (report.by_number[&0], report.by_number[&5]);
     assert_eq!(rows.len(), 4);
     assert_eq!(accepted + refused, 100);
-    let row = format!("| transform | 100 | {accepted} | 5: {refused} |");
+    let row = format!("| transform | 100 |  | {accepted} | 5: {refused} |");
     assert_eq!(rows[2], row);
-    assert_eq!(rows[3], "| cut | 0 | 0 |  |");
+    assert_eq!(rows[3], "| cut | 0 |  | 0 |  |");
 }
 
 #[test]

@@ -1,4 +1,5 @@
 use std::fmt;
+use std::hash::{DefaultHasher, Hash, Hasher};
 use std::sync::Arc;
 
 use calls::{CoefficientBuffers, CoefficientsCall, Contexts, Layout, Outcome, LIST_MOST};
@@ -116,6 +117,7 @@ impl CoefficientsCase {
 
 impl Case for CoefficientsCase {
     const NAME: &'static str = "coefficients";
+    const SHARE: u32 = 6;
     type Input = CoefficientsInput;
     type Value = usize;
     type Buffers = CoefficientBuffers;
@@ -166,6 +168,16 @@ impl Case for CoefficientsCase {
             damage_call(rng, call);
         }
         input
+    }
+
+    /// Of the group, the used orders, shift and symbols: inputs that differ in nothing else, as in
+    /// contexts, LF numbers or starting buffers, count as one.
+    fn digest(&self, input: &CoefficientsInput) -> Option<u64> {
+        let group = &input.call.group;
+        let mut hasher = DefaultHasher::new();
+        (group.wide, group.high, &group.kinds, &group.hf_mul).hash(&mut hasher);
+        (input.orders.used, input.call.shift, &input.call.symbols).hash(&mut hasher);
+        Some(hasher.finish())
     }
 
     fn smaller(&self, input: &CoefficientsInput) -> Vec<CoefficientsInput> {

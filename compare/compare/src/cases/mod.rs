@@ -39,6 +39,8 @@ pub use transform::TransformCase;
 
 pub trait Case {
     const NAME: &'static str;
+    /// How many calls' share of a given time this one has.
+    const SHARE: u32 = 1;
     type Input: Clone + Debug;
     type Value: Debug + PartialEq;
     type Buffers: Debug + PartialEq;
@@ -50,6 +52,11 @@ pub trait Case {
     fn short(&self, number: usize) -> Self::Input;
 
     fn random(&self, rng: &mut Rng) -> Self::Input;
+
+    /// A number that tells inputs apart, for calls whose different inputs are counted.
+    fn digest(&self, _input: &Self::Input) -> Option<u64> {
+        None
+    }
 
     /// Inputs that are smaller than the given one in some way, the boldest cuts first.
     fn smaller(&self, input: &Self::Input) -> Vec<Self::Input>;

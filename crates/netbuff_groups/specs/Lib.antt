@@ -1,0 +1,2 @@
+-- what the exported calls hand out
+pub mod Record
