@@ -39,7 +39,8 @@ pub fn difference(comparisons: &Comparisons) -> Option<&Report> {
 
 /// One table: call, inputs, how many were different, accepted, refusals by number.
 pub fn table(comparisons: &Comparisons) -> String {
-    let mut table = String::from("| call | inputs | different | accepted | refused |\n|--|--|--|--|--|\n");
+    let mut table =
+        String::from("| call | inputs | different | accepted | refused |\n|--|--|--|--|--|\n");
     for report in comparisons.iter().map(|comparison| comparison.report()) {
         let (name, inputs, accepted) = (report.name, report.inputs(), report.accepted());
         let different = report.different.map_or(String::new(), |n| n.to_string());

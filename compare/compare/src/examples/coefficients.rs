@@ -1,18 +1,18 @@
-use calls::CoefficientsCall;
+use calls::{CoefficientBuffers, CoefficientsCall};
 
-use super::{row, say, Row};
+use super::{row, say, Calls, Said};
 use crate::expected;
 use crate::make::{self, OrdersAndStore};
 
 /// Three presets of 15 clusters.
 const ENTRIES: usize = 3 * 15 * paper::ENTRIES_PER_CLUSTER;
 
-pub fn rows() -> Vec<Row> {
+pub fn said(calls: &Calls) -> Vec<Said> {
     let orders = orders_with_map(|place| place as u8);
     let zeros = [vec![33], vec![0; 31]].concat();
     let leftover = [vec![1], vec![0; 65]].concat();
     let one = |transform, symbols: &[u32]| one_varblock(&orders, transform, symbols);
-    let calls = [
+    let examples = [
         ("15: none", one(0, &[]), "refused 15 0 0"),
         ("16: type 0, 64", one(0, &[64]), "refused 16 1 0"),
         (
@@ -45,23 +45,23 @@ pub fn rows() -> Vec<Row> {
         ),
     ];
     let answer = |call| {
-        let outcome = expected::coefficients(&call, &orders.orders);
+        let outcome = (calls.coefficients)(&call, &orders.orders);
         say(outcome.answer, |read| format!("read {read}"))
     };
-    let rows = calls
+    let rows = examples
         .into_iter()
-        .map(|(example, call, said)| row(example, answer(call), said));
-    rows.chain(m11(&orders)).chain(sums(&orders)).collect()
+        .map(|(example, call, paper)| row(example, answer(call), paper));
+    let rows = rows.chain(m11(calls, &orders));
+    rows.chain(sums(calls, &orders)).collect()
 }
 
-/// What the first place behind the corner, cell (1,0) of a Dct8 that turns, holds in the end.
-fn sums(orders: &OrdersAndStore) -> [Row; 2] {
+/// What the first place behind the corner, place (1,0) and so cell (0,1) of a Dct8, holds in the end.
+fn sums(calls: &Calls, orders: &OrdersAndStore) -> [Said; 2] {
     let sum = |start, symbol, shift| {
         let mut call = one_varblock(orders, 0, &[1, symbol, 0, 0]);
         call.buffers.grids[1][8] = start;
         call.shift = shift;
-        let buffers = expected::coefficients(&call, &orders.orders).buffers;
-        buffers.grids[1][8].to_string()
+        buffers(calls, &call, orders).grids[1][8].to_string()
     };
     [
         row(
@@ -73,14 +73,18 @@ fn sums(orders: &OrdersAndStore) -> [Row; 2] {
     ]
 }
 
-fn m11(orders: &OrdersAndStore) -> [Row; 2] {
+fn buffers(calls: &Calls, call: &CoefficientsCall, orders: &OrdersAndStore) -> CoefficientBuffers {
+    (calls.coefficients)(call, &orders.orders).buffers
+}
+
+fn m11(calls: &Calls, orders: &OrdersAndStore) -> [Said; 2] {
     let symbols = [2, 3, 0, 4, 0, 0];
-    let buffers = |orders: &OrdersAndStore| {
+    let left = |orders: &OrdersAndStore| {
         let call = one_varblock(orders, 0, &symbols);
-        expected::coefficients(&call, &orders.orders).buffers
+        buffers(calls, &call, orders)
     };
-    let low = buffers(orders);
-    let high = buffers(&orders_with_map(|place| (place >> 8) as u8));
+    let low = left(orders);
+    let high = left(&orders_with_map(|place| (place >> 8) as u8));
     let grid = low.grids[1].iter().enumerate();
     let gained: Vec<_> = grid
         .filter(|(_, &gain)| gain != 0)

@@ -1,20 +1,20 @@
 use calls::{CutCall, Layout, LayoutCall};
 
-use super::{row, say, Row};
-use crate::{expected, make};
+use super::{row, say, Calls, Said};
+use crate::make;
 
-pub fn rows() -> Vec<Row> {
-    let mut rows = layouts();
-    rows.extend(transforms());
-    rows.extend(strengths());
-    rows.push(row("18: one free cell", free_cell(), "refused 18 0 0"));
+pub fn said(calls: &Calls) -> Vec<Said> {
+    let mut rows = layouts(calls);
+    rows.extend(transforms(calls));
+    rows.extend(strengths(calls));
+    rows.push(row("18: one free cell", free_cell(calls), "refused 18 0 0"));
     rows
 }
 
-fn layouts() -> Vec<Row> {
+fn layouts(calls: &Calls) -> Vec<Said> {
     let one = |column| make::layout(8, 8, &[column]);
     let square = |columns: &[_]| make::layout(16, 16, columns);
-    let calls = [
+    let examples = [
         (
             "1: 3 sharpness numbers, 4 blocks",
             three_sharpness(),
@@ -60,18 +60,18 @@ fn layouts() -> Vec<Row> {
             "used 3: [8, 2, 1, 2] [5, 1, 0, 3]",
         ),
     ];
-    let passes = expected::layout(&wide_row(30)).answer;
-    let mut rows: Vec<Row> = calls
+    let passes = (calls.layout)(&wide_row(30)).answer;
+    let mut rows: Vec<Said> = examples
         .into_iter()
-        .map(|(example, call, said)| row(example, say_layout(&call), said))
+        .map(|(example, call, paper)| row(example, say_layout(calls, &call), paper))
         .collect();
     let said = say(passes, |used| format!("used {used}"));
     rows.push(row("M6: x = 30, type 7", said, "used 32"));
     rows
 }
 
-fn say_layout(call: &LayoutCall) -> String {
-    let outcome = expected::layout(call);
+fn say_layout(calls: &Calls, call: &LayoutCall) -> String {
+    let outcome = (calls.layout)(call);
     let filled = format!("{:?} {:?}", outcome.buffers.kinds, outcome.buffers.hf_mul);
     say(outcome.answer, |used| format!("used {used}: {filled}"))
 }
@@ -101,8 +101,8 @@ fn scale_0() -> LayoutCall {
     call
 }
 
-fn transforms() -> [Row; 3] {
-    let looked = |number| say(expected::transform(number), |found| format!("{found:?}"));
+fn transforms(calls: &Calls) -> [Said; 3] {
+    let looked = |number| say((calls.transform)(number), |found| format!("{found:?}"));
     let dct16x8 = "Transform { wide: 1, high: 2, order: 4, turns: true }";
     [
         row("5: 27 looked up", looked(27), "refused 5 0 0"),
@@ -111,13 +111,13 @@ fn transforms() -> [Row; 3] {
     ]
 }
 
-fn strengths() -> [Row; 2] {
+fn strengths(calls: &Calls) -> [Said; 2] {
     let sigma = |hf_mul: i32, look_up| {
         let mut call = make::layout(8, 8, &[(0, hf_mul - 1)]);
         call.filter = Some(0.5);
         call.scale = 32_768;
         call.lookup = [look_up; 8];
-        format!("{:?}", expected::layout(&call).buffers.sigma)
+        format!("{:?}", (calls.layout)(&call).buffers.sigma)
     };
     let exact = sigma(16_777_216, 1.0);
     [
@@ -126,7 +126,7 @@ fn strengths() -> [Row; 2] {
     ]
 }
 
-fn free_cell() -> String {
+fn free_cell(calls: &Calls) -> String {
     let call = CutCall {
         layout: Layout {
             wide: 1,
@@ -138,5 +138,5 @@ fn free_cell() -> String {
         kinds: vec![0],
         hf_mul: vec![0],
     };
-    say(paper::cut(&call).answer, |sides| format!("{sides:?}"))
+    say((calls.cut)(&call).answer, |sides| format!("{sides:?}"))
 }

@@ -1,5 +1,5 @@
-//! Document 01's examples, run through the Rust (and, where it has no such check, through the model
-//! of the paper), held against the paper's words.
+//! Document 01's examples, run through the Rust (where it has no such check, through the model of
+//! the paper) and through Netbuff, held against the paper's words.
 
 mod coefficients;
 mod layouts;
@@ -8,45 +8,104 @@ mod reading;
 
 use std::fmt;
 
-use calls::Answer;
+use calls::{
+    Answer, CoefficientBuffers, CoefficientsCall, ColumnCount, ColumnCountCall, Contexts,
+    ContextsCall, CutCall, GroupBuffers, LayoutBuffers, LayoutCall, OrdersCall, Outcome, Store,
+    Transform,
+};
+use jxl_vardct::oracle::Orders;
 
+use crate::expected;
+
+/// Those who answer the examples.
+struct Calls {
+    transform: fn(u32) -> Answer<Transform>,
+    column_count: fn(&ColumnCountCall) -> Answer<ColumnCount>,
+    layout: fn(&LayoutCall) -> Outcome<usize, LayoutBuffers>,
+    cut: fn(&CutCall) -> Outcome<(usize, usize), GroupBuffers>,
+    contexts: fn(&ContextsCall) -> Outcome<usize, Contexts>,
+    orders: fn(&OrdersCall) -> Outcome<usize, Store>,
+    coefficients: fn(&CoefficientsCall, &Orders) -> Outcome<usize, CoefficientBuffers>,
+}
+
+const RUST: Calls = Calls {
+    transform: expected::transform,
+    column_count: expected::column_count,
+    layout: expected::layout,
+    cut: paper::cut,
+    contexts: expected::contexts,
+    orders: expected::orders,
+    coefficients: expected::coefficients,
+};
+
+const NETBUFF: Calls = Calls {
+    transform: |number| ours::transform(&number).answer,
+    column_count: |call| ours::column_count(call).answer,
+    layout: ours::layout,
+    cut: ours::cut,
+    contexts: ours::contexts,
+    orders: ours::orders,
+    coefficients: |call, _| ours::coefficients(call),
+};
+
+/// What the Rust and Netbuff say of an example, and what the paper says.
 pub struct Row {
     example: String,
-    said: String,
-    expected: String,
+    rust: String,
+    netbuff: String,
+    paper: String,
 }
 
 impl Row {
     pub fn differs(&self) -> bool {
-        self.said != self.expected
+        self.rust != self.paper || self.netbuff != self.paper
     }
 }
 
 impl fmt::Display for Row {
     fn fmt(&self, f: &mut fmt::Formatter<'_>) -> fmt::Result {
-        write!(f, "{:<44} {}", self.example, self.said)?;
+        write!(f, "{:<44} {}", self.example, self.netbuff)?;
         if self.differs() {
-            write!(f, " (the paper: {})", self.expected)?;
+            write!(f, " (the Rust: {}; the paper: {})", self.rust, self.paper)?;
         }
         Ok(())
     }
 }
 
 pub fn rows() -> Vec<Row> {
+    let netbuff = said(&NETBUFF).into_iter().map(|said| said.answer);
+    let rows = said(&RUST).into_iter().zip(netbuff);
+    rows.map(|(rust, netbuff)| Row {
+        example: rust.example,
+        rust: rust.answer,
+        netbuff,
+        paper: rust.paper,
+    })
+    .collect()
+}
+
+/// An example as one of them answers it.
+struct Said {
+    example: String,
+    answer: String,
+    paper: String,
+}
+
+fn said(calls: &Calls) -> Vec<Said> {
     let parts = [
-        layouts::rows(),
-        reading::rows(),
-        orders::rows(),
-        coefficients::rows(),
+        layouts::said(calls),
+        reading::said(calls),
+        orders::said(calls),
+        coefficients::said(calls),
     ];
     parts.into_iter().flatten().collect()
 }
 
-fn row(example: impl Into<String>, said: String, expected: impl Into<String>) -> Row {
-    Row {
+fn row(example: impl Into<String>, answer: String, paper: impl Into<String>) -> Said {
+    Said {
         example: example.into(),
-        said,
-        expected: expected.into(),
+        answer,
+        paper: paper.into(),
     }
 }
 

@@ -1,9 +1,10 @@
 use calls::list_start;
 
-use super::{row, say, Row};
-use crate::{expected, make};
+use super::{row, say, Calls, Said};
+use crate::make;
 
-pub fn rows() -> Vec<Row> {
+pub fn said(calls: &Calls) -> Vec<Said> {
+    let begins = |used, symbols: &[u32], order, places| begins(calls, used, symbols, order, places);
     let square = "(0,0) (1,0) (0,1) (0,2) (1,1) (2,0)";
     let flat = "(0,0) (1,0) (0,1) (2,0) (3,0) (1,1)";
     let permuted = "(0,0) (0,1) (1,0) (0,2)";
@@ -25,8 +26,8 @@ pub fn rows() -> Vec<Row> {
 }
 
 /// The first places of an order's list for channel 0.
-fn begins(used: u32, symbols: &[u32], order: usize, places: usize) -> String {
-    let outcome = expected::orders(&make::orders(used, symbols));
+fn begins(calls: &Calls, used: u32, symbols: &[u32], order: usize, places: usize) -> String {
+    let outcome = (calls.orders)(&make::orders(used, symbols));
     let list = &outcome.buffers[list_start(order, 0)..][..2 * places];
     let shown: Vec<_> = list
         .chunks(2)

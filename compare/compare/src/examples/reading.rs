@@ -1,10 +1,11 @@
 use calls::{ColumnCountCall, ContextsCall};
 
-use super::{row, say, Row};
+use super::{row, say, Calls, Said};
 use crate::bits::Bits;
-use crate::expected;
 
-pub fn rows() -> Vec<Row> {
+pub fn said(calls: &Calls) -> Vec<Said> {
+    let contexts = |bytes: &[u8], count, map: &[u8]| contexts(calls, bytes, count, map);
+    let columns = |bytes: &[u8]| columns(calls, bytes);
     let no_lists = Bits::default().put(0, 17).bytes();
     vec![
         row(
@@ -55,27 +56,27 @@ fn bsize_72() -> Vec<u8> {
         .bytes()
 }
 
-fn contexts(bytes: &[u8], count: u32, map: &[u8]) -> String {
+fn contexts(calls: &Calls, bytes: &[u8], count: u32, map: &[u8]) -> String {
     let call = ContextsCall {
         bytes: bytes.to_vec(),
         count,
         map: map.to_vec(),
     };
-    let outcome = expected::contexts(&call);
+    let outcome = (calls.contexts)(&call);
     let clusters = outcome.buffers.count;
     say(outcome.answer, |bits| {
         format!("{clusters} clusters, {bits} bits")
     })
 }
 
-fn columns(bytes: &[u8]) -> String {
+fn columns(calls: &Calls, bytes: &[u8]) -> String {
     let call = ColumnCountCall {
         bytes: bytes.to_vec(),
         width: 24,
         height: 8,
         modes: [0; 3],
     };
-    say(expected::column_count(&call), |read| {
+    say((calls.column_count)(&call), |read| {
         format!("{} columns, {} bits", read.count, read.bits_read)
     })
 }

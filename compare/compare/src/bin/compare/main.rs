@@ -34,7 +34,7 @@ fn show_examples(all: bool) -> bool {
         println!("{row}");
     }
     println!(
-        "examples: {}, {differing} differ from the paper's words",
+        "examples, by the Rust and by Netbuff: {}, {differing} differ from the paper's words",
         rows.len()
     );
     differing == 0
