@@ -1,9 +1,10 @@
 /*
  * Netbuff: layout, filter strengths, block contexts, orders and coefficients of a JPEG XL scan.
  *
- * Every call answers with the number of a refusal, or 0 when it accepted. On a refusal *x and *y
- * receive its position; on 0 they receive 0, 0. Results are handed out through further pointers
- * and are 0 beside a refusal. Lent memory may have any length: each list is a pointer and the
+ * A call that can be refused answers with the refusal's number, or with 0 when it accepted. On a
+ * refusal *x and *y receive its position, on 0 they receive 0, 0; the two reads of bits, which have
+ * no x and y, hand out the bits that they took instead. Results are handed out through further
+ * pointers and are 0 beside a refusal. Lent memory may have any length: each list is a pointer and the
  * number of its elements. A list of no elements may come with any pointer that is not null.
  *
  * Refusals, and the position that goes with each:
@@ -25,7 +26,7 @@
  *   15  symbols end                                                  symbols read, 0
  *   16  count above 63 x blocks                                      symbols read, 0
  *   17  coefficient context 458 or more                              symbols read, 0
- *   18  a lent layout or group is none                               0, 0
+ *   18  a lent layout or group is not one                             0, 0
  */
 #ifndef NETBUFF_H
 #define NETBUFF_H
@@ -170,7 +171,8 @@ bool netbuff_places_fit(const uint16_t *store, size_t store_length);
  * Lengths that fit: wide * high for kinds, hf_mul and each LF grid, NETBUFF_STORE_LENGTH for the
  * store, 495 * num_block_clusters * presets (0 to 256) for the cluster map, 64 * wide * high for each
  * grid, at least 192 * wide * high for the log. Refused: 2, 11, 12, 1, 18, 13 (a stored place), 3, 14:
- * nothing is written; 15, 16, 17: what was added and logged before stays.
+ * nothing is written; 15, 16, 17: what was added and logged before stays, the refused count of 16
+ * logged too. Log bytes behind the symbols read keep their contents.
  */
 uint32_t netbuff_coefficients(size_t wide, size_t high, const uint8_t *kinds, size_t kinds_length,
                               const int32_t *hf_mul, size_t hf_mul_length,

@@ -1,0 +1,51 @@
+//! Holds docs/CLAIMS.md against the repository (the folder above `compare/`): every must-fail edit
+//! that it names exists and every edit that exists is named, every name in backquotes behind a
+//! crate's name stands in that crate, and every compared call is one. Ends with 1 where one does not.
+
+mod repository;
+mod rows;
+
+use std::path::Path;
+
+use repository::Repository;
+use rows::{edits, names, Row};
+
+fn main() -> std::process::ExitCode {
+    let root = Path::new(env!("CARGO_MANIFEST_DIR")).join("../..");
+    let page = std::fs::read_to_string(root.join("docs/CLAIMS.md")).expect("docs/CLAIMS.md");
+    let repository = Repository::read(&root);
+    let rows: Vec<Row> = page.lines().filter_map(Row::read).collect();
+    let problems = problems(&repository, &rows);
+    for problem in &problems {
+        println!("docs/CLAIMS.md: {problem}");
+    }
+    println!("claims: {} rows, {} wrong", rows.len(), problems.len());
+    u8::from(!problems.is_empty()).into()
+}
+
+fn problems(repository: &Repository, rows: &[Row]) -> Vec<String> {
+    let mut problems = Vec::new();
+    let mut named = Vec::new();
+    for row in rows {
+        for (name, label) in edits(row.edits) {
+            if repository.has_edit(name, label) {
+                named.push((name, label));
+            } else {
+                problems.push(format!("no edit {label} of {name}"));
+            }
+        }
+        for (name, word) in names(row.promise, |word| repository.has_crate(word)) {
+            if !repository.has_word(name, word) {
+                problems.push(format!("{word} does not stand in {name}"));
+            }
+        }
+        for (_, call) in names(row.test, |word| word == "compare") {
+            if !repository.compares(call) {
+                problems.push(format!("no compared call {call}"));
+            }
+        }
+    }
+    let unnamed = repository.edits().filter(|edit| !named.contains(edit));
+    problems.extend(unnamed.map(|(name, label)| format!("{label} of {name} is not named")));
+    problems
+}

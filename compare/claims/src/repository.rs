@@ -1,0 +1,94 @@
+use std::collections::{BTreeMap, BTreeSet};
+use std::fs;
+use std::path::Path;
+
+/// The crates of the repository, with what the page may name of them.
+pub struct Repository {
+    crates: BTreeMap<String, Crate>,
+    calls: BTreeSet<String>,
+}
+
+#[derive(Default)]
+struct Crate {
+    edits: BTreeSet<String>,
+    words: BTreeSet<String>,
+}
+
+impl Repository {
+    pub fn read(root: &Path) -> Self {
+        let folders = fs::read_dir(root.join("crates")).expect("crates/");
+        let crates = folders.map(|folder| {
+            let path = folder.expect("a folder").path();
+            let name = path.file_name().expect("a name").to_string_lossy();
+            (name.into_owned(), Crate::read(&path))
+        });
+        let mut calls = BTreeSet::new();
+        each_file(&root.join("compare/compare/src/cases"), &mut |path| {
+            let text = fs::read_to_string(path).expect("text");
+            let named = text.split("NAME: &'static str = \"").skip(1);
+            calls.extend(named.filter_map(|rest| rest.split('"').next().map(String::from)));
+        });
+        Self {
+            crates: crates.collect(),
+            calls,
+        }
+    }
+
+    pub fn has_crate(&self, name: &str) -> bool {
+        self.crates.contains_key(name)
+    }
+
+    pub fn has_edit(&self, name: &str, label: &str) -> bool {
+        let found = self.crates.get(name);
+        found.is_some_and(|found| found.edits.contains(label))
+    }
+
+    pub fn has_word(&self, name: &str, word: &str) -> bool {
+        let found = self.crates.get(name);
+        found.is_some_and(|found| found.words.contains(word))
+    }
+
+    pub fn compares(&self, call: &str) -> bool {
+        self.calls.contains(call)
+    }
+
+    pub fn edits(&self) -> impl Iterator<Item = (&str, &str)> {
+        self.crates.iter().flat_map(|(name, found)| {
+            let labels = found.edits.iter();
+            labels.map(move |label| (name.as_str(), label.as_str()))
+        })
+    }
+}
+
+impl Crate {
+    fn read(folder: &Path) -> Self {
+        let mut found = Self::default();
+        each_file(&folder.join("must-fail"), &mut |path| {
+            let label = path.file_stem().expect("a name").to_string_lossy();
+            found.edits.insert(label.into_owned());
+        });
+        for part in ["src", "specs"] {
+            each_file(&folder.join(part), &mut |path| {
+                let text = fs::read_to_string(path).expect("text");
+                let part_of_name = |c: char| c.is_alphanumeric() || c == '_' || c == '-';
+                let words = text.split(|c| !part_of_name(c));
+                found.words.extend(words.map(String::from));
+            });
+        }
+        found
+    }
+}
+
+/// All files of a folder and those below it; none where there is no such folder.
+fn each_file(folder: &Path, visit: &mut dyn FnMut(&Path)) {
+    let Ok(entries) = fs::read_dir(folder) else {
+        return;
+    };
+    for path in entries.map(|entry| entry.expect("an entry").path()) {
+        if path.is_dir() {
+            each_file(&path, visit);
+        } else {
+            visit(&path);
+        }
+    }
+}
