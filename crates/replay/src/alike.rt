@@ -3,8 +3,8 @@ use crate::answer::refuse;
 use crate::lent::length;
 use likeness::LikeAnswer;
 use likeness::alike;
-use recorded::list::bytes;
-use recorded::list::list;
+use recorded_lists::list::bytes;
+use recorded_lists::list::list;
 
 fn put(out: &mut [usize; 48], answer: LikeAnswer) {
     match answer {

@@ -13,11 +13,11 @@ use crate::store;
 use block_check::Group;
 use hf_coeff::CoeffAnswer;
 use hf_coeff::write_hf_coeff;
-use recorded::digest::of_bytes;
-use recorded::digest::of_words;
-use recorded::list::bytes;
-use recorded::list::list;
-use recorded::list::number;
+use recorded_answers::digest::of_bytes;
+use recorded_answers::digest::of_words;
+use recorded_lists::list::bytes;
+use recorded_lists::list::list;
+use recorded_lists::list::number;
 
 fn put(out: &mut [usize; 48], answer: CoeffAnswer) {
     match answer {

@@ -2,8 +2,8 @@
 use crate::answer::refuse;
 use column_count::ColumnCount;
 use column_count::column_count;
-use recorded::list::bytes;
-use recorded::list::number;
+use recorded_lists::list::bytes;
+use recorded_lists::list::number;
 
 fn put(out: &mut [usize; 48], answer: ColumnCount) {
     match answer {

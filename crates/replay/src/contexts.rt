@@ -3,10 +3,10 @@ use crate::answer::refuse;
 use block_context::HfBlockContext;
 use hf_block_context::ContextAnswer;
 use hf_block_context::parse;
-use recorded::digest::of_bytes;
-use recorded::digest::of_words;
-use recorded::list::bytes;
-use recorded::list::number;
+use recorded_answers::digest::of_bytes;
+use recorded_answers::digest::of_words;
+use recorded_lists::list::bytes;
+use recorded_lists::list::number;
 
 fn put(out: &mut [usize; 48], answer: ContextAnswer) {
     match answer {

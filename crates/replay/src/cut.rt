@@ -6,10 +6,10 @@ use crate::lent::fit_words;
 use crate::lent::length;
 use block_record::cut::CutAnswer;
 use block_record::cut::cut;
-use recorded::digest::of_bytes;
-use recorded::digest::of_words;
-use recorded::list::bytes;
-use recorded::list::list;
+use recorded_answers::digest::of_bytes;
+use recorded_answers::digest::of_words;
+use recorded_lists::list::bytes;
+use recorded_lists::list::list;
 
 fn put(out: &mut [usize; 48], answer: CutAnswer) {
     match answer {

@@ -9,10 +9,10 @@ use crate::lent::length;
 use filter_strength::Filter;
 use hf_metadata::LayoutAnswer;
 use hf_metadata::layout;
-use recorded::digest::of_bytes;
-use recorded::digest::of_words;
-use recorded::list::list;
-use recorded::list::number;
+use recorded_answers::digest::of_bytes;
+use recorded_answers::digest::of_words;
+use recorded_lists::list::list;
+use recorded_lists::list::number;
 
 fn put(out: &mut [usize; 48], answer: LayoutAnswer) {
     match answer {

@@ -1,5 +1,5 @@
 // What a record lends.
-use recorded::list::number;
+use recorded_lists::list::number;
 ghost use Rattle.io.specs.Counts.{Counts};
 
 // A number of a record as a length.

@@ -1,7 +1,7 @@
 // Makes the calls of a recorded list again, and compares the answers with those that were recorded
 // (compare/RECORD.md). The list is the file `answers.bin`.
-use recorded::list::number;
-use recorded::words::decode;
+use recorded_lists::list::number;
+use recorded_words::decode;
 ghost use Rattle.io.specs.Counts.{Counts};
 
 mod alike;

@@ -5,9 +5,9 @@ use crate::lent::length;
 use hf_pass::OrdersAnswer;
 use hf_pass::parse;
 use hf_pass_store::order;
-use recorded::digest::of_shorts;
-use recorded::list::bytes;
-use recorded::list::list;
+use recorded_answers::digest::of_shorts;
+use recorded_lists::list::bytes;
+use recorded_lists::list::list;
 
 fn put(out: &mut [usize; 48], answer: OrdersAnswer) {
     match answer {

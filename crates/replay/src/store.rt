@@ -2,9 +2,9 @@
 use crate::lent::length;
 use hf_pass::OrdersAnswer;
 use hf_pass::parse;
-use recorded::list::bytes;
-use recorded::list::list;
-use recorded::list::number;
+use recorded_lists::list::bytes;
+use recorded_lists::list::list;
+use recorded_lists::list::number;
 
 fn is_accepted(answer: OrdersAnswer) -> bool {
     match answer {

@@ -2,7 +2,7 @@
 use crate::answer::refuse;
 use dct_select::Looked;
 use dct_select::TransformType;
-use recorded::list::number;
+use recorded_lists::list::number;
 
 fn put_transform(out: &mut [usize; 48], t: TransformType) {
     let size = t.dct_select_size();

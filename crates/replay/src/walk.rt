@@ -9,8 +9,8 @@ use crate::group_layout;
 use crate::names;
 use crate::orders;
 use crate::transform;
-use recorded::frame::Frame;
-use recorded::frame::next;
+use recorded_lists::frame::Frame;
+use recorded_lists::frame::next;
 
 // The part of the file that holds the numbers from start to end.
 fn bytes_of(file: &[u8], start: usize, end: usize) -> &[u8] {
