@@ -1,23 +1,10 @@
 // Makes the calls of a recorded list again, and compares the answers with those that were recorded
 // (compare/RECORD.md). The list is the file `answers.bin`.
-use recorded::list::number;
-use recorded::words::decode;
+use recorded_lists::list::number;
+use recorded_words::decode;
 ghost use Rattle.io.specs.Counts.{Counts};
 
-mod alike;
-mod answer;
-mod coefficients;
-mod columns;
-mod contexts;
-mod cut;
-mod floats;
-mod group_layout;
-mod lent;
 mod names;
-mod orders;
-mod record;
-mod store;
-mod transform;
 mod walk;
 
 // The bytes of the list, none where it cannot be read.

@@ -1,0 +1,24 @@
+// The comparison of what a call gave with what was recorded.
+use crate::wide;
+ghost use mathlib.Core.Path.{_≡_};
+ghost use Prim.Native.Nat.{_≤_};
+ghost use lib.ListN.{length};
+ghost use Rattle.recorded_answers.specs.Compare.{common};
+
+// How many numbers agree before the first that does not.
+pub fn agreeing(theirs: &[u32], mine: &[usize]) -> usize
+    ensures { λ r. ⌜ r ≡ common (now (theirs .entry)) (now (mine .entry)) ⌝ }
+    ensures { λ r. ⌜ (r ≤ length (now (theirs .entry))) × (r ≤ length (now (mine .entry))) ⌝ }
+{
+    let mut i = 0;
+    while i < mine.len() {
+        if theirs.len() <= i {
+            return i;
+        }
+        if wide(theirs[i]) != mine[i] {
+            return i;
+        }
+        i += 1;
+    }
+    i
+}

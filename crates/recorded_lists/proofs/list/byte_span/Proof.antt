@@ -1,0 +1,75 @@
+use Rattle.recorded_lists.specs.ListsLaws.{in-room, no-room}
+use borrow.Author.Tests.{lt-leb, le-leb, leb-false}
+use borrow.Author.Needs.{needs}
+use native.Mathlib.Omega.{arith}
+use mathlib.Core.Path.{refl}
+use Prim.Native.Nat.{_+_, _*_, _/_, _-_, _≤_}
+use lib.ListN.{getD}
+use Rattle.recorded_lists.proofs.list.byte_span.Statement.{statement}
+use Rattle.recorded_lists.proofs.list.byte_span.Tie as tie
+use Rattle.recorded_lists.proofs.list.has_room.Reads as has-room-reads
+use Rattle.recorded_lists.proofs.list.second.Reads as second-reads
+use Rattle.recorded_lists.proofs.wide.Reads as wide-reads
+
+has-room-requires : tie.Need-has-room-requires
+has-room-requires c κs = search needs
+
+returns : tie.Need-returns
+returns c =
+    let a = c .before .before .before .args in
+    let f = c .before .has-room in
+    let l = leb-false (a .at + 2 + 0) (a .bytes / 4) (no-room (f .result) (a .at) 0 0 (a .bytes / 4) (f .ensures) refl (c .if1 .taken)) in
+    (rw (lt-leb (4 * (a .at + 2) + getD (a .words .now) (a .at + 1) 0) (a .bytes) (omega (arith, l))), (omega arith, omega arith))
+
+-- the head ends in the bytes
+head : (c : tie.Else1) → 4 * (c .before .before .before .args .at + 2) ≤ c .before .before .before .args .bytes
+head c =
+    let a = c .before .before .before .args in
+    let f = c .before .has-room in
+    let l = in-room (f .result) (a .at) 0 0 (a .bytes / 4) (f .ensures) refl (c .if1 .left) in
+    omega (arith, l)
+
+second-requires : tie.Need-second-requires
+second-requires c κs = search needs
+
+wide-requires : tie.Need-wide-requires
+wide-requires c κs = search needs
+
+add-start : tie.Need-add-start
+add-start c = omega (arith, head (c .before .before))
+
+mul-start : tie.Need-mul-start
+mul-start c = omega (arith, head (c .before .before))
+
+sub-if2 : tie.Need-sub-if2
+sub-if2 c = omega (arith, head (c .before .before))
+
+returns-2 : tie.Need-returns-2
+returns-2 c =
+    let a = c .before .before .before .before .before .before .args in
+    let n = getD (a .words .now) (a .at + 1) 0 in
+    (rw (lt-leb (4 * (a .at + 2) + n) (a .bytes) (omega (arith, head (c .before .before .before), c .before .wide .ensures .0, c .before .before .second .ensures))), (omega arith, omega arith))
+
+add-t7 : tie.Need-add-t7
+add-t7 c = omega (arith, head (c .before .before .before))
+
+returns-3 : tie.Need-returns-3
+returns-3 c =
+    let a = c .before .before .before .before .before .before .args in
+    let n = getD (a .words .now) (a .at + 1) 0 in
+    (rw (c .before .wide .ensures .0, c .before .before .second .ensures, le-leb (4 * (a .at + 2) + n) (a .bytes) (omega (arith, head (c .before .before .before), c .before .wide .ensures .0, c .before .before .second .ensures))), (omega arith, omega (arith, head (c .before .before .before))))
+
+pub byte-span-spec : {M : Type 1} → statement M
+byte-span-spec =
+    tie.close
+    (tie.spec
+    has-room-requires
+    returns
+    second-requires
+    wide-requires
+    add-start
+    mul-start
+    sub-if2
+    returns-2
+    add-t7
+    returns-3)

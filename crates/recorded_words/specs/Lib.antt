@@ -1,0 +1,3 @@
+-- a file's bytes as numbers
+pub mod Words
+pub mod WordsLaws
