@@ -1,4 +1,4 @@
--- How many bits number so many things (document 01, Layout's column count and Coefficients' preset number).
+-- How many bits tell so many things apart (document 01, Layout's column count and Coefficients' preset number).
 use mathlib.Core.Path.{_≡_, refl, ap, _∙_}
 use mathlib.Core.Bool.{Bool, true, false, cond}
 use mathlib.Core.Logic.{_⊎_, inl, inr}

@@ -36,8 +36,8 @@ fn largest(map: &[u8]) -> u8
     found
 }
 
-// Every byte is below the count: none is, or the largest. (No way out of the loop: it runs many
-// bytes at a time.)
+// Every byte is below the count: there is none, or the largest is below it. The loop has no early
+// exit, so that many bytes are taken at a time.
 pub fn all_below(map: &[u8], count: u32) -> bool
     ensures { λ r. ⌜ r ≡ bytesBelow count (now (map .entry)) ⌝ }
 {

@@ -3,9 +3,9 @@ use block_context::sizes::lf_size;
 use block_context::sizes::used;
 ghost use mathlib.Core.Path.{_≡_};
 ghost use mathlib.Core.Bool.{cond};
-ghost use Prim.Native.Nat.{min, _+_, _*_, _≤_, _<_};
+ghost use Prim.Native.Nat.{_+_, _*_, _≤_, _<_};
 ghost use lib.ListN.{length, take, drop, getD};
-ghost use Rattle.block_context_index.specs.Contexts.{sizeOf, above, greater, lfIndexIn, placeOf, blockContexts};
+ghost use Rattle.block_context_index.specs.Contexts.{above, greater, lfIndexIn, placeOf, blockContexts};
 ghost use Rattle.block_context_index.specs.Lists.{lfList, lists};
 
 // 1 if a > b as signed numbers.

@@ -15,8 +15,8 @@ use Rattle.refusal.specs.declared.Refusal.the-variants.{UnknownTransform, HfMul
 use Rattle.dct_select.specs.Transforms.{COUNT, wide, high}
 use Rattle.layout.specs.Grid.{at}
 use Rattle.filter_strength.specs.declared.Filter.{Filter}
-use Rattle.filter_strength.specs.Strength.{sharedFilter}
-use Rattle.varblock_scan.specs.declared.Fault.{Fault}
+use Rattle.filter_strength.specs.Strength.{dividedFilter}
+use Rattle.varblock_scan.specs.declared.Scanned.{Scanned}
 use Rattle.layout_column.specs.declared.Judged.{Judged}
 use Rattle.layout_column.specs.declared.Judged.the-variants.{Asks, Refused as NotAsked}
 use Rattle.layout_reading.specs.declared.column.Step.{Step}
@@ -40,13 +40,13 @@ stepped (GoesOn used) kinds muls sigma = Going (stateOf used kinds muls sigma)
 stepped (Stops r) kinds muls sigma = Stopped (said r)
 
 module _ (bw bh : ℕ) (filter : Filter) (lookups : List Float) (sharpness : List ℕ) (kind h w n x y : ℕ) (p : Placed) where
-  pub place-by : (f g : Fault) (share : Filter) (k : List ℕ) (s : List Float) → share ≡ sharedFilter filter h
-      → scanned f k s ≡ scan bw bh share lookups sharpness x y w n (Taking (p .kinds) (p .sigma)) → f ≡ g
+  pub place-by : (f g : Scanned) (divided : Filter) (k : List ℕ) (s : List Float) → divided ≡ dividedFilter filter h
+      → scanned f k s ≡ scan bw bh divided lookups sharpness x y w n (Taking (p .kinds) (p .sigma)) → f ≡ g
       → placed bw bh filter lookups sharpness kind h x y p (scanned g k s) ≡ place bw bh filter lookups sharpness kind h w n x y p
   unfolding place
-  place-by f g share k s q e d =
+  place-by f g divided k s q e d =
       ap (λ (z : Scan). placed bw bh filter lookups sharpness kind h x y p z)
-      (sym (ap (λ (z : Fault). scanned z k s) d) ∙ e
+      (sym (ap (λ (z : Scanned). scanned z k s) d) ∙ e
       ∙ ap (λ (z : Filter). scan bw bh z lookups sharpness x y w n (Taking (p .kinds) (p .sigma))) q)
 
 module _ (J : Job) (x y : ℕ) (p : Placed) where

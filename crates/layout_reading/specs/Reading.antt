@@ -11,7 +11,7 @@ use Rattle.dct_select.specs.Transforms.{COUNT, wide, high}
 use Rattle.layout.specs.Walk.{walk}
 use Rattle.layout.specs.Grid.{at}
 use Rattle.filter_strength.specs.declared.Filter.{Filter}
-use Rattle.filter_strength.specs.Strength.{zero32, sharedFilter}
+use Rattle.filter_strength.specs.Strength.{zero32, dividedFilter}
 use Rattle.layout_column.specs.Columns.{lowBits, hfMulOf, positive}
 use Rattle.varblock_scan.specs.Scan.{Scan, Taking, Left, scan}
 
@@ -55,7 +55,7 @@ module _ (bw bh : ℕ) (filter : Filter) (lookups : List Float) (sharpness : Lis
 
   -- a varblock of w x n blocks at the free block (x, y)
   unfoldable pub place : ℕ → ℕ → ℕ → ℕ → ℕ → ℕ → Placed → Reading
-  place kind h w n x y p = placed kind h x y p (scan bw bh (sharedFilter filter h) lookups sharpness x y w n (Taking (p .kinds) (p .sigma)))
+  place kind h w n x y p = placed kind h x y p (scan bw bh (dividedFilter filter h) lookups sharpness x y w n (Taking (p .kinds) (p .sigma)))
 
 module _ (J : Job) where
   abbrev pub placeIn : ℕ → ℕ → ℕ → ℕ → ℕ → ℕ → Placed → Reading

@@ -9,7 +9,7 @@ use Rattle.layout.specs.Walk.{walk}
 use Rattle.layout.specs.Grid.{at}
 use Rattle.filter_strength.specs.declared.Filter.{Filter}
 use Rattle.filter_strength.specs.declared.Filter.the-variants.{Off, On}
-use Rattle.filter_strength.specs.Strength.{looked}
+use Rattle.filter_strength.specs.Strength.{timesLookUp}
 
 -- Taking k s: kinds and sigma, the cells so far taken. Left n cx cy: refused with n by the cell (cx, cy).
 pub data Scan : Type 0 where
@@ -20,12 +20,12 @@ abbrev pub isOn : Filter → Bool
 isOn Off = false
 isOn (On q) = true
 
--- sigma with the cell i of a varblock whose share is q; filter off: sharpness unread, sigma stays +0.0
+-- sigma with the cell i of a varblock whose divided is q; filter off: sharpness unread, sigma stays +0.0
 abbrev pub sigmaWith : Filter → List Float → List ℕ → List Float → ℕ → List Float
 sigmaWith Off lookups sharpness sigma i = sigma
-sigmaWith (On q) lookups sharpness sigma i = set sigma i (looked q lookups (getD sharpness i 0))
+sigmaWith (On q) lookups sharpness sigma i = set sigma i (timesLookUp q lookups (getD sharpness i 0))
 
--- the filter carries the varblock's share of the multiplier
+-- the filter carries the varblock's divided of the multiplier
 module _ (bw bh : ℕ) (filter : Filter) (lookups : List Float) (sharpness : List ℕ) where
   -- outside the grid, already taken, or (filter on) sharpness not 0 to 7; else taken
   unfoldable pub takeCell : ℕ → ℕ → Scan → Scan

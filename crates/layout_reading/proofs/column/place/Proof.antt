@@ -5,20 +5,20 @@ use native.Mathlib.Omega.{arith}
 use Rattle.layout_reading.proofs.column.place.Statement.{statement}
 use Rattle.layout_reading.proofs.column.place.Tie as tie
 
-shared-by-requires : tie.Need-shared-by-requires
-shared-by-requires c κs = search needs
+divided-by-requires : tie.Need-divided-by-requires
+divided-by-requires c κs = search needs
 
 scan-requires : tie.Need-scan-requires
 scan-requires c κs = search needs
 
-enum-known-fault : tie.Need-enum-known-fault
-enum-known-fault c = search needs
+enum-known-outcome : tie.Need-enum-known-outcome
+enum-known-outcome c = search needs
 
-enum-known-fault-2 : tie.Need-enum-known-fault-2
-enum-known-fault-2 c = search needs
+enum-known-outcome-2 : tie.Need-enum-known-outcome-2
+enum-known-outcome-2 c = search needs
 
-enum-known-fault-3 : tie.Need-enum-known-fault-3
-enum-known-fault-3 c = search needs
+enum-known-outcome-3 : tie.Need-enum-known-outcome-3
+enum-known-outcome-3 c = search needs
 
 enum-told : tie.Need-enum-told
 enum-told c = search needs
@@ -61,9 +61,9 @@ returns : tie.Need-returns
 returns c =
     let a = c .before .before .before .before .before .before .before .before .before .before .before .before .before .before .before .args in
     let v = c .before .before .before .before .before .before .before .scan in
-    let q = c .before .before .before .before .before .before .before .before .before .before .shared-by in
+    let q = c .before .before .before .before .before .before .before .before .before .before .divided-by in
     place-by (a .bw) (a .bh) (a .filter) (a .lookups .now) (a .sharpness .now) (a .v .kind) (a .v .«hf_mul») (a .v .wide) (a .v .high) (a .x) (a .y) (stateOf (a .used) (a .kinds .now) (a .hf-mul .now) (a .sigma .now))
-    (v .result) _ (q .result) (v .last .0) (v .last .1 .0) (q .ensures) (v .ensures) (c .before .fault .given .1)
+    (v .result) _ (q .result) (v .last .0) (v .last .1 .0) (q .ensures) (v .ensures) (c .before .outcome .given .1)
 
 same-length-3 : tie.Need-same-length-3
 same-length-3 c = search needs
@@ -75,9 +75,9 @@ returns-2 : tie.Need-returns-2
 returns-2 c =
     let a = c .before .before .before .before .before .before .before .before .before .before .before .before .before .before .before .args in
     let v = c .before .before .before .before .before .before .before .scan in
-    let q = c .before .before .before .before .before .before .before .before .before .before .shared-by in
+    let q = c .before .before .before .before .before .before .before .before .before .before .divided-by in
     place-by (a .bw) (a .bh) (a .filter) (a .lookups .now) (a .sharpness .now) (a .v .kind) (a .v .«hf_mul») (a .v .wide) (a .v .high) (a .x) (a .y) (stateOf (a .used) (a .kinds .now) (a .hf-mul .now) (a .sigma .now))
-    (v .result) _ (q .result) (v .last .0) (v .last .1 .0) (q .ensures) (v .ensures) (c .before .fault2 .given .1)
+    (v .result) _ (q .result) (v .last .0) (v .last .1 .0) (q .ensures) (v .ensures) (c .before .outcome2 .given .1)
 
 same-length-5 : tie.Need-same-length-5
 same-length-5 c = search needs
@@ -89,9 +89,9 @@ returns-3 : tie.Need-returns-3
 returns-3 c =
     let a = c .before .before .before .before .before .before .before .before .before .before .before .before .before .before .before .args in
     let v = c .before .before .before .before .before .before .before .scan in
-    let q = c .before .before .before .before .before .before .before .before .before .before .shared-by in
+    let q = c .before .before .before .before .before .before .before .before .before .before .divided-by in
     place-by (a .bw) (a .bh) (a .filter) (a .lookups .now) (a .sharpness .now) (a .v .kind) (a .v .«hf_mul») (a .v .wide) (a .v .high) (a .x) (a .y) (stateOf (a .used) (a .kinds .now) (a .hf-mul .now) (a .sigma .now))
-    (v .result) _ (q .result) (v .last .0) (v .last .1 .0) (q .ensures) (v .ensures) (c .before .fault3 .given .1)
+    (v .result) _ (q .result) (v .last .0) (v .last .1 .0) (q .ensures) (v .ensures) (c .before .outcome3 .given .1)
 
 same-length-7 : tie.Need-same-length-7
 same-length-7 c = search needs
@@ -106,7 +106,7 @@ returns-4 : tie.Need-returns-4
 returns-4 c =
     let a = c .before .before .before .before .before .before .before .before .before .before .before .before .before .before .args in
     let v = c .before .before .before .before .before .before .scan in
-    let q = c .before .before .before .before .before .before .before .before .before .shared-by in
+    let q = c .before .before .before .before .before .before .before .before .before .divided-by in
     place-by (a .bw) (a .bh) (a .filter) (a .lookups .now) (a .sharpness .now) (a .v .kind) (a .v .«hf_mul») (a .v .wide) (a .v .high) (a .x) (a .y) (stateOf (a .used) (a .kinds .now) (a .hf-mul .now) (a .sigma .now))
     (v .result) _ (q .result) (v .last .0) (v .last .1 .0) (q .ensures) (v .ensures) (c .enum-told .given .1)
 
@@ -114,11 +114,11 @@ pub place-spec : {M : Type 1} → statement M
 place-spec =
     tie.close
     (tie.spec
-    shared-by-requires
+    divided-by-requires
     scan-requires
-    enum-known-fault
-    enum-known-fault-2
-    enum-known-fault-3
+    enum-known-outcome
+    enum-known-outcome-2
+    enum-known-outcome-3
     enum-told
     mul-i
     add-i
