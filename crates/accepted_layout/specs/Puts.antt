@@ -124,7 +124,7 @@ module _ (J : Job) (x y : ℕ) (p q : Placed) (lk : length (p .kinds) ≡ J .bh 
         going : (u v : Placed) → Going u ≡ Going v → u ≡ v
         going u v i = cc
 
-        go : (s : Scan) → scanned ≡ s → placed (J .bw) (J .bh) (J .filter) (J .lookups) (J .sharpness) (2 + t) h x y p s ≡ Going q → Column J x y p q t h
+        go : (s : Scan) → scanned ≡ s → placed (J .bw) (2 + t) h x y p s ≡ Going q → Column J x y p q t h
         go (Left n i j) g i′ = absurd (let z : _≡_ {A = ℕ} 0 1 = cc in omega arith)
         go (Taking k s) g i′ = put k s g (sym (going _ q i′))
 

@@ -76,7 +76,7 @@ module _ (J : Job) where
         go (scan (J .bw) (J .bh) (dividedFilter (J .filter) h) (J .lookups) (J .sharpness) x y w n (Taking (p .kinds) (p .sigma)))
         (scan-left (J .bw) (J .bh) (dividedFilter (J .filter) h) (J .lookups) (J .sharpness) x y w n (Taking (p .kinds) (p .sigma)) tt)
       where
-        go : (s : Scan) → LeftWell s → Well (placed (J .bw) (J .bh) (J .filter) (J .lookups) (J .sharpness) kind h x y p s)
+        go : (s : Scan) → LeftWell s → Well (placed (J .bw) kind h x y p s)
         go (Taking k s) q = tt
         go (Left m a b) q = at-block m (omega arith) (omega arith)
 

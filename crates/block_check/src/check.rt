@@ -10,7 +10,7 @@ ghost use Prim.Native.Nat.{_+_, _*_, _≤_, _<_};
 ghost use lib.ListN.{length};
 ghost use Rattle.dct_select.specs.LookUp.{sides};
 ghost use Rattle.layout.specs.Kinds.{wideOf, highOf};
-ghost use Rattle.layout.specs.Grid.{paint};
+ghost use Rattle.layout.specs.Grid.{fillFrom};
 ghost use Rattle.layout.specs.Check.{Fault, Until, clear, fitting, visitCell, isLayout};
 ghost use Rattle.block_check.specs.Sizes.{widths, heights};
 ghost use Rattle.block_check.specs.Calls.{inLimits, lengthsFit, saidCheck, checkOf};
@@ -110,7 +110,7 @@ fn is_clear(until: &[usize; 256], y: usize, x: usize, n: usize) -> bool
 // The columns x to x + n - 1 are now covered up to row v.
 fn raise(until: &mut [usize; 256], x: usize, n: usize, v: usize)
     requires { ⌜ x + n ≤ 256 ⌝ }
-    ensures { λ r. ⌜ now (until .exit) ≡ paint (now (until .entry)) x n v ⌝ }
+    ensures { λ r. ⌜ now (until .exit) ≡ fillFrom (now (until .entry)) x n v ⌝ }
 {
     let e = x + n;
     let mut i = x;

@@ -7,7 +7,8 @@ ghost use Prim.Native.Nat.{max, _≤_};
 ghost use lib.ListN.{take};
 ghost use Rattle.laws.specs.Tables.{every};
 ghost use Rattle.block_context.specs.Largest.{largestFrom};
-ghost use Rattle.block_context.specs.Record.{cappedBsize, qfFit, bytesBelow, fit};
+ghost use Rattle.block_context.specs.Record.{qfFit, bytesBelow, fit};
+ghost use Rattle.block_context.specs.Laws.{cappedBsize};
 
 fn wide(x: u8) -> u32
     ensures { λ r. ⌜ r ≡ x ⌝ }

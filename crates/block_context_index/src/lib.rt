@@ -114,7 +114,7 @@ pub fn block_contexts<'a>(
     q1: u32,
     q2: u32,
 ) -> [usize; 3]
-    ensures { λ r. ⌜ r ≡ blockContexts (lists 0 lengths (now («lf_thresholds» .entry)) (now («qf_thresholds» .entry)) (now («block_ctx_map» .entry))) order «hf_mul» «lf_there» q0 q1 q2 ⌝ }
+    ensures { λ r. ⌜ r ≡ blockContexts (lists lengths (now («lf_thresholds» .entry)) (now («qf_thresholds» .entry)) (now («block_ctx_map» .entry))) order «hf_mul» «lf_there» q0 q1 q2 ⌝ }
 {
     let qf = qf_index(&qf_thresholds[..], lengths, hf_mul);
     let lf = lf_index_of(&lf_thresholds[..], lengths, lf_there, q0, q1, q2);

@@ -1,11 +1,11 @@
 -- Filter strength of a block (document 01, Layout and filter strength): in f32, each step rounded once,
 -- multiplier × 65536, / scale, / hf_mul, × look-up[sharpness].
 use mathlib.Core.Path.{_≡_, refl, ap}
-use mathlib.Core.Bool.{Bool, true, false}
+use mathlib.Core.Bool.{false}
 use mathlib.Core.List.{List, [], _∷_}
 use Prim.Native.Nat.{ℕ}
 use native.Mathlib.Omega.{arith}
-use lib.IntN.{ℤ, pos, negsuc}
+use lib.IntN.{pos, negsuc}
 use lib.ListN.{getD}
 use lib.Ieee.{Float, fin, nan, binary32, mul, div, ofInt, round, size, span, climb, units, odd}
 use lib.Count.{trailingZeros}
@@ -48,7 +48,7 @@ unfoldable pub dividedFilter : Filter → ℕ → Filter
 dividedFilter Off h = Off
 dividedFilter (On a) h = On (divided a h)
 
--- so sigma is the varblock's share × look-up[sharpness]
+-- so sigma is the divided multiplier × look-up[sharpness]
 pub sigma-steps : (f : Filter) (scale h : ℕ) (lookups : List Float) (sharpness : ℕ) (q : Float) → dividedFilter (scaledFilter f scale) h ≡ On q
     → timesLookUp q lookups sharpness ≡ sigmaOf f scale h lookups sharpness
 unfolding scaledFilter dividedFilter sigmaOf

@@ -17,7 +17,7 @@ use Rattle.block_context.specs.Record.{bsizeOf, bytesBelow}
 use Rattle.hf_block_context.specs.declared.ContextResult.{ContextResult}
 use Rattle.thresholds.specs.declared.ListStep.the-variants as listStep
 use Rattle.thresholds.specs.declared.Thresholds.{Thresholds}
-use Rattle.thresholds.specs.Reading.{Reading, Is, Short, andThen, Lists, listsOf, lfValue, qfValue, readList, readLists, pad}
+use Rattle.thresholds.specs.Reading.{Reading, Is, Short, andThen, listsOf, lfValue, qfValue, readList, readLists, pad}
 use Rattle.hf_block_context.specs.Call.{recordOf, stored, accepted, refused, judged, judgedLists, orEnded, noLists, DEFAULT-MAP, parsed}
 use Rattle.thresholds.specs.Steps.{thresholdsOf}
 use Rattle.thresholds.specs.ListLaws.{list-near}

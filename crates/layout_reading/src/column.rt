@@ -9,8 +9,7 @@ use varblock_scan::scan;
 ghost use mathlib.Core.Path.{_≡_};
 ghost use Prim.Native.Nat.{_+_, _*_, _≤_, _<_};
 ghost use lib.ListN.{length};
-ghost use Rattle.layout_reading.specs.Reading.{Going, place as placeOf, visit as visitOf};
-ghost use Rattle.layout_reading.specs.Places.{stateOf, stepped, jobWith};
+ghost use Rattle.layout_reading.specs.Reading.{Going, place as placeOf, visit as visitOf, stateOf, stepped, jobWith};
 
 // The reading goes on with that many columns used, or stops.
 pub enum Step {

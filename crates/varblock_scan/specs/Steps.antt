@@ -1,34 +1,20 @@
--- The scan as the code goes.
-use mathlib.Core.Path.{_≡_, refl, ap, sym, _∙_}
-use mathlib.Core.Bool.{Bool, true, false, _&&_}
+-- Laws on the scan, cell by cell.
+use mathlib.Core.Path.{_≡_, refl}
+use mathlib.Core.Bool.{true, false}
 use mathlib.Core.List.{List}
 use Prim.Native.Nat.{ℕ, _+_, _*_, _≤_, _<_}
 use native.Mathlib.Omega.{arith}
-use lib.ListN.{getD, set}
+use lib.ListN.{set}
 use lib.Ieee.{Float}
 use borrow.Author.Tests.{lt-ltb, le-ltb, le-leb, lt-leb}
-use Rattle.layout.specs.Walk.{walk}
 use Rattle.layout.specs.Grid.{at}
 use Rattle.filter_strength.specs.declared.Filter.{Filter}
 use Rattle.filter_strength.specs.declared.Filter.the-variants.{Off, On}
 use Rattle.filter_strength.specs.Strength.{timesLookUp}
 use Rattle.varblock_scan.specs.declared.Scanned.{Scanned}
 use Rattle.varblock_scan.specs.declared.Scanned.the-variants.{Taken, Outside, Overlap, Sharpness}
-use Rattle.varblock_scan.specs.Scan.{Scan, Taking, Left, takeCell, scan}
-use Rattle.varblock_scan.specs.Loops.{rowsLeft, cellsLeft, loop-start}
-
--- the scan that a outcome stands for, by kinds and sigma
-abbrev pub scanned : Scanned → List ℕ → List Float → Scan
-scanned Taken kinds sigma = Taking kinds sigma
-scanned (Outside cx cy) kinds sigma = Left 9 cx cy
-scanned (Overlap cx cy) kinds sigma = Left 8 cx cy
-scanned (Sharpness cx cy) kinds sigma = Left 10 cx cy
-
-abbrev pub refuses : Scanned → Bool
-refuses Taken = false
-refuses (Outside cx cy) = true
-refuses (Overlap cx cy) = true
-refuses (Sharpness cx cy) = true
+use Rattle.varblock_scan.specs.Scan.{Scan, Taking, Left, takeCell, scan, scanned, refuses}
+use Rattle.layout.specs.Loops.{rowsLeft, loop-start}
 
 module _ (bw bh : ℕ) (divided : Filter) (lookups : List Float) (sharpness : List ℕ) where
   module _ (cx cy : ℕ) (k : List ℕ) (s : List Float) where
@@ -76,13 +62,6 @@ module _ (bw bh : ℕ) (divided : Filter) (lookups : List Float) (sharpness : Li
   refused-stays (Outside a b) k s e x y dx dy = refl
   refused-stays (Overlap a b) k s e x y dx dy = refl
   refused-stays (Sharpness a b) k s e x y dx dy = refl
-
--- kinds and sigma matter only while no cell refuses
-pub refused-same : (f : Scanned) (k l : List ℕ) (s t : List Float) → refuses f ≡ true → scanned f k s ≡ scanned f l t
-refused-same Taken k l s t e = absurd (let z : _≡_ {A = ℕ} 0 1 = cc in omega arith)
-refused-same (Outside a b) k l s t e = refl
-refused-same (Overlap a b) k l s t e = refl
-refused-same (Sharpness a b) k l s t e = refl
 
 pub taken-is : (f : Scanned) → refuses f ≡ false → f ≡ Taken
 taken-is Taken e = refl

@@ -3,8 +3,7 @@ use filter_strength::Filter;
 ghost use mathlib.Core.Path.{_≡_};
 ghost use Prim.Native.Nat.{_+_, _*_, _≤_};
 ghost use lib.ListN.{length};
-ghost use Rattle.varblock_scan.specs.Scan.{Taking, takeCell, scan as scanOf};
-ghost use Rattle.varblock_scan.specs.Steps.{scanned, refuses};
+ghost use Rattle.varblock_scan.specs.Scan.{Taking, takeCell, scan as scanOf, scanned, refuses};
 
 // All cells of a rectangle are taken, or one refuses.
 pub enum Scanned {

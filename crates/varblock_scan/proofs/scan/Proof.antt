@@ -1,7 +1,7 @@
 use Rattle.varblock_scan.specs.declared.Scanned.{Scanned}
-use Rattle.varblock_scan.specs.Steps.{scanned, refuses, cellAt, scan-start, refused-stays, taken-is}
-use Rattle.varblock_scan.specs.Loops.{rowsLeft, cellsLeft, loop-enter, loop-next, loop-stop, loop-leave, loop-finish}
-use Rattle.varblock_scan.specs.Scan.{Taking}
+use Rattle.varblock_scan.specs.Steps.{cellAt, scan-start, refused-stays, taken-is}
+use Rattle.layout.specs.Loops.{rowsLeft, cellsLeft, loop-enter, loop-next, loop-stop, loop-leave, loop-finish}
+use Rattle.varblock_scan.specs.Scan.{Taking, scanned, refuses}
 use Rattle.varblock_scan.specs.declared.Scanned.the-variants.{Taken}
 use mathlib.Core.Path.{refl}
 use borrow.Author.Needs.{needs}
