@@ -17,7 +17,7 @@ use Rattle.layout.specs.Stretch.{Place, left, inside, right, place}
 use Rattle.layout.specs.Grid.{at, set-same, set-other}
 use Rattle.layout.specs.Order.{Here}
 use Rattle.filter_strength.specs.declared.Filter.{Filter}
-use Rattle.filter_strength.specs.Strength.{sharedFilter}
+use Rattle.filter_strength.specs.Strength.{dividedFilter}
 use Rattle.layout_column.specs.Columns.{lowBits, hfMulOf, positive}
 use Rattle.varblock_scan.specs.Scan.{Scan, Taking, Left, scan}
 use Rattle.layout_reading.specs.Reading.{Job, Placed, Reading, Going, Stopped, refuseIf, placed, placeIn, judge, column}
@@ -73,7 +73,7 @@ module _ (J : Job) (x y : ℕ) (p q : Placed) (lk : length (p .kinds) ≡ J .bh 
   -- after the scan
   module _ (t h : ℕ) (a : t < 27) (b : 1 ≤ h) (c : h < 2 ^ 31) (d : x % 32 + wide t ≤ 32) (e : y % 32 + high t ≤ 32) where
     scanned : Scan
-    scanned = scan (J .bw) (J .bh) (sharedFilter (J .filter) h) (J .lookups) (J .sharpness) x y (wide t) (high t) (Taking (p .kinds) (p .sigma))
+    scanned = scan (J .bw) (J .bh) (dividedFilter (J .filter) h) (J .lookups) (J .sharpness) x y (wide t) (high t) (Taking (p .kinds) (p .sigma))
 
     put : (k : List ℕ) (s : List Float) → scanned ≡ Taking k s
         → q ≡ record { used = p .used + 1; kinds = set k (y * J .bw + x) (2 + t); muls = set (p .muls) (y * J .bw + x) h; sigma = s } → Column J x y p q t h
@@ -100,7 +100,7 @@ module _ (J : Job) (x y : ℕ) (p q : Placed) (lk : length (p .kinds) ≡ J .bh 
     }
       where
         both : Took (J .bw) (J .bh) (at (p .kinds) (J .bw)) (at k (J .bw)) x y (wide t) (high t) × (length k ≡ J .bh * J .bw)
-        both = took (J .bw) (J .bh) (sharedFilter (J .filter) h) (J .lookups) (J .sharpness) x y (wide t) (high t) (p .kinds) (p .sigma) s k lk f
+        both = took (J .bw) (J .bh) (dividedFilter (J .filter) h) (J .lookups) (J .sharpness) x y (wide t) (high t) (p .kinds) (p .sigma) s k lk f
 
         w : Took (J .bw) (J .bh) (at (p .kinds) (J .bw)) (at k (J .bw)) x y (wide t) (high t)
         w = both .0
@@ -124,7 +124,7 @@ module _ (J : Job) (x y : ℕ) (p q : Placed) (lk : length (p .kinds) ≡ J .bh 
         going : (u v : Placed) → Going u ≡ Going v → u ≡ v
         going u v i = cc
 
-        go : (s : Scan) → scanned ≡ s → placed (J .bw) (J .bh) (J .filter) (J .lookups) (J .sharpness) (2 + t) h x y p s ≡ Going q → Column J x y p q t h
+        go : (s : Scan) → scanned ≡ s → placed (J .bw) (2 + t) h x y p s ≡ Going q → Column J x y p q t h
         go (Left n i j) g i′ = absurd (let z : _≡_ {A = ℕ} 0 1 = cc in omega arith)
         go (Taking k s) g i′ = put k s g (sym (going _ q i′))
 

@@ -16,7 +16,7 @@ use Rattle.layout.specs.Walk.{walk, forward}
 use Rattle.layout.specs.Grid.{at}
 use Rattle.lf_group.specs.Blocks.{sizeFits}
 use Rattle.filter_strength.specs.declared.Filter.{Filter}
-use Rattle.filter_strength.specs.Strength.{zero32, sharedFilter}
+use Rattle.filter_strength.specs.Strength.{zero32, dividedFilter}
 use Rattle.layout_column.specs.Columns.{lowBits, hfMulOf, positive}
 use Rattle.varblock_scan.specs.Scan.{Scan, Taking, Left, isOn, sigmaWith, takeCell, scan}
 use Rattle.layout_reading.specs.Reading.{Job, Placed, Reading, Going, Stopped, refuseIf, placed, place, placeIn, judge, column, visit, start, zeros, zeroSigma, reading}
@@ -73,10 +73,10 @@ module _ (J : Job) where
     place-well : (kind h w n : ℕ) → Well (placeIn J kind h w n x y p)
     unfolding Well LeftWell place
     place-well kind h w n =
-        go (scan (J .bw) (J .bh) (sharedFilter (J .filter) h) (J .lookups) (J .sharpness) x y w n (Taking (p .kinds) (p .sigma)))
-        (scan-left (J .bw) (J .bh) (sharedFilter (J .filter) h) (J .lookups) (J .sharpness) x y w n (Taking (p .kinds) (p .sigma)) tt)
+        go (scan (J .bw) (J .bh) (dividedFilter (J .filter) h) (J .lookups) (J .sharpness) x y w n (Taking (p .kinds) (p .sigma)))
+        (scan-left (J .bw) (J .bh) (dividedFilter (J .filter) h) (J .lookups) (J .sharpness) x y w n (Taking (p .kinds) (p .sigma)) tt)
       where
-        go : (s : Scan) → LeftWell s → Well (placed (J .bw) (J .bh) (J .filter) (J .lookups) (J .sharpness) kind h x y p s)
+        go : (s : Scan) → LeftWell s → Well (placed (J .bw) kind h x y p s)
         go (Taking k s) q = tt
         go (Left m a b) q = at-block m (omega arith) (omega arith)
 

@@ -12,9 +12,8 @@ use Rattle.refusal.specs.Said as refusals
 use Rattle.lf_group.specs.Blocks.{sizeFits, wideIn, highIn}
 use Rattle.layout.specs.Grid.{at}
 use Rattle.layout.specs.Valid.{Covers, Owned, Layout}
-use Rattle.layout.specs.Check.{check}
 use Rattle.layout.specs.Varblocks.{varblocksOf, area}
-use Rattle.layout.specs.Theorems.{layout-check, disjoint, covered, layout-area}
+use Rattle.layout.specs.Theorems.{disjoint, covered, layout-area}
 use Rattle.layout_reading.specs.Reading.{Job, Placed, Reading, Going, Stopped, reading}
 use Rattle.hf_metadata.specs.Call.{Answer, accepted, refused, Outcome, outcomeOf, Inputs, jobOf, parametersFit, lengthsFit, refuseWith, layoutOf}
 use Rattle.accepted_layout.specs.Accepted.{read-layout}
@@ -98,10 +97,6 @@ module _ (i : Inputs) (kinds hfMul : List ℕ) (sigma : List Float) where
     accepted-layout =
         let r = accepted-read n e in
         rw (r .kindsAre, r .hfMulAre) (read-layout (jobOf i) (r .last) (r .read))
-
-    -- so 18 lets it pass
-    pub accepted-check : (room : ℕ) → bwOf i ≤ room → check room (bwOf i) (bhOf i) (outcome .kinds) (outcome .hfMul) ≡ true
-    accepted-check room h = layout-check (bwOf i) (bhOf i) (outcome .kinds) (outcome .hfMul) room h accepted-layout
 
     -- each block is in just one varblock, which lies inside the grid and a square of 32 x 32 blocks (`Fits` of accepted-layout)
     pub accepted-covered : (x y : ℕ) → x < bwOf i → y < bhOf i → Owned (at (outcome .kinds) (bwOf i)) x y

@@ -124,7 +124,7 @@ module _ (s : List ℕ) (p : ℕ) (d : U32Specifier) (h : d .offset < 2 ^ 32) (l
       value-by p (readChoice s p (choiceOf d)) w (r .at) q (x ∙ ap (λ (y : ℕ). Value y (r .at)) (sym f)) (r .place)
 
 -- a choice that ended took nothing
-choice-ended : (s : List ℕ) (p : ℕ) (m : Choice) (at : ℕ) → readChoice s p m ≡ Ended at → at ≡ p
+pub choice-ended : (s : List ℕ) (p : ℕ) (m : Choice) (at : ℕ) → readChoice s p m ≡ Ended at → at ≡ p
 choice-ended s p (Constant v) at e = absurd (let z : _≡_ {A = ℕ} 0 1 = cc in omega arith)
 choice-ended s p (Offset o n) at e = go (readBits s p n) refl
   where

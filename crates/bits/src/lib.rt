@@ -166,7 +166,7 @@ pub fn unpack_signed(u: u32) -> u32
     }
 }
 
-// The exponent of the least power of two not below n: as many bits number n things.
+// The exponent of the least power of two not below n: as many bits tell n things apart.
 pub fn exponent(n: u32) -> u32
     ensures { λ r. ⌜ r ≡ exponentOf n ⌝ }
 {

@@ -3,7 +3,6 @@ use mathlib.Core.Path.{_≡_, refl}
 use mathlib.Core.Bool.{Bool, true, false, _&&_}
 use mathlib.Core.List.{List}
 use Prim.Native.Nat.{ℕ, _*_, _≤_}
-use native.Mathlib.Nat.{mul-le-mul}
 use native.Mathlib.Omega.{arith}
 use lib.Dec.{leb, eqb}
 use lib.ListN.{length}
@@ -17,9 +16,6 @@ use Rattle.block_check.specs.Calls.{Answer, gives, refuses, unless, inLi
 pub pass : {A : Type 0} (n : ℕ) (b : Bool) (next : Answer A) (a : A) → unless n b next ≡ gives a → (b ≡ true) × (next ≡ gives a)
 pass n true next a e = (refl, e)
 pass n false next a e = absurd (let z : _≡_ {A = ℕ} 0 1 = cc in omega arith)
-
-pub area : (w h : ℕ) → w ≤ 256 → h ≤ 256 → h * w ≤ 65536
-area w h a b = mul-le-mul b a
 
 pub record Sided (limit w h : ℕ) : Type 0 where
   pub wideFrom : 1 ≤ w

@@ -1,9 +1,8 @@
 -- The code's tables of sizes against the transforms.
-use mathlib.Core.Path.{_≡_, refl}
-use mathlib.Core.List.{List, [], _∷_, map}
-use Prim.Native.Nat.{ℕ, zero, suc, _-_, _≤_}
-use native.Mathlib.Omega.{arith}
-use lib.ListN.{length, getD}
+use mathlib.Core.Path.{_≡_}
+use mathlib.Core.List.{List, map}
+use Prim.Native.Nat.{ℕ, _≤_}
+use lib.ListN.{getD, List·getD-eq-default}
 use Rattle.laws.specs.Lists.{getD-map}
 use Rattle.dct_select.specs.Transforms.{Row, row, TRANSFORMS, wide, high}
 use Rattle.dct_select.specs.LookUp.{sides}
@@ -23,12 +22,7 @@ pub high-at : (t : ℕ) → getD heights t 0 ≡ high t
 unfolding heights high
 high-at t = getD-map (λ (r : Row). r .height) TRANSFORMS t (row 0 0 0)
 
-beyond : {A : Type 0} (l : List A) (t : ℕ) (d : A) → length l ≤ t → getD l t d ≡ d
-beyond [] t d h = refl
-beyond (a ∷ l) zero d h = absurd (omega arith)
-beyond (a ∷ l) (suc t) d h = beyond l t d (omega arith)
-
 -- an unknown transform has no blocks
 pub size-beyond : (t : ℕ) → 27 ≤ t → sides 0 0 ≡ sides (wide t) (high t)
 unfolding wide high TRANSFORMS
-size-beyond t h = rw (beyond TRANSFORMS t (row 0 0 0) h)
+size-beyond t h = rw (List·getD-eq-default TRANSFORMS (row 0 0 0) {n = t} h)

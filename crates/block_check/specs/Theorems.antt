@@ -1,16 +1,13 @@
--- What the check promises of layouts and groups (document 00, demand 3; document 01, Layout, "Added by us").
+-- What the check promises (document 01, Refused, 18).
 use mathlib.Core.Path.{_≡_}
 use mathlib.Core.Bool.{true}
 use mathlib.Core.List.{List}
-use Prim.Native.Nat.{ℕ, _*_, _<_}
+use Prim.Native.Nat.{ℕ, _*_}
 use lib.ListN.{length}
 use borrow.Author.Tests.{le-leb, eq-eqb}
-use Rattle.layout.specs.Valid.{Covers, Layout}
-use Rattle.layout.specs.Grid.{at as cellAt}
+use Rattle.layout.specs.Valid.{Layout}
 use Rattle.layout.specs.Check.{isLayout}
-use Rattle.layout.specs.Varblocks.{varblocksOf, area}
-use Rattle.layout.specs.Theorems.{layout-iff, disjoint, layout-area}
-use Rattle.block_check.specs.declared.Group.{Group}
+use Rattle.layout.specs.Theorems.{layout-iff}
 use Rattle.block_check.specs.Calls.{gives, inLimits, lengthsFit, checkOf}
 use Rattle.block_check.specs.Laws.{pass, Sided, in-limits, lengths-fit, check-fine}
 
@@ -37,11 +34,3 @@ module _ (limit w h : ℕ) (kinds muls : List ℕ) where
   checks s ok =
       check-fine limit w h kinds muls (limits-in limit w h s) (fit-lengths w h (length kinds) (length muls) (ok .kindsLength) (ok .mulsLength))
       (layout-iff w h kinds muls (ok .kindsLength) (ok .mulsLength) .1 ok)
-
--- A group that the check passes: its varblocks are disjoint, and their areas sum to its blocks.
-module _ (g : Group) (kinds muls : List ℕ) (fine : checkOf 32 (g .wide) (g .high) kinds muls ≡ gives tt) where
-  pub group-disjoint : (a b c d x y : ℕ) → x < g .wide → y < g .high → Covers (cellAt kinds (g .wide)) a b x y → Covers (cellAt kinds (g .wide)) c d x y → (a ≡ c) × (b ≡ d)
-  group-disjoint = disjoint (g .wide) (g .high) kinds muls (checked 32 (g .wide) (g .high) kinds muls fine .1)
-
-  pub group-area : area (varblocksOf (g .wide) (g .high) kinds muls) ≡ g .wide * g .high
-  group-area = layout-area (g .wide) (g .high) kinds muls (checked 32 (g .wide) (g .high) kinds muls fine .1)

@@ -2,6 +2,7 @@
 use crate::Checked;
 use crate::Group;
 use dct_select::Sides;
+use dct_select::TransformType;
 use refusal::Refusal;
 ghost use mathlib.Core.Path.{_≡_};
 ghost use mathlib.Core.Bool.{cond};
@@ -9,7 +10,7 @@ ghost use Prim.Native.Nat.{_+_, _*_, _≤_, _<_};
 ghost use lib.ListN.{length};
 ghost use Rattle.dct_select.specs.LookUp.{sides};
 ghost use Rattle.layout.specs.Kinds.{wideOf, highOf};
-ghost use Rattle.layout.specs.Grid.{paint};
+ghost use Rattle.layout.specs.Grid.{fillFrom};
 ghost use Rattle.layout.specs.Check.{Fault, Until, clear, fitting, visitCell, isLayout};
 ghost use Rattle.block_check.specs.Sizes.{widths, heights};
 ghost use Rattle.block_check.specs.Calls.{inLimits, lengthsFit, saidCheck, checkOf};
@@ -81,7 +82,7 @@ pub fn size_of(wides: &[usize; 27], highs: &[usize; 27], kind: u8) -> Sides
     ensures { λ r. ⌜ r ≡ sides (wideOf kind) (highOf kind) ⌝ }
 {
     let t = (kind - 2) as usize;
-    if t < 27 {
+    if t < TransformType::COUNT {
         return Sides {
             wide: wides[t],
             high: highs[t],
@@ -109,7 +110,7 @@ fn is_clear(until: &[usize; 256], y: usize, x: usize, n: usize) -> bool
 // The columns x to x + n - 1 are now covered up to row v.
 fn raise(until: &mut [usize; 256], x: usize, n: usize, v: usize)
     requires { ⌜ x + n ≤ 256 ⌝ }
-    ensures { λ r. ⌜ now (until .exit) ≡ paint (now (until .entry)) x n v ⌝ }
+    ensures { λ r. ⌜ now (until .exit) ≡ fillFrom (now (until .entry)) x n v ⌝ }
 {
     let e = x + n;
     let mut i = x;
@@ -235,12 +236,13 @@ pub fn lengths_fit(wide: usize, high: usize, kinds: usize, muls: usize) -> bool
     muls == cells
 }
 
-// A lent record of sides up to a limit.
-fn check_within(limit: usize, wide: usize, high: usize, kinds: &[u8], muls: &[u32]) -> Checked
-    requires { ⌜ limit ≤ 256 ⌝ }
-    ensures { λ r. ⌜ saidCheck r ≡ checkOf limit wide high (now (kinds .entry)) (now (muls .entry)) ⌝ }
+// A lent group: sides 1 to 32 (2), lengths (1), 18.
+pub fn check_group(group: Group, kinds: &[u8], muls: &[u32]) -> Checked
+    ensures { λ r. ⌜ saidCheck r ≡ checkOf 32 (group .wide) (group .high) (now (kinds .entry)) (now (muls .entry)) ⌝ }
 {
-    if !in_limits(limit, wide, high) {
+    let wide = group.wide;
+    let high = group.high;
+    if !in_limits(32, wide, high) {
         return Checked::Refused(Refusal::Size);
     }
     if !lengths_fit(wide, high, kinds.len(), muls.len()) {
@@ -250,18 +252,4 @@ fn check_within(limit: usize, wide: usize, high: usize, kinds: &[u8], muls: &[u3
         return Checked::Refused(Refusal::Layout);
     }
     Checked::Fine
-}
-
-// A lent layout: sides 1 to 256 (2), lengths (1), 18.
-pub fn check_layout(bw: usize, bh: usize, kinds: &[u8], muls: &[u32]) -> Checked
-    ensures { λ r. ⌜ saidCheck r ≡ checkOf 256 bw bh (now (kinds .entry)) (now (muls .entry)) ⌝ }
-{
-    check_within(256, bw, bh, kinds, muls)
-}
-
-// A lent group: sides 1 to 32 (2), lengths (1), 18.
-pub fn check_group(group: Group, kinds: &[u8], muls: &[u32]) -> Checked
-    ensures { λ r. ⌜ saidCheck r ≡ checkOf 32 (group .wide) (group .high) (now (kinds .entry)) (now (muls .entry)) ⌝ }
-{
-    check_within(32, group.wide, group.high, kinds, muls)
 }

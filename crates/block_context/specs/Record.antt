@@ -1,23 +1,16 @@
 -- When a context record as it is lent is fit (document 01, Block contexts).
 use mathlib.Core.Bool.{Bool, _&&_}
 use mathlib.Core.List.{List}
-use Prim.Native.Nat.{ℕ, min, _+_, _*_}
+use Prim.Native.Nat.{ℕ, _+_, _*_}
 use lib.Dec.{leb, ltb}
 use lib.ListN.{getD, take}
 use Rattle.laws.specs.Tables.{every}
 use Rattle.block_context.specs.declared.HfBlockContext.{HfBlockContext}
 
+-- bsize: the product of the four (length + 1)
 unfoldable pub bsizeOf : List ℕ → ℕ
 bsizeOf lengths =
     (getD lengths 0 0 + 1) * (getD lengths 1 0 + 1) * (getD lengths 2 0 + 1) * (getD lengths 3 0 + 1)
-
--- a length above 15 counting as 15
-unfoldable pub cappedBsize : List ℕ → ℕ
-cappedBsize lengths =
-    (min (getD lengths 0 0) 15 + 1)
-    * (min (getD lengths 1 0) 15 + 1)
-    * (min (getD lengths 2 0) 15 + 1)
-    * (min (getD lengths 3 0) 15 + 1)
 
 -- a qf value: 1 to 300
 abbrev pub qfFit : ℕ → Bool

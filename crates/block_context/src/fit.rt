@@ -7,7 +7,8 @@ ghost use Prim.Native.Nat.{max, _≤_};
 ghost use lib.ListN.{take};
 ghost use Rattle.laws.specs.Tables.{every};
 ghost use Rattle.block_context.specs.Largest.{largestFrom};
-ghost use Rattle.block_context.specs.Record.{cappedBsize, qfFit, bytesBelow, fit};
+ghost use Rattle.block_context.specs.Record.{qfFit, bytesBelow, fit};
+ghost use Rattle.block_context.specs.Laws.{cappedBsize};
 
 fn wide(x: u8) -> u32
     ensures { λ r. ⌜ r ≡ x ⌝ }
@@ -36,8 +37,8 @@ fn largest(map: &[u8]) -> u8
     found
 }
 
-// Every byte is below the count: none is, or the largest. (No way out of the loop: it runs many
-// bytes at a time.)
+// Every byte is below the count: there is none, or the largest is below it. The loop has no early
+// exit, so that many bytes are taken at a time.
 pub fn all_below(map: &[u8], count: u32) -> bool
     ensures { λ r. ⌜ r ≡ bytesBelow count (now (map .entry)) ⌝ }
 {

@@ -16,7 +16,6 @@ use mir.Val.{toZ}
 use mir.ValLaws.{toZ-pos}
 use borrow.Author.Tests.{lt-ltb, le-ltb}
 use Rattle.laws.specs.Cases.{le-or-lt}
-use Rattle.laws.specs.Tables.{every}
 use Rattle.block_context.specs.declared.HfBlockContext.{HfBlockContext}
 use Rattle.block_context.specs.Bounds.{is-fit, fit-byte}
 use Rattle.block_context_index.specs.Contexts.{Contexts, sizeOf, lfSize, bsize, greater, above, qfIndex, lfIndexIn, lfIndex, lfIndexOf, placeOf, contextIndex, blockContext}

@@ -7,8 +7,6 @@ use lib.ListN.{length, getD}
 
 -- Signed 32-bit numbers are given as their bit patterns.
 pub record Contexts : Type 0 where
-  -- number of clusters
-  pub clusters : ℕ
   -- thresholds of the LF numbers of channels 0, 1 and 2
   pub lf0 : List ℕ
   pub lf1 : List ℕ
@@ -29,7 +27,7 @@ lfSize C = sizeOf (C .lf0) (C .lf1) (C .lf2)
 unfoldable pub bsize : Contexts → ℕ
 bsize C = lfSize C * (length (C .qf) + 1)
 
--- a > b as signed numbers
+-- a > b as signed numbers (Bounds, greater-signed)
 abbrev pub greater : ℕ → ℕ → Bool
 greater a b = ltb ((b + 2 ^ 31) % 2 ^ 32) ((a + 2 ^ 31) % 2 ^ 32)
 
@@ -53,10 +51,6 @@ lfIndex C = lfIndexIn (C .lf0) (C .lf1) (C .lf2)
 abbrev pub lfIndexOf : Contexts → Bool → ℕ → ℕ → ℕ → ℕ
 lfIndexOf C there q0 q1 q2 = cond there (lfIndex C q0 q1 q2) 0
 
--- the channels as they are walked
-abbrev pub WALK : List ℕ
-WALK = 1 ∷ 0 ∷ 2 ∷ []
-
 -- place in the map: n-th channel walked (from 0), order, qf index of so many, LF index of so many
 unfoldable pub placeOf : ℕ → ℕ → ℕ → ℕ → ℕ → ℕ → ℕ
 placeOf qfs lfs n order qf lf = ((n * 13 + order) * qfs + qf) * lfs + lf
@@ -71,7 +65,7 @@ contextAt C n order qf lf = getD (C .map) (contextIndex C n order qf lf) 0
 abbrev pub blockContext : Contexts → ℕ → ℕ → ℕ → Bool → ℕ → ℕ → ℕ → ℕ
 blockContext C n order mul there q0 q1 q2 = contextAt C n order (qfIndex C mul) (lfIndexOf C there q0 q1 q2)
 
--- of the channels as they are walked
+-- of the channels 1, 0, 2, as they are walked
 abbrev pub blockContexts : Contexts → ℕ → ℕ → Bool → ℕ → ℕ → ℕ → List ℕ
 blockContexts C order mul there q0 q1 q2 =
     blockContext C 0 order mul there q0 q1 q2 ∷ blockContext C 1 order mul there q0 q1 q2 ∷ blockContext C 2 order mul there q0 q1 q2 ∷ []

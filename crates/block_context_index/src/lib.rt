@@ -3,9 +3,9 @@ use block_context::sizes::lf_size;
 use block_context::sizes::used;
 ghost use mathlib.Core.Path.{_≡_};
 ghost use mathlib.Core.Bool.{cond};
-ghost use Prim.Native.Nat.{min, _+_, _*_, _≤_, _<_};
+ghost use Prim.Native.Nat.{_+_, _*_, _≤_, _<_};
 ghost use lib.ListN.{length, take, drop, getD};
-ghost use Rattle.block_context_index.specs.Contexts.{sizeOf, above, greater, lfIndexIn, placeOf, blockContexts};
+ghost use Rattle.block_context_index.specs.Contexts.{above, greater, lfIndexIn, placeOf, blockContexts};
 ghost use Rattle.block_context_index.specs.Lists.{lfList, lists};
 
 // 1 if a > b as signed numbers.
@@ -114,7 +114,7 @@ pub fn block_contexts<'a>(
     q1: u32,
     q2: u32,
 ) -> [usize; 3]
-    ensures { λ r. ⌜ r ≡ blockContexts (lists 0 lengths (now («lf_thresholds» .entry)) (now («qf_thresholds» .entry)) (now («block_ctx_map» .entry))) order «hf_mul» «lf_there» q0 q1 q2 ⌝ }
+    ensures { λ r. ⌜ r ≡ blockContexts (lists lengths (now («lf_thresholds» .entry)) (now («qf_thresholds» .entry)) (now («block_ctx_map» .entry))) order «hf_mul» «lf_there» q0 q1 q2 ⌝ }
 {
     let qf = qf_index(&qf_thresholds[..], lengths, hf_mul);
     let lf = lf_index_of(&lf_thresholds[..], lengths, lf_there, q0, q1, q2);

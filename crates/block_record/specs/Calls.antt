@@ -2,7 +2,7 @@
 use mathlib.Core.List.{List}
 use Prim.Native.Nat.{ℕ}
 use lib.ListN.{length}
-use Rattle.refusal.specs.Said.{at, said}
+use Rattle.refusal.specs.Said.{said}
 use Rattle.layout.specs.Check.{isLayout}
 use Rattle.layout.specs.Cut.{hasGroup, groupWide, groupHigh, cut}
 use Rattle.block_check.specs.declared.Group.{Group}

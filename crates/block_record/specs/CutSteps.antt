@@ -1,15 +1,14 @@
 -- The ends of the cut's checks, and its copying loops.
-use mathlib.Core.Path.{_≡_, sym, _∙_, ap}
+use mathlib.Core.Path.{_≡_, sym, _∙_}
 use mathlib.Core.Bool.{true, false}
 use mathlib.Core.List.{List}
-use Prim.Native.Nat.{ℕ, _+_, _-_, _*_, _≤_, _<_}
+use Prim.Native.Nat.{ℕ, _+_, _*_, _≤_}
 use native.Mathlib.Nat.{mul-le-mul-right}
 use native.Mathlib.Omega.{arith}
-use lib.ListN.{length, set}
+use lib.ListN.{length}
 use Rattle.refusal.specs.declared.Said.{Said}
 use Rattle.refusal.specs.Said.{at}
-use Rattle.layout.specs.Walk.{cells, rows}
-use Rattle.layout.specs.WalkSteps.{cells-step, cells-end, rows-step, rows-end, rows-start}
+use Rattle.layout.specs.Loops.{rowsLeft, loop-start}
 use Rattle.layout.specs.Grid.{gridOf, at as cellAt}
 use Rattle.layout.specs.Fill.{write, written}
 use Rattle.layout.specs.Check.{isLayout}
@@ -55,7 +54,7 @@ module _ (bw bh : ℕ) (kinds muls : List ℕ) (g ok om : ℕ) where
     pub index : hasGroup bw bh g ≡ true
     pub lent : lengthsFit bw bh (length kinds) (length muls) ≡ true
     pub buffers : lengthsFit (groupWide bw g) (groupHigh bw bh g) ok om ≡ true
-    pub lawful : isLayout bw bh kinds muls ≡ true
+    pub layout : isLayout bw bh kinds muls ≡ true
 
   pub passed : cutCheck bw bh kinds muls g ok om ≡ gives tt → Passed
   unfolding cutCheck
@@ -65,7 +64,7 @@ module _ (bw bh : ℕ) (kinds muls : List ℕ) (g ok om : ℕ) where
       let c = pass 1 (lengthsFit bw bh (length kinds) (length muls)) _ tt (b .1) in
       let d = pass 1 (lengthsFit (groupWide bw g) (groupHigh bw bh g) ok om) _ tt (c .1) in
       let f = pass 18 (isLayout bw bh kinds muls) (gives tt) tt (d .1) in
-      record { sides = a .0; index = b .0; lent = c .0; buffers = d .0; lawful = f .0 }
+      record { sides = a .0; index = b .0; lent = c .0; buffers = d .0; layout = f .0 }
 
 module _ (bw bh : ℕ) (kinds muls : List ℕ) (g : ℕ) (outKinds outMuls : List ℕ) where
   pub cut-refused : (s : Said) → cutCheck bw bh kinds muls g (length outKinds) (length outMuls) ≡ refuses s → cutOf bw bh kinds muls g outKinds outMuls ≡ outcome (refuses s) outKinds outMuls
@@ -105,25 +104,6 @@ module _ (bw bh : ℕ) (kinds muls : List ℕ) (g : ℕ) (outKinds outMuls : Lis
   unfolding cut
   copied l gx gy r ex ey er = rw (ex, ey, er)
 
--- Copying cell by cell: what is left from (x, y) on.
-module _ (f : ℕ → ℕ → ℕ) (w h : ℕ) where
-  abbrev pub rowsLeft : ℕ → List ℕ → List ℕ
-  rowsLeft y l = rows (write f w h) w (h - y) y l
-
-  abbrev pub cellsLeft : ℕ → ℕ → List ℕ → List ℕ
-  cellsLeft y x l = rows (write f w h) w (h - (y + 1)) (y + 1) (cells (write f w h) (w - x) x y l)
-
-  pub copy-start : (l : List ℕ) → length l ≡ h * w → gridOf f w h ≡ rowsLeft 0 l
-  copy-start l e = sym (written f w h l e) ∙ rows-start (write f w h) w h l
-
-  pub copy-enter : (y : ℕ) (l : List ℕ) → y < h → rowsLeft y l ≡ cellsLeft y 0 l
-  copy-enter y l i = rows-step (write f w h) w h y l i
-
-  pub copy-next : (y x : ℕ) (l : List ℕ) → x < w → cellsLeft y x l ≡ cellsLeft y (x + 1) (set l (y * w + x) (f x y))
-  copy-next y x l i = ap (λ (s : List ℕ). rows (write f w h) w (h - (y + 1)) (y + 1) s) (cells-step (write f w h) w x y l i)
-
-  pub copy-leave : (y x : ℕ) (l : List ℕ) → w ≤ x → cellsLeft y x l ≡ rowsLeft (y + 1) l
-  copy-leave y x l i = ap (λ (s : List ℕ). rows (write f w h) w (h - (y + 1)) (y + 1) s) (cells-end (write f w h) w x y l i)
-
-  pub copy-end : (y : ℕ) (l : List ℕ) → h ≤ y → rowsLeft y l ≡ l
-  copy-end y l i = rows-end (write f w h) w h y l i
+-- copying cell by cell gives the grid
+pub copy-start : (f : ℕ → ℕ → ℕ) (w h : ℕ) (l : List ℕ) → length l ≡ h * w → gridOf f w h ≡ rowsLeft (write f w h) w h 0 l
+copy-start f w h l e = sym (written f w h l e) ∙ loop-start (write f w h) w h l

@@ -1,4 +1,4 @@
--- What the cut promises of layouts and groups (document 00, demand 3; document 01, Layout, "Added by us").
+-- What the cut promises (document 01, Layout, "Added by us").
 use mathlib.Core.Path.{_≡_, refl, ap, sym, _∙_}
 use mathlib.Core.Bool.{Bool, true, false}
 use mathlib.Core.List.{List}
@@ -14,7 +14,7 @@ use Rattle.layout.specs.Theorems.{layout-iff}
 use Rattle.block_check.specs.declared.Group.{Group}
 use Rattle.block_check.specs.Calls.{Answer, gives, refuses, inLimits, lengthsFit, checkOf, unless}
 use Rattle.block_record.specs.Calls.{group, Outcome, outcome, cutCheck, cutBy, cutOf}
-use Rattle.block_check.specs.Laws.{pass, lengths-fit}
+use Rattle.block_check.specs.Laws.{lengths-fit}
 use Rattle.block_check.specs.Theorems.{checks}
 use Rattle.block_record.specs.CutSteps.{Passed, passed, cut-done, cut-refused}
 
@@ -51,7 +51,7 @@ module _ (bw bh : ℕ) (kinds muls : List ℕ) (g : ℕ) (outKinds outMuls : Lis
       written : Passed bw bh kinds muls g (length outKinds) (length outMuls) → checkOf 32 (groupWide bw g) (groupHigh bw bh g) (cut bw bh g kinds) (cut bw bh g muls) ≡ gives tt
       written p =
           let l = lengths-fit bw bh (length kinds) (length muls) (p .lent) in
-          let ok = layout-iff bw bh kinds muls (l .0) (l .1) .0 (p .lawful) in
+          let ok = layout-iff bw bh kinds muls (l .0) (l .1) .0 (p .layout) in
           let x = starts-x bw bh g (p .index) in
           let y = starts-y bw bh g (p .index) in
           checks 32 (groupWide bw g) (groupHigh bw bh g) (cut bw bh g kinds) (cut bw bh g muls)

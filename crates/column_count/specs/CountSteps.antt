@@ -1,6 +1,6 @@
 -- The column count call as the code goes: one law for each way out.
-use mathlib.Core.Path.{_≡_, refl, ap, sym, _∙_}
-use mathlib.Core.Bool.{Bool, true, false}
+use mathlib.Core.Path.{_≡_, ap, sym, _∙_}
+use mathlib.Core.Bool.{true, false}
 use mathlib.Core.List.{List}
 use Prim.Native.Nat.{ℕ, _+_, _*_, _/_, _%_, _^_, _≤_, _<_, min}
 use native.Mathlib.Nat.{mul-le-mul, mod-lt}
@@ -10,14 +10,14 @@ use Rattle.refusal.specs.Said.{at}
 use Rattle.bits.specs.declared.Got.{Got}
 use Rattle.bits.specs.declared.Got.the-variants as got
 use Rattle.bits.specs.declared.Place.{Place}
-use Rattle.bits.specs.Bits.{Read, Value, Ended, readBits}
+use Rattle.bits.specs.Bits.{Value, readBits}
 use Rattle.bits.specs.Numbers.{number, Bytes}
 use Rattle.bits.specs.Reads.{gotOf, placeAt, passed}
-use Rattle.bits.specs.Laws.{read-whole, WasValue, was-value, WasEnd, was-end, value-at, ended-at}
-use Rattle.bits.specs.Exponent.{exponent, exponent-least}
+use Rattle.bits.specs.Laws.{read-whole, was-value, was-end, value-at, ended-at}
+use Rattle.bits.specs.Exponent.{exponent-least}
 use Rattle.lf_group.specs.Blocks.{sizeFits, modesFit, wideIn, highIn}
 use Rattle.lf_group.specs.Bounds.{wide-most, high-most}
-use Rattle.column_count.specs.Count.{Counted, count, refused, plusOne, fieldBits, countOf}
+use Rattle.column_count.specs.Count.{count, refused, plusOne, fieldBits, countOf}
 
 module _ (width height : ℕ) (modes bytes : List ℕ) where
   pub count-size : sizeFits width height ≡ false → refused (at 2 0 0) ≡ countOf width height modes bytes

@@ -1,4 +1,4 @@
--- The declared types against the tables by number.
+-- The declared types against the tables by number (document 01, Transform).
 use mathlib.Core.List.{List, [], _∷_}
 use Prim.Native.Nat.{ℕ}
 use lib.ListN.{getD}

@@ -5,17 +5,12 @@ use mathlib.Core.Bool.{Bool, true, false, cond}
 use mathlib.Core.Logic.{_↔_}
 use Prim.Native.Nat.{ℕ, _*_, _/_, _≤_, _<_, min, max}
 use native.Mathlib.Omega.{arith}
-use lib.Dec.{T, eqb, leb, ltb, leb→le, ltb→lt, eqb→eq}
-use Rattle.laws.specs.Tables.{each}
+use lib.Dec.{T, eqb, leb, leb→le, eqb→eq}
 use Rattle.dct_select.specs.Transforms.{TRANSFORMS, wide, high, orderOf, turns}
 use Rattle.dct_select.specs.BlockSizes.{BLOCK-SIZES, widthOf, heightOf}
 use Rattle.dct_select.specs.Rules.{below-27}
 
 module _ (t : ℕ) (known : t < 27) where
-  pub order-known : orderOf t < 13
-  unfolding orderOf TRANSFORMS
-  order-known = ltb→lt (orderOf t) 13 (below-27 (λ (t : ℕ). ltb (orderOf t) 13) tt t known)
-
   -- a side is 1 to 32 blocks
   pub wide-some : 1 ≤ wide t
   unfolding wide TRANSFORMS

@@ -1,11 +1,11 @@
 -- Filter strength of a block (document 01, Layout and filter strength): in f32, each step rounded once,
 -- multiplier × 65536, / scale, / hf_mul, × look-up[sharpness].
 use mathlib.Core.Path.{_≡_, refl, ap}
-use mathlib.Core.Bool.{Bool, true, false}
+use mathlib.Core.Bool.{false}
 use mathlib.Core.List.{List, [], _∷_}
 use Prim.Native.Nat.{ℕ}
 use native.Mathlib.Omega.{arith}
-use lib.IntN.{ℤ, pos, negsuc}
+use lib.IntN.{pos, negsuc}
 use lib.ListN.{getD}
 use lib.Ieee.{Float, fin, nan, binary32, mul, div, ofInt, round, size, span, climb, units, odd}
 use lib.Count.{trailingZeros}
@@ -27,33 +27,33 @@ abbrev pub scaled : Float → ℕ → Float
 scaled m scale = div binary32 (mul binary32 m two16) (nearest scale)
 
 -- / hf_mul
-abbrev pub shared : Float → ℕ → Float
-shared a h = div binary32 a (nearest h)
+abbrev pub divided : Float → ℕ → Float
+divided a h = div binary32 a (nearest h)
 
 -- × look-up[sharpness]
-abbrev pub looked : Float → List Float → ℕ → Float
-looked q lookups sharpness = mul binary32 q (getD lookups sharpness nan)
+abbrev pub timesLookUp : Float → List Float → ℕ → Float
+timesLookUp q lookups sharpness = mul binary32 q (getD lookups sharpness nan)
 
 -- all four steps; filter off: +0.0
 unfoldable pub sigmaOf : Filter → ℕ → ℕ → List Float → ℕ → Float
 sigmaOf Off scale h lookups sharpness = zero32
-sigmaOf (On m) scale h lookups sharpness = looked (shared (scaled m scale) h) lookups sharpness
+sigmaOf (On m) scale h lookups sharpness = timesLookUp (divided (scaled m scale) h) lookups sharpness
 
 -- the steps on a filter, off staying off
 unfoldable pub scaledFilter : Filter → ℕ → Filter
 scaledFilter Off scale = Off
 scaledFilter (On m) scale = On (scaled m scale)
 
-unfoldable pub sharedFilter : Filter → ℕ → Filter
-sharedFilter Off h = Off
-sharedFilter (On a) h = On (shared a h)
+unfoldable pub dividedFilter : Filter → ℕ → Filter
+dividedFilter Off h = Off
+dividedFilter (On a) h = On (divided a h)
 
--- so sigma is the varblock's share × look-up[sharpness]
-pub sigma-steps : (f : Filter) (scale h : ℕ) (lookups : List Float) (sharpness : ℕ) (q : Float) → sharedFilter (scaledFilter f scale) h ≡ On q
-    → looked q lookups sharpness ≡ sigmaOf f scale h lookups sharpness
-unfolding scaledFilter sharedFilter sigmaOf
+-- so sigma is the divided multiplier × look-up[sharpness]
+pub sigma-steps : (f : Filter) (scale h : ℕ) (lookups : List Float) (sharpness : ℕ) (q : Float) → dividedFilter (scaledFilter f scale) h ≡ On q
+    → timesLookUp q lookups sharpness ≡ sigmaOf f scale h lookups sharpness
+unfolding scaledFilter dividedFilter sigmaOf
 sigma-steps Off scale h lookups sharpness q e = absurd (let z : _≡_ {A = ℕ} 0 1 = cc in omega arith)
-sigma-steps (On m) scale h lookups sharpness q e = let d : q ≡ shared (scaled m scale) h = cc in ap (λ (z : Float). looked z lookups sharpness) d
+sigma-steps (On m) scale h lookups sharpness q e = let d : q ≡ divided (scaled m scale) h = cc in ap (λ (z : Float). timesLookUp z lookups sharpness) d
 
 -- M7: multiplier 0.5, scale 32,768, hf_mul 4, look-up 2.0 give 0.5
 pub m7 : sigmaOf (On (fin false 1 (negsuc 0))) 32768 4 (fin false 1 (pos 1) ∷ []) 0 ≡ fin false 1 (negsuc 0)

@@ -19,7 +19,7 @@ use Rattle.block_context.specs.Bounds.{fit-last}
 use Rattle.hf_block_context.specs.declared.ContextResult.{ContextResult}
 use Rattle.hf_block_context.specs.declared.ContextAnswer.the-variants.{Accepted}
 use Rattle.thresholds.specs.Reading.{Reading, Is, Short, andThen, reading, prepend, Lists, listsOf, lfValue, qfValue, readValues, readList, readLists, pad}
-use Rattle.hf_block_context.specs.Call.{lengthsOf, stored, noLists, DEFAULT-MAP, accepted, refused, unless, judged, judgedLists, orEnded, byFirst, parsed}
+use Rattle.hf_block_context.specs.Call.{lengthsOf, stored, noLists, DEFAULT-MAP, accepted, unless, judged, judgedLists, orEnded, byFirst, parsed}
 use Rattle.thresholds.specs.Reads.{lf-near, qf-near, qf-some}
 use Rattle.thresholds.specs.ListLaws.{list-near}
 

@@ -63,7 +63,7 @@ judged count map lengths contexts at =
 abbrev pub judgedLists : ℕ → List ℕ → Lists → ℕ → ContextResult
 judgedLists count map l at = judged count map (lengthsOf l) (stored count l map) at
 
-abbrev pub orEnded : Reading Lists → (Lists → ℕ → ContextResult) → ContextResult
+abbrev pub orEnded : {A : Type 0} → Reading A → (A → ℕ → ContextResult) → ContextResult
 orEnded (Is l at) k = k l at
 orEnded (Short at) k = refused (BitsEnd at)
 

@@ -17,7 +17,7 @@ use Rattle.block_context.specs.Record.{bsizeOf, bytesBelow}
 use Rattle.hf_block_context.specs.declared.ContextResult.{ContextResult}
 use Rattle.thresholds.specs.declared.ListStep.the-variants as listStep
 use Rattle.thresholds.specs.declared.Thresholds.{Thresholds}
-use Rattle.thresholds.specs.Reading.{Reading, Is, Short, reading, Lists, listsOf, lfValue, qfValue, readList, readLists, pad}
+use Rattle.thresholds.specs.Reading.{Reading, Is, Short, andThen, listsOf, lfValue, qfValue, readList, readLists, pad}
 use Rattle.hf_block_context.specs.Call.{recordOf, stored, accepted, refused, judged, judgedLists, orEnded, noLists, DEFAULT-MAP, parsed}
 use Rattle.thresholds.specs.Steps.{thresholdsOf}
 use Rattle.thresholds.specs.ListLaws.{list-near}
@@ -120,27 +120,32 @@ module _ (s : List ℕ) (p : ℕ) where
       short2 at e = rw (e0, e1, e)
 
       module _ (c : List ℕ) (at2 : ℕ) (e2 : readList s (lfValue s) at1 ≡ Is c at2) where
-        pub short3 : (at : ℕ) → readList s (qfValue s) at2 ≡ Short at → readLists s p ≡ Short at
+        pub whole : readLists s p ≡ andThen (readList s (qfValue s) at2) (λ d at. Is (listsOf a b c d) at)
         unfolding readLists
-        short3 at e = rw (e0, e1, e2, e)
+        whole = rw (e0, e1, e2)
 
-        pub whole : (d : List ℕ) (at3 : ℕ) → readList s (qfValue s) at2 ≡ Is d at3 → readLists s p ≡ Is (listsOf a b c d) at3
-        unfolding readLists
-        whole d at3 e = rw (e0, e1, e2, e)
+-- behind the LF lists, which are read into lengths and places: the qf list, then the tests
+abbrev pub judgedQf : ℕ → List ℕ → ℕ → ℕ → ℕ → List ℕ → List ℕ → ℕ → ContextResult
+judgedQf count map n0 n1 n2 lf d at =
+    judged count map (n0 ∷ n1 ∷ n2 ∷ length d ∷ []) (recordOf count (n0 ∷ n1 ∷ n2 ∷ length d ∷ []) lf (pad 15 d) (pad 2496 map)) at
 
--- the arrays of the lists make the record of the lists
-pub judged-arrays : (count : ℕ) (map a b c d v0 v1 v2 v3 lf : List ℕ) (n0 n1 n2 n3 at t : ℕ)
-    → length a ≡ n0 → length b ≡ n1 → length c ≡ n2 → length d ≡ n3
-    → v0 ≡ pad 15 a → v1 ≡ pad 15 b → v2 ≡ pad 15 c → v3 ≡ pad 15 d → lf ≡ v0 ++ (v1 ++ v2) → t ≡ at
-    → judged count map (n0 ∷ n1 ∷ n2 ∷ n3 ∷ []) (recordOf count (n0 ∷ n1 ∷ n2 ∷ n3 ∷ []) lf v3 (pad 2496 map)) t ≡ judgedLists count map (listsOf a b c d) at
-unfolding stored
-judged-arrays count map a b c d v0 v1 v2 v3 lf n0 n1 n2 n3 at t h0 h1 h2 h3 e0 e1 e2 e3 f g =
-    rw (← h0, ← h1, ← h2, ← h3, f, e0, e1, e2, e3, g)
+module _ (count : ℕ) (map : List ℕ) where
+  pub judged-qf : (d values lf : List ℕ) (n0 n1 n2 n3 at t : ℕ) → length d ≡ n3 → values ≡ pad 15 d → t ≡ at
+      → judged count map (n0 ∷ n1 ∷ n2 ∷ n3 ∷ []) (recordOf count (n0 ∷ n1 ∷ n2 ∷ n3 ∷ []) lf values (pad 2496 map)) t ≡ judgedQf count map n0 n1 n2 lf d at
+  judged-qf d values lf n0 n1 n2 n3 at t h e g = rw (← h, e, g)
 
-pub or-ended : (r : Reading Lists) (k : Lists → ℕ → ContextResult) (at : ℕ) → r ≡ Short at → refused (BitsEnd at) ≡ orEnded r k
+  -- the arrays of the LF lists make the record of the lists
+  pub behind-lf : (a b c v0 v1 v2 lf : List ℕ) (n0 n1 n2 : ℕ) → length a ≡ n0 → length b ≡ n1 → length c ≡ n2
+      → v0 ≡ pad 15 a → v1 ≡ pad 15 b → v2 ≡ pad 15 c → lf ≡ v0 ++ (v1 ++ v2)
+      → (r : Reading (List ℕ)) → orEnded r (judgedQf count map n0 n1 n2 lf) ≡ orEnded (andThen r (λ d at. Is (listsOf a b c d) at)) (judgedLists count map)
+  unfolding stored
+  behind-lf a b c v0 v1 v2 lf n0 n1 n2 h0 h1 h2 e0 e1 e2 f (Is d at) = rw (← h0, ← h1, ← h2, f, e0, e1, e2)
+  behind-lf a b c v0 v1 v2 lf n0 n1 n2 h0 h1 h2 e0 e1 e2 f (Short at) = refl
+
+pub or-ended : {A : Type 0} (r : Reading A) (k : A → ℕ → ContextResult) (at : ℕ) → r ≡ Short at → refused (BitsEnd at) ≡ orEnded r k
 or-ended r k at e = rw e
 
-pub or-judged : (r : Reading Lists) (k : Lists → ℕ → ContextResult) (l : Lists) (at : ℕ) → r ≡ Is l at → k l at ≡ orEnded r k
+pub or-judged : {A : Type 0} (r : Reading A) (k : A → ℕ → ContextResult) (l : A) (at : ℕ) → r ≡ Is l at → k l at ≡ orEnded r k
 or-judged r k l at e = rw e
 
 -- The first bit.

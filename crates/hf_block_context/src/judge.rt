@@ -55,7 +55,7 @@ const DEFAULT_MAP: [u8; 39] = [
     14,
 ];
 
-pub fn refuse(why: Refusal) -> ContextResult
+pub(crate) fn refuse(why: Refusal) -> ContextResult
     ensures { λ r. ⌜ r ≡ refused why ⌝ }
 {
     let contexts = HfBlockContext {
@@ -71,7 +71,7 @@ pub fn refuse(why: Refusal) -> ContextResult
     }
 }
 
-pub fn default_contexts(at: usize) -> ContextResult
+pub(crate) fn default_contexts(at: usize) -> ContextResult
     ensures { λ r. ⌜ r ≡ accepted at (stored 15 noLists DEFAULT-MAP) ⌝ }
 {
     let map = DEFAULT_MAP;
@@ -90,7 +90,7 @@ pub fn default_contexts(at: usize) -> ContextResult
 }
 
 // All bits are read: bsize, the map's length, the count, the map's bytes.
-pub fn judge(
+pub(crate) fn judge(
     num_clusters: u32,
     map: &[u8],
     lengths: [u32; 4],

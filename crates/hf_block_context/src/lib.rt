@@ -17,8 +17,9 @@ use thresholds::read_list;
 ghost use mathlib.Core.Path.{_≡_};
 ghost use Prim.Native.Nat.{_≤_, _<_};
 ghost use Rattle.bits.specs.Reads.{passed};
-ghost use Rattle.thresholds.specs.Reading.{readLists};
+ghost use Rattle.thresholds.specs.Reading.{qfValue, readList, readLists};
 ghost use Rattle.hf_block_context.specs.Call.{judgedLists, orEnded, parsed};
+ghost use Rattle.hf_block_context.specs.CallLaws.{judgedQf};
 
 // Accepted: the bits read.
 pub enum ContextAnswer {
@@ -30,6 +31,38 @@ pub enum ContextAnswer {
 pub struct ContextResult {
     pub answer: ContextAnswer,
     pub contexts: HfBlockContext,
+}
+
+// The LF lists are read: the qf list, then the tests.
+fn with_qf<'a>(
+    bytes: &'a [u8],
+    p: Place,
+    num_clusters: u32,
+    map: &'a [u8],
+    n0: u32,
+    n1: u32,
+    n2: u32,
+    lf: [u32; 45],
+) -> ContextResult
+    requires { ⌜ (p .bit < 8) × (passed p ≤ 1558) × (n0 ≤ 15) × (n1 ≤ 15) × (n2 ≤ 15) ⌝ }
+    ensures { λ r. ⌜ r ≡ orEnded (readList (now (bytes .entry)) (qfValue (now (bytes .entry))) (passed p)) (judgedQf «num_clusters» (now (map .entry)) n0 n1 n2 lf) ⌝ }
+{
+    let qf = read_list(bytes, p, Kind::Qf);
+    let step = qf.step;
+    match step {
+        ListStep::End(read) => refuse(Refusal::BitsEnd(read)),
+        ListStep::Listed(n3, next) => {
+            let values = qf.values;
+            judge(
+                num_clusters,
+                map,
+                [n0, n1, n2, n3],
+                lf,
+                values,
+                next.bits_read(),
+            )
+        }
+    }
 }
 
 // First bit 0: three LF lists, then one qf list.
@@ -52,23 +85,8 @@ fn by_lists<'a>(bytes: &'a [u8], p: Place, num_clusters: u32, map: &'a [u8]) -> 
                     match step2 {
                         ListStep::End(at) => refuse(Refusal::BitsEnd(at)),
                         ListStep::Listed(n2, p2) => {
-                            let qf = read_list(bytes, p2, Kind::Qf);
-                            let step3 = qf.step;
-                            match step3 {
-                                ListStep::End(at) => refuse(Refusal::BitsEnd(at)),
-                                ListStep::Listed(n3, p3) => {
-                                    let lf = joined(&lf0.values, &lf1.values, &lf2.values);
-                                    let values = qf.values;
-                                    judge(
-                                        num_clusters,
-                                        map,
-                                        [n0, n1, n2, n3],
-                                        lf,
-                                        values,
-                                        p3.bits_read(),
-                                    )
-                                }
-                            }
+                            let lf = joined(&lf0.values, &lf1.values, &lf2.values);
+                            with_qf(bytes, p2, num_clusters, map, n0, n1, n2, lf)
                         }
                     }
                 }

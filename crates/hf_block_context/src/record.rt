@@ -7,7 +7,7 @@ ghost use lib.Seq.{paste};
 ghost use Rattle.thresholds.specs.Reading.{pad};
 
 // The map, and 0 behind it.
-pub fn padded(map: &[u8]) -> [u8; 2496]
+pub(crate) fn padded(map: &[u8]) -> [u8; 2496]
     requires { ⌜ length (now map) ≤ 2496 ⌝ }
     ensures { λ r. ⌜ r ≡ pad 2496 (now (map .entry)) ⌝ }
 {
@@ -35,7 +35,11 @@ fn placed(lists: [u32; 45], first: usize, list: &[u32]) -> [u32; 45]
 }
 
 // Three lists one behind the other.
-pub fn joined<'a>(list0: &'a [u32; 15], list1: &'a [u32; 15], list2: &'a [u32; 15]) -> [u32; 45]
+pub(crate) fn joined<'a>(
+    list0: &'a [u32; 15],
+    list1: &'a [u32; 15],
+    list2: &'a [u32; 15],
+) -> [u32; 45]
     ensures { λ r. ⌜ r ≡ now (list0 .entry) ++ (now (list1 .entry) ++ now (list2 .entry)) ⌝ }
 {
     let lists = [0u32; 45];

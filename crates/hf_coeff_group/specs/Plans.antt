@@ -34,7 +34,7 @@ abbrev pub planBy : ℕ → ℕ → ℕ → ℕ → ℕ → List ℕ → List �
 planBy x y width t mul lengths lf qf map there lf0 lf1 lf2 = record {
   at = varblockOf x y t;
   order = orderOf t;
-  contexts = blockContexts (lists 0 lengths lf qf map) (orderOf t) mul there (at lf0 width x y) (at lf1 width x y) (at lf2 width x y);
+  contexts = blockContexts (lists lengths lf qf map) (orderOf t) mul there (at lf0 width x y) (at lf1 width x y) (at lf2 width x y);
 }
 
 -- channel c of an item

@@ -14,7 +14,7 @@ use Rattle.filter_strength.specs.Strength.{scaledFilter}
 use Rattle.filter_strength.specs.Limits.{paramsFit}
 use Rattle.hf_metadata.specs.declared.LayoutAnswer.{LayoutAnswer}
 use Rattle.hf_metadata.specs.declared.LayoutAnswer.the-variants.{Accepted, Refused}
-use Rattle.layout_reading.specs.Reading.{Job, Placed, Reading, Going, Stopped, zeros, zeroSigma, reading}
+use Rattle.layout_reading.specs.Reading.{Job, Reading, Going, Stopped, zeros, zeroSigma, reading}
 
 -- accepted with the number of columns used, or refused with a number and a position
 pub data Answer : Type 0 where

@@ -1,11 +1,9 @@
 -- The layout call as the code goes: one law for each way out.
-use mathlib.Core.Path.{_≡_, refl, ap, sym, _∙_}
-use mathlib.Core.Bool.{Bool, true, false, cond, not, _&&_}
+use mathlib.Core.Path.{_≡_, ap, sym, _∙_}
+use mathlib.Core.Bool.{true, false, _&&_}
 use mathlib.Core.List.{List}
-use Prim.Native.Nat.{ℕ, _*_, _≤_}
-use native.Mathlib.Nat.{mul-le-mul}
+use Prim.Native.Nat.{ℕ}
 use lib.Dec.{T, eqb, eqb→eq}
-use lib.ListN.{length}
 use lib.Ieee.{Float}
 use lib.Ieee.Fits.{and-l, and-r}
 use Rattle.refusal.specs.declared.Refusal.{Refusal}
@@ -17,9 +15,9 @@ use Rattle.layout.specs.Walk.{walk}
 use Rattle.hf_metadata.specs.declared.LayoutAnswer.the-variants.{Accepted, Refused}
 use Rattle.layout_reading.specs.declared.column.Step.{Step}
 use Rattle.layout_reading.specs.declared.column.Step.the-variants.{Going as GoesOn, Stopped as Stops}
-use Rattle.layout_reading.specs.Reading.{Job, Reading, Going, visit, zeros, zeroSigma, reading}
-use Rattle.layout_reading.specs.Places.{stateOf, jobWith, stepped}
-use Rattle.hf_metadata.specs.Call.{Outcome, leaves, outcomeOf, Inputs, jobOf, countsFit, lengthsFit, refuseWith, layoutOf}
+use Rattle.layout_reading.specs.Reading.{Job, Going, visit, zeros, zeroSigma, reading}
+use Rattle.layout_reading.specs.Reading.{stateOf, jobWith, stepped}
+use Rattle.hf_metadata.specs.Call.{leaves, outcomeOf, Inputs, countsFit, lengthsFit, refuseWith, layoutOf}
 
 -- the work, from buffers that were cleared
 module _ (J : Job) (s : Step) (k m k′ m′ : List ℕ) (g g′ : List Float) (zk : k ≡ zeros J) (zm : m ≡ zeros J) (zg : g ≡ zeroSigma J)
@@ -84,7 +82,3 @@ module _ (i : Inputs) (k m : List ℕ) (g : List Float) where
             → outcomeOf (jobWith bw bh (i .types) (i .muls) (i .sharpness) f (i .lookups)) (reading (jobWith bw bh (i .types) (i .muls) (i .sharpness) f (i .lookups))) ≡ layoutOf i k m g
         unfolding layoutOf
         call-works d bw bh f p q r = rw (a, b, c, d, p, q, r)
-
--- at most 256 blocks each way
-pub most-blocks : (bw bh : ℕ) → bw ≤ 256 → bh ≤ 256 → bh * bw ≤ 65536
-most-blocks bw bh h l = mul-le-mul l h

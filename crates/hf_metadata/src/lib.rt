@@ -7,7 +7,7 @@ ghost use mathlib.Core.Path.{_≡_};
 ghost use Prim.Native.Nat.{_*_, _≤_};
 ghost use lib.ListN.{length};
 ghost use Rattle.layout_reading.specs.Reading.{reading as readingOf};
-ghost use Rattle.layout_reading.specs.Places.{jobWith};
+ghost use Rattle.layout_reading.specs.Reading.{jobWith};
 ghost use Rattle.hf_metadata.specs.Call.{countsFit, inputs, leaves, outcomeOf, layoutOf};
 
 // Accepted with the number of columns used, or refused.

@@ -1,19 +1,24 @@
--- What one cell of the check tells, and when it passes.
-use mathlib.Core.Path.{_≡_, refl, sym, _∙_}
+-- The check with room for more columns, what one cell of it tells, and when it passes.
+use mathlib.Core.Path.{_≡_, refl}
 use mathlib.Core.Bool.{Bool, true, false, _&&_, cond}
 use mathlib.Core.Logic.{_⊎_, inl, inr}
 use mathlib.Core.List.{List}
 use Prim.Native.Nat.{ℕ, zero, suc, _+_, _^_, _%_, _≤_, _<_}
 use native.Mathlib.Omega.{arith}
 use lib.Dec.{ltb, leb, eqb}
-use lib.ListN.{getD}
+use lib.ListN.{getD, replicate}
 use borrow.Author.Tests.{ltb-true, ltb-false, leb-true, eqb-true, lt-ltb, le-ltb, le-leb, lt-leb, eq-eqb, ne-eqb}
 use Rattle.layout.specs.Kinds.{wideOf, highOf}
 use Rattle.layout.specs.Both.{and-true}
 use Rattle.laws.specs.Cases.{eq-or-ne}
-use Rattle.layout.specs.Grid.{paint}
-use Rattle.layout.specs.Valid.{Fits}
-use Rattle.layout.specs.Check.{Covering, Fault, Until, clear, fitting, visitCell}
+use Rattle.layout.specs.Walk.{walk}
+use Rattle.layout.specs.Grid.{fillFrom}
+use Rattle.layout.specs.Valid.{Cells, Fits}
+use Rattle.layout.specs.Check.{Covering, Fault, Until, clear, fitting, visitCell, visit}
+
+-- the walk over a list of at least bw columns
+abbrev pub checkIn : ℕ → ℕ → ℕ → Cells → Cells → Covering
+checkIn room bw bh K M = walk (visit bw bh K M) bw bh (Until (replicate room 0))
 
 pub clear-each : (u : List ℕ) (y x n : ℕ) → clear u y x n ≡ true → (i : ℕ) → x ≤ i → i < x + n → getD u i 0 ≤ y
 unfolding clear
@@ -60,7 +65,7 @@ fits-fitting bw bh x y k m f =
 pub data Passed (bw bh k m x y : ℕ) (u : List ℕ) : List ℕ → Type 0 where
   covered : y < getD u x 0 → k ≡ 1 → m ≡ 0 → Passed bw bh k m x y u u
   opened : getD u x 0 ≤ y → 2 ≤ k → Fits bw bh x y k m → ((i : ℕ) → x ≤ i → i < x + wideOf k → getD u i 0 ≤ y)
-      → Passed bw bh k m x y u (paint u x (wideOf k) (y + highOf k))
+      → Passed bw bh k m x y u (fillFrom u x (wideOf k) (y + highOf k))
 
 -- by cases on how a cell passes, where a bad end proves nothing
 module _ (bw bh k m x y : ℕ) (u : List ℕ) (P : Covering → Type 0) (Q : Type 0) (bad : P Fault → Q)
@@ -74,7 +79,7 @@ module _ (bw bh k m x y : ℕ) (u : List ℕ) (P : Covering → Type 0) (Q : Typ
       inner false e h p = bad p
 
       outer : (b : Bool) → leb 2 k && (fitting bw bh x y k m && clear u y x (wideOf k)) ≡ b → ltb y (getD u x 0) ≡ false
-          → P (cond b (Until (paint u x (wideOf k) (y + highOf k))) Fault) → Q
+          → P (cond b (Until (fillFrom u x (wideOf k) (y + highOf k))) Fault) → Q
       outer true e h p =
           let q = and-true (leb 2 k) _ e in
           let r = and-true (fitting bw bh x y k m) _ (q .1) in
@@ -82,7 +87,7 @@ module _ (bw bh k m x y : ℕ) (u : List ℕ) (P : Covering → Type 0) (Q : Typ
       outer false e h p = bad p
 
       go : (b : Bool) → ltb y (getD u x 0) ≡ b
-          → P (cond b (cond (eqb k 1 && eqb m 0) (Until u) Fault) (cond (leb 2 k && (fitting bw bh x y k m && clear u y x (wideOf k))) (Until (paint u x (wideOf k) (y + highOf k))) Fault)) → Q
+          → P (cond b (cond (eqb k 1 && eqb m 0) (Until u) Fault) (cond (leb 2 k && (fitting bw bh x y k m && clear u y x (wideOf k))) (Until (fillFrom u x (wideOf k) (y + highOf k))) Fault)) → Q
       go true e p = inner (eqb k 1 && eqb m 0) refl e p
       go false e p = outer (leb 2 k && (fitting bw bh x y k m && clear u y x (wideOf k))) refl e p
 
@@ -91,7 +96,7 @@ unfolding visitCell
 visit-covered bw bh k m x y u h e f = rw (lt-ltb y (getD u x 0) h, eq-eqb k 1 e, eq-eqb m 0 f)
 
 pub visit-opened : (bw bh k m x y : ℕ) (u : List ℕ) → getD u x 0 ≤ y → 2 ≤ k → Fits bw bh x y k m → ((i : ℕ) → x ≤ i → i < x + wideOf k → getD u i 0 ≤ y)
-    → visitCell bw bh k m x y u ≡ Until (paint u x (wideOf k) (y + highOf k))
+    → visitCell bw bh k m x y u ≡ Until (fillFrom u x (wideOf k) (y + highOf k))
 unfolding visitCell
 visit-opened bw bh k m x y u h l f c =
     rw (le-ltb y (getD u x 0) h, le-leb 2 k l, fits-fitting bw bh x y k m f, each-clear u y x (wideOf k) c)
@@ -118,6 +123,6 @@ module _ (bw bh k m x y : ℕ) (u : List ℕ) where
   unfolding visitCell
   visit-unclear h l e f = rw (le-ltb y (getD u x 0) h, le-leb 2 k l, e, f)
 
-  pub visit-raised : getD u x 0 ≤ y → 2 ≤ k → fitting bw bh x y k m ≡ true → clear u y x (wideOf k) ≡ true → visitCell bw bh k m x y u ≡ Until (paint u x (wideOf k) (y + highOf k))
+  pub visit-raised : getD u x 0 ≤ y → 2 ≤ k → fitting bw bh x y k m ≡ true → clear u y x (wideOf k) ≡ true → visitCell bw bh k m x y u ≡ Until (fillFrom u x (wideOf k) (y + highOf k))
   unfolding visitCell
   visit-raised h l e f = rw (le-ltb y (getD u x 0) h, le-leb 2 k l, e, f)

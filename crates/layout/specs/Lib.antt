@@ -23,3 +23,4 @@ pub mod Groups
 pub mod Listed
 pub mod Theorems
 pub mod WalkSteps
+pub mod Loops

@@ -1,18 +1,18 @@
 -- The test of likeness passes exactly the layouts of the same sides, rectangles and hf_mul.
-use mathlib.Core.Path.{_≡_, refl, ap, sym, subst, _∙_}
+use mathlib.Core.Path.{_≡_, refl, sym, subst, _∙_}
 use mathlib.Core.Bool.{Bool, true, false, _&&_}
 use mathlib.Core.Logic.{_⊎_, inl, inr, _↔_}
 use mathlib.Core.List.{List}
 use Prim.Native.Nat.{ℕ, zero, suc, _+_, _*_, _-_, _≤_, _<_}
 use native.Mathlib.Omega.{arith}
 use lib.Dec.{leb, eqb}
-use lib.ListN.{length, getD}
+use lib.ListN.{getD}
 use borrow.Author.Tests.{leb-true, leb-false, eqb-true, le-leb, lt-leb, eq-eqb}
 use Rattle.laws.specs.Cases.{le-or-lt, eq-or-ne}
 use Rattle.layout.specs.Both.{and-true}
 use Rattle.layout.specs.Kinds.{wideOf, highOf}
-use Rattle.layout.specs.Grid.{at, place-lt, Cell, cell-at}
-use Rattle.layout.specs.Valid.{Covers, Layout}
+use Rattle.layout.specs.Grid.{place-lt, cell-at}
+use Rattle.layout.specs.Valid.{Layout}
 use Rattle.layout.specs.Like.{Lent, lent, kindAt, mulAt, HasRectangle, SameRectangles, alikeCorners, bySort, alikeCell, alikeFrom, alike}
 
 -- what one cell tells

@@ -1,6 +1,6 @@
 -- The varblocks of a layout: a corner's rectangle each, corners row by row (document 01, Coefficients, "For demand 3"; The lister).
 use mathlib.Core.Bool.{Bool, true, false}
-use mathlib.Core.List.{List, [], _∷_, _++_}
+use mathlib.Core.List.{List, [], _∷_}
 use Prim.Native.Nat.{ℕ, zero, suc, _+_, _*_, _-_}
 use lib.Dec.{leb}
 use Rattle.dct_select.specs.Transforms.{wide, high}

@@ -1,18 +1,17 @@
--- A column by itself at a block, as the code goes: its type, its hf_mul and the borders.
+-- Laws on a column by itself at a block: its type, its hf_mul and the borders.
 use mathlib.Core.Path.{_≡_, refl, ap, sym, _∙_}
-use mathlib.Core.Bool.{Bool, true, false, cond, not, _&&_}
+use mathlib.Core.Bool.{Bool, true, false, cond, not}
 use mathlib.Core.Logic.{_⊎_, inl, inr}
-use Prim.Native.Nat.{ℕ, _+_, _%_, _^_, _≤_, _<_}
+use Prim.Native.Nat.{ℕ, _+_, _%_, _≤_, _<_}
 use native.Mathlib.Omega.{arith}
-use lib.Dec.{leb, ltb, eqb, T}
+use lib.Dec.{leb, ltb, eqb}
 use lib.Dec as dec
-use lib.ListN.{getD, List·getD-eq-default}
-use lib.Ieee.Fits.{eq→eqb}
+use lib.ListN.{List·getD-eq-default}
 use borrow.Author.Tests.{lt-ltb, le-ltb, le-leb, lt-leb, leb-false}
 use Rattle.laws.specs.Cases.{le-or-lt}
 use Rattle.refusal.specs.declared.Refusal.{Refusal}
 use Rattle.refusal.specs.declared.Refusal.the-variants.{UnknownTransform, HfMul, Border}
-use Rattle.dct_select.specs.Transforms.{COUNT, wide, high}
+use Rattle.dct_select.specs.Transforms.{wide, high}
 use Rattle.dct_select.specs.declared.TransformType.{TransformType}
 use Rattle.dct_select.specs.declared.Looked.{Looked}
 use Rattle.dct_select.specs.declared.Looked.the-variants.{Known, Refused}
@@ -23,17 +22,7 @@ use Rattle.dct_select.specs.Rules.{below-27}
 use Rattle.layout_column.specs.declared.Varblock.{Varblock}
 use Rattle.layout_column.specs.declared.Judged.{Judged}
 use Rattle.layout_column.specs.declared.Judged.the-variants.{Asks, Refused as NotAsked}
-use Rattle.layout_column.specs.Columns.{positive}
-
-abbrev pub varblockOf : ℕ → ℕ → Varblock
-varblockOf t h = record { kind = 2 + t; «hf_mul» = h; wide = wide t; high = high t }
-
-unfoldable pub judgedOf : ℕ → ℕ → ℕ → ℕ → Judged
-judgedOf t h x y =
-    cond (leb COUNT t) (NotAsked (UnknownTransform x y))
-    (cond (not (positive h)) (NotAsked (HfMul x y))
-    (cond (ltb 32 (x % 32 + wide t)) (NotAsked (Border x y))
-    (cond (ltb 32 (y % 32 + high t)) (NotAsked (Border x y)) (Asks (varblockOf t h)))))
+use Rattle.layout_column.specs.Columns.{positive, judgedOf, varblockOf}
 
 -- what a look-up found
 abbrev numberIn : Looked → ℕ

@@ -4,8 +4,7 @@ use dct_select::TransformType;
 use refusal::Refusal;
 ghost use mathlib.Core.Path.{_≡_};
 ghost use Prim.Native.Nat.{_≤_};
-ghost use Rattle.layout_column.specs.Columns.{lowBits, hfMulOf};
-ghost use Rattle.layout_column.specs.Judged.{judgedOf};
+ghost use Rattle.layout_column.specs.Columns.{lowBits, hfMulOf, judgedOf};
 
 // What a column asks for: the kind of its corner, hf_mul, and the blocks across and down.
 pub struct Varblock {

@@ -1,10 +1,10 @@
--- The reading as the code goes: a varblock placed, a block visited.
+-- Laws on the reading (document 01, Layout): a varblock placed, a block visited.
 use mathlib.Core.Path.{_≡_, refl, ap, sym, _∙_}
 use mathlib.Core.Bool.{Bool, true, false, cond, not}
 use mathlib.Core.List.{List}
 use Prim.Native.Nat.{ℕ, _+_, _%_, _≤_, _<_}
 use native.Mathlib.Omega.{arith}
-use lib.Dec.{leb, ltb, eqb}
+use lib.Dec.{leb, ltb}
 use lib.ListN.{length, getD}
 use lib.Ieee.{Float}
 use borrow.Author.Tests.{le-leb, lt-leb, eq-eqb, ne-eqb}
@@ -15,38 +15,24 @@ use Rattle.refusal.specs.declared.Refusal.the-variants.{UnknownTransform, HfMul
 use Rattle.dct_select.specs.Transforms.{COUNT, wide, high}
 use Rattle.layout.specs.Grid.{at}
 use Rattle.filter_strength.specs.declared.Filter.{Filter}
-use Rattle.filter_strength.specs.Strength.{sharedFilter}
-use Rattle.varblock_scan.specs.declared.Fault.{Fault}
+use Rattle.filter_strength.specs.Strength.{dividedFilter}
+use Rattle.varblock_scan.specs.declared.Scanned.{Scanned}
 use Rattle.layout_column.specs.declared.Judged.{Judged}
 use Rattle.layout_column.specs.declared.Judged.the-variants.{Asks, Refused as NotAsked}
 use Rattle.layout_reading.specs.declared.column.Step.{Step}
-use Rattle.layout_reading.specs.declared.column.Step.the-variants.{Going as GoesOn, Stopped as Stops}
-use Rattle.layout_column.specs.Columns.{lowBits, hfMulOf, positive}
-use Rattle.varblock_scan.specs.Scan.{Scan, Taking, scan}
-use Rattle.varblock_scan.specs.Steps.{scanned}
-use Rattle.layout_column.specs.Judged.{judgedOf, varblockOf}
-use Rattle.layout_reading.specs.Reading.{Job, Placed, Reading, Going, Stopped, refuseIf, placed, place, placeIn, judge, column, visit}
-
-abbrev pub stateOf : ℕ → List ℕ → List ℕ → List Float → Placed
-stateOf used kinds muls sigma = record { used = used; kinds = kinds; muls = muls; sigma = sigma }
-
-abbrev pub jobWith : ℕ → ℕ → List ℕ → List ℕ → List ℕ → Filter → List Float → Job
-jobWith bw bh types muls sharpness filter lookups =
-    record { bw = bw; bh = bh; types = types; muls = muls; sharpness = sharpness; filter = filter; lookups = lookups }
-
--- the reading that a step stands for, by kinds, hf_mul and sigma
-abbrev pub stepped : Step → List ℕ → List ℕ → List Float → Reading
-stepped (GoesOn used) kinds muls sigma = Going (stateOf used kinds muls sigma)
-stepped (Stops r) kinds muls sigma = Stopped (said r)
+use Rattle.layout_reading.specs.declared.column.Step.the-variants.{Stopped as Stops}
+use Rattle.layout_column.specs.Columns.{lowBits, hfMulOf, positive, judgedOf, varblockOf}
+use Rattle.varblock_scan.specs.Scan.{Scan, Taking, scan, scanned}
+use Rattle.layout_reading.specs.Reading.{Job, Placed, Reading, Going, Stopped, refuseIf, placed, place, placeIn, judge, column, visit, stepped}
 
 module _ (bw bh : ℕ) (filter : Filter) (lookups : List Float) (sharpness : List ℕ) (kind h w n x y : ℕ) (p : Placed) where
-  pub place-by : (f g : Fault) (share : Filter) (k : List ℕ) (s : List Float) → share ≡ sharedFilter filter h
-      → scanned f k s ≡ scan bw bh share lookups sharpness x y w n (Taking (p .kinds) (p .sigma)) → f ≡ g
-      → placed bw bh filter lookups sharpness kind h x y p (scanned g k s) ≡ place bw bh filter lookups sharpness kind h w n x y p
+  pub place-by : (f g : Scanned) (divided : Filter) (k : List ℕ) (s : List Float) → divided ≡ dividedFilter filter h
+      → scanned f k s ≡ scan bw bh divided lookups sharpness x y w n (Taking (p .kinds) (p .sigma)) → f ≡ g
+      → placed bw kind h x y p (scanned g k s) ≡ place bw bh filter lookups sharpness kind h w n x y p
   unfolding place
-  place-by f g share k s q e d =
-      ap (λ (z : Scan). placed bw bh filter lookups sharpness kind h x y p z)
-      (sym (ap (λ (z : Fault). scanned z k s) d) ∙ e
+  place-by f g divided k s q e d =
+      ap (λ (z : Scan). placed bw kind h x y p z)
+      (sym (ap (λ (z : Scanned). scanned z k s) d) ∙ e
       ∙ ap (λ (z : Filter). scan bw bh z lookups sharpness x y w n (Taking (p .kinds) (p .sigma))) q)
 
 module _ (J : Job) (x y : ℕ) (p : Placed) where

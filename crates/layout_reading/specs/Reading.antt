@@ -7,11 +7,13 @@ use lib.ListN.{length, getD, set, replicate}
 use lib.Ieee.{Float}
 use Rattle.refusal.specs.declared.Said.{Said}
 use Rattle.refusal.specs.Said as refusals
+use Rattle.layout_reading.specs.declared.column.Step.{Step}
+use Rattle.layout_reading.specs.declared.column.Step.the-variants.{Going as GoesOn, Stopped as Stops}
 use Rattle.dct_select.specs.Transforms.{COUNT, wide, high}
 use Rattle.layout.specs.Walk.{walk}
 use Rattle.layout.specs.Grid.{at}
 use Rattle.filter_strength.specs.declared.Filter.{Filter}
-use Rattle.filter_strength.specs.Strength.{zero32, sharedFilter}
+use Rattle.filter_strength.specs.Strength.{zero32, dividedFilter}
 use Rattle.layout_column.specs.Columns.{lowBits, hfMulOf, positive}
 use Rattle.varblock_scan.specs.Scan.{Scan, Taking, Left, scan}
 
@@ -41,21 +43,21 @@ pub data Reading : Type 0 where
 abbrev pub refuseIf : Bool → ℕ → ℕ → ℕ → Reading → Reading
 refuseIf test n x y next = cond test (Stopped (refusals.at n x y)) next
 
-module _ (bw bh : ℕ) (filter : Filter) (lookups : List Float) (sharpness : List ℕ) where
-  -- after the scan of the rectangle: the corner gets its kind and hf_mul
-  abbrev pub placed : ℕ → ℕ → ℕ → ℕ → Placed → Scan → Reading
-  placed kind h x y p (Left n cx cy) = Stopped (refusals.at n x y)
-  placed kind h x y p (Taking kinds sigma) =
-      Going (record {
-        used = p .used + 1;
-        kinds = set kinds (y * bw + x) kind;
-        muls = set (p .muls) (y * bw + x) h;
-        sigma = sigma;
-      })
+-- after the scan of the rectangle: the corner gets its kind and hf_mul
+abbrev pub placed : ℕ → ℕ → ℕ → ℕ → ℕ → Placed → Scan → Reading
+placed bw kind h x y p (Left n cx cy) = Stopped (refusals.at n x y)
+placed bw kind h x y p (Taking kinds sigma) =
+    Going (record {
+      used = p .used + 1;
+      kinds = set kinds (y * bw + x) kind;
+      muls = set (p .muls) (y * bw + x) h;
+      sigma = sigma;
+    })
 
+module _ (bw bh : ℕ) (filter : Filter) (lookups : List Float) (sharpness : List ℕ) where
   -- a varblock of w x n blocks at the free block (x, y)
   unfoldable pub place : ℕ → ℕ → ℕ → ℕ → ℕ → ℕ → Placed → Reading
-  place kind h w n x y p = placed kind h x y p (scan bw bh (sharedFilter filter h) lookups sharpness x y w n (Taking (p .kinds) (p .sigma)))
+  place kind h w n x y p = placed bw kind h x y p (scan bw bh (dividedFilter filter h) lookups sharpness x y w n (Taking (p .kinds) (p .sigma)))
 
 module _ (J : Job) where
   abbrev pub placeIn : ℕ → ℕ → ℕ → ℕ → ℕ → ℕ → Placed → Reading
@@ -91,3 +93,15 @@ module _ (J : Job) where
 
   unfoldable pub reading : Reading
   reading = walk visit (J .bw) (J .bh) (Going start)
+
+abbrev pub stateOf : ℕ → List ℕ → List ℕ → List Float → Placed
+stateOf used kinds muls sigma = record { used = used; kinds = kinds; muls = muls; sigma = sigma }
+
+abbrev pub jobWith : ℕ → ℕ → List ℕ → List ℕ → List ℕ → Filter → List Float → Job
+jobWith bw bh types muls sharpness filter lookups =
+    record { bw = bw; bh = bh; types = types; muls = muls; sharpness = sharpness; filter = filter; lookups = lookups }
+
+-- a reading from what the code answers and what it left in kinds, hf_mul and sigma
+abbrev pub stepped : Step → List ℕ → List ℕ → List Float → Reading
+stepped (GoesOn used) kinds muls sigma = Going (stateOf used kinds muls sigma)
+stepped (Stops r) kinds muls sigma = Stopped (refusals.said r)

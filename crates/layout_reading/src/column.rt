@@ -4,13 +4,12 @@ use layout_column::Judged;
 use layout_column::Varblock;
 use layout_column::judge;
 use refusal::Refusal;
-use varblock_scan::Fault;
+use varblock_scan::Scanned;
 use varblock_scan::scan;
 ghost use mathlib.Core.Path.{_≡_};
 ghost use Prim.Native.Nat.{_+_, _*_, _≤_, _<_};
 ghost use lib.ListN.{length};
-ghost use Rattle.layout_reading.specs.Reading.{Going, place as placeOf, visit as visitOf};
-ghost use Rattle.layout_reading.specs.Places.{stateOf, stepped, jobWith};
+ghost use Rattle.layout_reading.specs.Reading.{Going, place as placeOf, visit as visitOf, stateOf, stepped, jobWith};
 
 // The reading goes on with that many columns used, or stops.
 pub enum Step {
@@ -36,13 +35,13 @@ fn place(
     requires { ⌜ (length (now kinds) ≡ bh * bw) × (length (now «hf_mul») ≡ bh * bw) × (length (now sigma) ≡ bh * bw) × (length (now sharpness) ≡ bh * bw) × (bw ≤ 256) × (bh ≤ 256) × (v .wide ≤ 32) × (v .high ≤ 32) × (x < bw) × (y < bh) × (used < 18446744073709551615) ⌝ }
     ensures { λ r. ⌜ stepped r (now (kinds .exit)) (now («hf_mul» .exit)) (now (sigma .exit)) ≡ placeOf bw bh filter (now (lookups .entry)) (now (sharpness .entry)) (v .kind) (v .«hf_mul») (v .wide) (v .high) x y (stateOf used (now (kinds .entry)) (now («hf_mul» .entry)) (now (sigma .entry))) ⌝ }
 {
-    let share = filter.shared_by(v.hf_mul);
-    let fault = scan(
+    let divided = filter.divided_by(v.hf_mul);
+    let outcome = scan(
         kinds,
         sigma,
         sharpness,
         lookups,
-        share,
+        divided,
         bw,
         bh,
         x,
@@ -50,11 +49,11 @@ fn place(
         v.wide,
         v.high,
     );
-    match fault {
-        Fault::Outside(_cx, _cy) => Step::Stopped(Refusal::Outside(x, y)),
-        Fault::Overlap(_cx, _cy) => Step::Stopped(Refusal::Overlap(x, y)),
-        Fault::Sharpness(_cx, _cy) => Step::Stopped(Refusal::Sharpness(x, y)),
-        Fault::Clear => {
+    match outcome {
+        Scanned::Outside(_cx, _cy) => Step::Stopped(Refusal::Outside(x, y)),
+        Scanned::Overlap(_cx, _cy) => Step::Stopped(Refusal::Overlap(x, y)),
+        Scanned::Sharpness(_cx, _cy) => Step::Stopped(Refusal::Sharpness(x, y)),
+        Scanned::Taken => {
             let i = y * bw + x;
             kinds[i] = v.kind;
             hf_mul[i] = v.hf_mul;
@@ -64,7 +63,7 @@ fn place(
 }
 
 // The block (x, y): passed over where it is taken, else it takes the next column.
-pub fn visit(
+pub(crate) fn visit(
     kinds: &mut [u8],
     hf_mul: &mut [u32],
     sigma: &mut [f32],

@@ -6,8 +6,7 @@ ghost use mathlib.Core.Path.{_≡_};
 ghost use Prim.Native.Nat.{_*_, _≤_};
 ghost use lib.ListN.{length};
 ghost use Rattle.layout.specs.Walk.{walk};
-ghost use Rattle.layout_reading.specs.Reading.{Going, visit as visitOf};
-ghost use Rattle.layout_reading.specs.Places.{stateOf, stepped, jobWith};
+ghost use Rattle.layout_reading.specs.Reading.{Going, visit as visitOf, stateOf, stepped, jobWith};
 
 pub fn read(
     kinds: &mut [u8],

@@ -1,7 +1,7 @@
 -- What the likeness test of two lent layouts answers (document 01, Layout, "Added by us"; Refused).
 use mathlib.Core.Bool.{Bool, true, false, _&&_}
 use lib.ListN.{length}
-use Rattle.refusal.specs.Said.{at, said}
+use Rattle.refusal.specs.Said.{said}
 use Rattle.layout.specs.Check.{isLayout}
 use Rattle.layout.specs.Like.{Lent, alike}
 use Rattle.block_check.specs.Calls.{Answer, gives, refuses, unless, inLimits, lengthsFit}
@@ -18,12 +18,12 @@ sided L = inLimits 256 (L .wide) (L .high)
 abbrev pub filled : Lent → Bool
 filled L = lengthsFit (L .wide) (L .high) (length (L .kinds)) (length (L .muls))
 
-abbrev pub lawful : Lent → Bool
-lawful L = isLayout (L .wide) (L .high) (L .kinds) (L .muls)
+abbrev pub holdsLayout : Lent → Bool
+holdsLayout L = isLayout (L .wide) (L .high) (L .kinds) (L .muls)
 
 -- each number is tried over both layouts before the next; yes exactly for the same rectangles and hf_mul (Theorems: like-yes, like-no)
 unfoldable pub likeOf : Lent → Lent → Answer Bool
 likeOf L N =
     unless 2 (sided L && sided N)
     (unless 1 (filled L && filled N)
-    (unless 18 (lawful L && lawful N) (gives (alike L N))))
+    (unless 18 (holdsLayout L && holdsLayout N) (gives (alike L N))))

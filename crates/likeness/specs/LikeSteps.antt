@@ -14,7 +14,7 @@ use Rattle.layout.specs.Kinds.{wideOf, highOf}
 use Rattle.layout.specs.WalkSteps.{left-suc}
 use Rattle.layout.specs.Like.{Lent, bySort, alikeCorners, alikeCell, alikeFrom, alike}
 use Rattle.block_check.specs.Calls.{gives, refuses}
-use Rattle.likeness.specs.Calls.{sided, filled, lawful, likeOf}
+use Rattle.likeness.specs.Calls.{sided, filled, holdsLayout, likeOf}
 
 module _ (k m k′ m′ : ℕ) where
   pub cell-plain : k < 2 → alikeCell k m k′ m′ ≡ ltb k′ 2
@@ -85,16 +85,16 @@ module _ (L N : Lent) where
         like-length-2 d = rw (a, b, c, d)
 
         module _ (d : filled N ≡ true) where
-          pub like-fault : lawful L ≡ false → likeOf L N ≡ refuses (at 18 0 0)
+          pub like-fault : holdsLayout L ≡ false → likeOf L N ≡ refuses (at 18 0 0)
           unfolding likeOf
           like-fault e = rw (a, b, c, d, e)
 
-          module _ (e : lawful L ≡ true) where
-            pub like-fault-2 : lawful N ≡ false → likeOf L N ≡ refuses (at 18 0 0)
+          module _ (e : holdsLayout L ≡ true) where
+            pub like-fault-2 : holdsLayout N ≡ false → likeOf L N ≡ refuses (at 18 0 0)
             unfolding likeOf
             like-fault-2 f = rw (a, b, c, d, e, f)
 
-            pub like-says : lawful N ≡ true → (r : Bool) → alike L N ≡ r → likeOf L N ≡ gives r
+            pub like-says : holdsLayout N ≡ true → (r : Bool) → alike L N ≡ r → likeOf L N ≡ gives r
             unfolding likeOf
             like-says f r g = rw (a, b, c, d, e, f, g)
 

@@ -1,4 +1,4 @@
--- What the likeness test promises (document 00, demand 3; document 01, Layout, "Added by us").
+-- What the likeness test promises (document 01, Layout, "Added by us").
 use mathlib.Core.Path.{_≡_, refl}
 use mathlib.Core.Bool.{Bool, true, false, _&&_}
 use mathlib.Core.Logic.{_↔_}
@@ -11,7 +11,7 @@ use Rattle.layout.specs.Like.{Lent, SameRectangles, alike}
 use Rattle.layout.specs.LikeLaws.{alike-iff, not-wider, same-itself, same-turned, same-joined}
 use Rattle.layout.specs.Theorems.{layout-iff}
 use Rattle.block_check.specs.Calls.{gives}
-use Rattle.likeness.specs.Calls.{sided, filled, lawful, likeOf}
+use Rattle.likeness.specs.Calls.{sided, filled, holdsLayout, likeOf}
 use Rattle.block_check.specs.Laws.{pass, Sided, in-limits, lengths-fit}
 use Rattle.block_check.specs.Theorems.{limits-in, fit-lengths}
 use Rattle.likeness.specs.LikeSteps.{like-says}
@@ -21,7 +21,7 @@ pub record Sound (L : Lent) : Type 0 where
   pub sides : Sided 256 (L .wide) (L .high)
   pub layout : Layout (L .wide) (L .high) (L .kinds) (L .muls)
 
-sound : (L : Lent) → sided L ≡ true → filled L ≡ true → lawful L ≡ true → Sound L
+sound : (L : Lent) → sided L ≡ true → filled L ≡ true → holdsLayout L ≡ true → Sound L
 sound L a b c =
     let l = lengths-fit (L .wide) (L .high) (length (L .kinds)) (length (L .muls)) b in
     record { sides = in-limits 256 (L .wide) (L .high) a; layout = layout-iff (L .wide) (L .high) (L .kinds) (L .muls) (l .0) (l .1) .0 c }
@@ -32,10 +32,10 @@ module _ (L N : Lent) where
   tests r e =
       let a = pass 2 (sided L && sided N) _ r e in
       let b = pass 1 (filled L && filled N) _ r (a .1) in
-      let c = pass 18 (lawful L && lawful N) (gives (alike L N)) r (b .1) in
+      let c = pass 18 (holdsLayout L && holdsLayout N) (gives (alike L N)) r (b .1) in
       let p = and-true (sided L) (sided N) (a .0) in
       let q = and-true (filled L) (filled N) (b .0) in
-      let s = and-true (lawful L) (lawful N) (c .0) in
+      let s = and-true (holdsLayout L) (holdsLayout N) (c .0) in
       (sound L (p .0) (q .0) (s .0), sound N (p .1) (q .1) (s .1), (let d = c .1 in cc))
 
   says : (r : Bool) → Sound L → Sound N → alike L N ≡ r → likeOf L N ≡ gives r

@@ -7,7 +7,6 @@ use block_check::check::lengths_fit;
 use block_check::check::size_of;
 use refusal::Refusal;
 ghost use mathlib.Core.Path.{_≡_};
-ghost use Prim.Native.Nat.{_≤_};
 ghost use lib.ListN.{length};
 ghost use Rattle.layout.specs.Like.{lent, alikeCell, alikeFrom};
 ghost use Rattle.block_check.specs.Sizes.{widths, heights};

@@ -21,7 +21,7 @@ use Rattle.hf_metadata.specs.Call.{Outcome, leaves, inputs, layoutOf}
 use Rattle.accepted_layout.specs.Theorems.{accepted-layout, accepted-area}
 use Rattle.filter_strength.specs.declared.Filter.the-variants.{Off}
 use Rattle.filter_strength.specs.Strength.{zero32}
-use Rattle.lister_job.specs.JobSteps.{prefixed}
+use Rattle.lister_job.specs.Job.{prefixed}
 use Rattle.lister_job.specs.Job.{width, height, columnPlace, columns, types, muls, hasSize, hasEnd}
 use Rattle.lister_lines.specs.Texts.{acceptedText, refusedText, BAD-INPUT}
 use Rattle.lister.specs.Listing.{textBy, MODES, bwOf, bhOf, listed, outcome, layoutText, textOf}
@@ -114,24 +114,24 @@ module _ (s : List ℕ) where
             unfolding textOf
             unended f = rw (sized, f)
 
-            pub bad-cut : length s ≤ columnPlace s n → BAD-INPUT ≡ textOf s
-            bad-cut f = unended (rw (lt-leb (columnPlace s (columns s) + 1) (length s) (rw e at (h f))))
+            pub bad-cut : length s ≤ columnPlace n → BAD-INPUT ≡ textOf s
+            bad-cut f = unended (rw (lt-leb (columnPlace (columns s) + 1) (length s) (rw e at (h f))))
               where
-                h : length s ≤ columnPlace s n → length s < columnPlace s n + 1
+                h : length s ≤ columnPlace n → length s < columnPlace n + 1
                 h g = omega arith
 
-            pub bad-end : columnPlace s n < length s → (getD s (columnPlace s n) 0 ≡ 0 → ⊥) → BAD-INPUT ≡ textOf s
-            bad-end f g = unended (rw (ne-eqb (getD s (columnPlace s (columns s)) 0) 0 (rw e at g)) (and-false (leb (columnPlace s (columns s) + 1) (length s))))
+            pub bad-end : columnPlace n < length s → (getD s (columnPlace n) 0 ≡ 0 → ⊥) → BAD-INPUT ≡ textOf s
+            bad-end f g = unended (rw (ne-eqb (getD s (columnPlace (columns s)) 0) 0 (rw e at g)) (and-false (leb (columnPlace (columns s) + 1) (length s))))
               where
                 and-false : (t : Bool) → t && false ≡ false
                 and-false true = refl
                 and-false false = refl
 
-            pub good : columnPlace s n < length s → getD s (columnPlace s n) 0 ≡ 0 → layoutText (width s) (height s) (types s) (muls s) ≡ textOf s
+            pub good : columnPlace n < length s → getD s (columnPlace n) 0 ≡ 0 → layoutText (width s) (height s) (types s) (muls s) ≡ textOf s
             unfolding textOf
-            good f g = rw (sized, le-leb (columnPlace s (columns s) + 1) (length s) (rw e at (h f)), eq-eqb (getD s (columnPlace s (columns s)) 0) 0 (rw e at g))
+            good f g = rw (sized, le-leb (columnPlace (columns s) + 1) (length s) (rw e at (h f)), eq-eqb (getD s (columnPlace (columns s)) 0) 0 (rw e at g))
               where
-                h : columnPlace s n < length s → columnPlace s n + 1 ≤ length s
+                h : columnPlace n < length s → columnPlace n + 1 ≤ length s
                 h q = omega arith
 
 -- the size record and the columns as they were read

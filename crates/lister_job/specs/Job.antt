@@ -1,10 +1,15 @@
 -- The lister's job (document 01, The lister): command bytes 10 size, 11 column, 00 end, hexadecimal; numbers little-endian.
-use mathlib.Core.Bool.{Bool, true, false, cond, _&&_}
-use mathlib.Core.List.{List}
+use mathlib.Core.Path.{_≡_}
+use mathlib.Core.Bool.{Bool, cond, _&&_}
+use mathlib.Core.List.{List, _++_}
 use Prim.Native.Nat.{ℕ, zero, suc, _+_, _*_}
 use lib.Dec.{leb, eqb}
-use lib.ListN.{length, getD}
+use lib.ListN.{length, getD, drop}
 use Rattle.laws.specs.Lists.{tabulate}
+
+-- where column k begins, of 9 bytes each
+abbrev pub columnPlace : ℕ → ℕ
+columnPlace k = 5 + 9 * k
 
 module _ (s : List ℕ) where
   -- 16 and 32 bits from byte i on
@@ -14,20 +19,18 @@ module _ (s : List ℕ) where
   abbrev pub number32 : ℕ → ℕ
   number32 i = number16 i + 65536 * number16 (i + 2)
 
-  -- the size record is there: a command byte and two 16-bit numbers, at most 512 pixels each
+  -- width and height in pixels, behind the command byte
   abbrev pub width : ℕ
   width = number16 1
 
   abbrev pub height : ℕ
   height = number16 3
 
+  -- the size record is there: a command byte and two 16-bit numbers, at most 512 pixels each
   abbrev pub hasSize : Bool
   hasSize = leb 5 (length s) && eqb (getD s 0 0) 0x10 && leb width 512 && leb height 512
 
-  -- column k, its 9 bytes: a command byte, type and mul
-  abbrev pub columnPlace : ℕ → ℕ
-  columnPlace k = 5 + 9 * k
-
+  -- column k is there whole: a command byte, type and mul
   abbrev pub isColumn : ℕ → Bool
   isColumn k = leb (columnPlace k + 9) (length s) && eqb (getD s (columnPlace k) 0) 0x11
 
@@ -55,3 +58,13 @@ module _ (s : List ℕ) where
   -- behind its columns a job ends; what follows is not read
   abbrev pub hasEnd : Bool
   hasEnd = leb (columnPlace columns + 1) (length s) && eqb (getD s (columnPlace columns) 0) 0
+
+-- the first n places hold f 0, f 1, .., the rest is as it came
+abbrev pub prefixed : (ℕ → ℕ) → ℕ → List ℕ → List ℕ
+prefixed f n d = tabulate f n 0 ++ drop n d
+
+-- what the code reads of the columns: how many, and what it leaves in the lent lists
+pub record ReadColumns (s : List ℕ) (n : ℕ) (types muls types′ muls′ : List ℕ) : Type 0 where
+  pub count : n ≡ columns s
+  pub typesAre : types′ ≡ prefixed (typeAt s) n types
+  pub mulsAre : muls′ ≡ prefixed (mulAt s) n muls

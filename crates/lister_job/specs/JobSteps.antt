@@ -1,24 +1,14 @@
--- A job's columns as the code reads them.
-use mathlib.Core.Path.{_≡_, refl, ap, sym, _∙_}
-use mathlib.Core.Bool.{Bool, true, false, cond, _&&_}
-use mathlib.Core.List.{List, [], _∷_, _++_}
-use Prim.Native.Nat.{ℕ, zero, suc, _+_, _*_, _-_, _≤_, _<_}
+-- Laws on a job's columns (document 01, The lister).
+use mathlib.Core.Path.{_≡_, ap, sym, _∙_}
+use mathlib.Core.Bool.{Bool, true, false, cond}
+use mathlib.Core.List.{List, _∷_, _++_}
+use Prim.Native.Nat.{ℕ, zero, suc, _+_, _-_, _≤_, _<_}
 use native.Mathlib.Omega.{arith}
-use lib.Dec.{leb, eqb}
 use lib.ListN.{length, getD, set, drop}
 use lib.Seq.{drop-cons, set-at}
 use borrow.Author.Tests.{le-leb, lt-leb, eq-eqb, ne-eqb}
 use Rattle.laws.specs.Lists.{tabulate, length-tabulate}
-use Rattle.lister_job.specs.Job.{typeAt, mulAt, columnPlace, isColumn, countFrom, columns}
-
--- the first n places hold f 0, f 1, .., the rest is as it came
-abbrev pub prefixed : (ℕ → ℕ) → ℕ → List ℕ → List ℕ
-prefixed f n d = tabulate f n 0 ++ drop n d
-
-pub record ReadColumns (s : List ℕ) (n : ℕ) (types muls types′ muls′ : List ℕ) : Type 0 where
-  pub count : n ≡ columns s
-  pub typesAre : types′ ≡ prefixed (typeAt s) n types
-  pub mulsAre : muls′ ≡ prefixed (mulAt s) n muls
+use Rattle.lister_job.specs.Job.{columnPlace, isColumn, countFrom, columns, prefixed}
 
 -- one more at the end
 tabulate-more : (f : ℕ → ℕ) (n o : ℕ) (r : List ℕ) → tabulate f n o ++ (f (o + n) ∷ r) ≡ tabulate f (suc n) o ++ r
@@ -45,14 +35,14 @@ module _ (s : List ℕ) where
   unfolding countFrom
   more-left n h = let e : 4096 - n ≡ suc (4096 - (n + 1)) = omega arith in ap (λ (k : ℕ). countFrom s k n) e
 
-  pub count-next : (n : ℕ) → n < 4096 → columnPlace s n + 9 ≤ length s → getD s (columnPlace s n) 0 ≡ 17 → countLeft n ≡ countLeft (n + 1)
-  count-next n h a b = more-left n h ∙ rw (le-leb (columnPlace s n + 9) (length s) a, eq-eqb (getD s (columnPlace s n) 0) 17 b)
+  pub count-next : (n : ℕ) → n < 4096 → columnPlace n + 9 ≤ length s → getD s (columnPlace n) 0 ≡ 17 → countLeft n ≡ countLeft (n + 1)
+  count-next n h a b = more-left n h ∙ rw (le-leb (columnPlace n + 9) (length s) a, eq-eqb (getD s (columnPlace n) 0) 17 b)
 
-  pub count-cut : (n : ℕ) → n < 4096 → length s < columnPlace s n + 9 → countLeft n ≡ n
-  count-cut n h a = more-left n h ∙ rw (lt-leb (columnPlace s n + 9) (length s) a)
+  pub count-cut : (n : ℕ) → n < 4096 → length s < columnPlace n + 9 → countLeft n ≡ n
+  count-cut n h a = more-left n h ∙ rw (lt-leb (columnPlace n + 9) (length s) a)
 
-  pub count-other : (n : ℕ) → n < 4096 → columnPlace s n + 9 ≤ length s → (getD s (columnPlace s n) 0 ≡ 17 → ⊥) → countLeft n ≡ n
-  count-other n h a b = more-left n h ∙ rw (le-leb (columnPlace s n + 9) (length s) a, ne-eqb (getD s (columnPlace s n) 0) 17 b)
+  pub count-other : (n : ℕ) → n < 4096 → columnPlace n + 9 ≤ length s → (getD s (columnPlace n) 0 ≡ 17 → ⊥) → countLeft n ≡ n
+  count-other n h a b = more-left n h ∙ rw (le-leb (columnPlace n + 9) (length s) a, ne-eqb (getD s (columnPlace n) 0) 17 b)
 
   pub count-full : (n : ℕ) → 4096 ≤ n → countLeft n ≡ n
   unfolding countFrom

@@ -1,28 +1,19 @@
--- The lines of the varblocks as the code puts them.
-use mathlib.Core.Path.{_≡_, refl, ap, sym, subst, _∙_}
-use mathlib.Core.Bool.{Bool, cond}
-use mathlib.Core.List.{List, [], _∷_, _++_}
-use Prim.Native.Nat.{ℕ, _+_, _*_, _-_, _≤_, _<_}
+-- Laws on the lines of the varblocks (document 01, The lister).
+use mathlib.Core.Path.{_≡_, ap, sym, subst, _∙_}
+use mathlib.Core.List.{List, [], _++_}
+use Prim.Native.Nat.{ℕ, _+_, _≤_, _<_}
 use native.Mathlib.Omega.{arith}
-use lib.Dec.{leb}
 use lib.ListN.{length}
 use borrow.Author.Tests.{le-leb, lt-leb}
 use Rattle.laws.specs.Cases.{le-or-lt}
 use mathlib.Core.Logic.{_⊎_, inl, inr}
 use Rattle.layout.specs.Grid.{at}
-use Rattle.layout.specs.Varblocks.{Varblock, varblocksOf, cornersFrom}
+use Rattle.layout.specs.Varblocks.{varblocksOf}
 use Rattle.layout.specs.Rest.{rest, rest-corner, rest-plain, rest-rows, rest-turn, rest-end}
 use Rattle.text.specs.Text.{Puts, puts-then, puts-none}
-use Rattle.lister_lines.specs.Texts.{lineOf, linesOf}
-
-abbrev pub varblockOf : ℕ → ℕ → ℕ → ℕ → Varblock
-varblockOf x y t m = record { x = x; y = y; type = t; mul = m }
+use Rattle.lister_lines.specs.Texts.{linesOf, lineAt}
 
 module _ (bw : ℕ) (kinds hfMul : List ℕ) where
-  -- the line of a block, nothing where it is no corner
-  abbrev pub lineAt : ℕ → ℕ → List ℕ
-  lineAt x y = cond (leb 2 (at kinds bw x y)) (lineOf (varblockOf x y (at kinds bw x y - 2) (at hfMul bw x y))) []
-
   module _ (bh : ℕ) where
     abbrev pub linesLeft : ℕ → ℕ → List ℕ
     linesLeft x y = linesOf (rest bw bh (at kinds bw) (at hfMul bw) x y)
@@ -30,11 +21,11 @@ module _ (bw : ℕ) (kinds hfMul : List ℕ) where
     pub lines-start : linesOf (varblocksOf bw bh kinds hfMul) ≡ linesLeft 0 0
     lines-start = ap linesOf (rest-rows bw bh (at kinds bw) (at hfMul bw) bh 0 (omega arith))
 
-    pub lines-next : (x y : ℕ) → x < bw → y < bh → linesLeft x y ≡ lineAt x y ++ linesLeft (x + 1) y
+    pub lines-next : (x y : ℕ) → x < bw → y < bh → linesLeft x y ≡ lineAt bw kinds hfMul x y ++ linesLeft (x + 1) y
     unfolding linesOf
     lines-next x y h l = go (le-or-lt 2 (at kinds bw x y))
       where
-        go : (2 ≤ at kinds bw x y) ⊎ (at kinds bw x y < 2) → linesLeft x y ≡ lineAt x y ++ linesLeft (x + 1) y
+        go : (2 ≤ at kinds bw x y) ⊎ (at kinds bw x y < 2) → linesLeft x y ≡ lineAt bw kinds hfMul x y ++ linesLeft (x + 1) y
         go (inl c) = ap linesOf (rest-corner bw bh (at kinds bw) (at hfMul bw) x y h l c) ∙ rw (le-leb 2 (at kinds bw x y) c)
         go (inr c) = ap linesOf (rest-plain bw bh (at kinds bw) (at hfMul bw) x y h l c) ∙ rw (lt-leb 2 (at kinds bw x y) c)
 

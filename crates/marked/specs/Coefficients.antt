@@ -14,7 +14,7 @@ use Rattle.bits.specs.Signed.{unpackSigned}
 use Rattle.dct_select.specs.Transforms.{TRANSFORMS, wide, high, orderOf, turns}
 use Rattle.natural_order.specs.Natural.{natural}
 use Rattle.layout.specs.Walk.{cells, rows}
-use Rattle.layout.specs.Grid.{paint}
+use Rattle.layout.specs.Grid.{fillFrom}
 use Rattle.layout.specs.Check.{clear, fitting, visitCell, checkRun}
 use Rattle.layout.specs.Varblocks.{cornersRow, cornersFrom}
 use Rattle.block_check.specs.Calls.{inLimits}
@@ -53,11 +53,11 @@ dct16 map symbols log g0 g1 g2 = lent (plain 2 2 (6 ∷ 1 ∷ 1 ∷ 1 ∷ []) (1
 
 -- The checks before work.
 block-laid : layoutFits block ≡ true
-unfolding checkRun visitCell fitting clear paint rows cells wide high TRANSFORMS
+unfolding checkRun visitCell fitting clear fillFrom rows cells wide high TRANSFORMS
 block-laid = refl
 
 square-laid : layoutFits square ≡ true
-unfolding checkRun visitCell fitting clear paint rows cells wide high TRANSFORMS
+unfolding checkRun visitCell fitting clear fillFrom rows cells wide high TRANSFORMS
 square-laid = refl
 
 sided : (sidesFit block ≡ true) × (sidesFit square ≡ true)

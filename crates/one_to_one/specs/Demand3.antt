@@ -134,7 +134,7 @@ module _ (L : Lent) (fixed : Fixed L) where
   reads s =
       let e : L .shift ≡ 0 = fixed .shift in
       call-reads (withSymbols L s) (fixed .sides) (parameters (L .shift) (L .presets) (omega arith) (fixed .few)) (fixed .contexts) (fixed .lengths)
-      (layout-check (P .width) (P .height) (P .kinds) (P .muls) (P .width) (omega arith) (fixed .layout)) (written-fits (P .store) (fixed .orders)) (fixed .preset) (fixed .bits) (fixed .readWhole) (fixed .below)
+      (layout-check (P .width) (P .height) (P .kinds) (P .muls) (fixed .layout)) (written-fits (P .store) (fixed .orders)) (fixed .preset) (fixed .bits) (fixed .readWhole) (fixed .below)
     where
       parameters : (shift presets : ℕ) → shift ≤ 3 → presets ≤ 256 → parametersFit shift presets ≡ true
       parameters shift presets a b = rw (le-leb shift 3 a, le-leb presets 256 b)

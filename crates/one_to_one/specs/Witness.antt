@@ -20,7 +20,7 @@ use Rattle.layout.specs.Grid.{rowOf, gridFrom}
 use Rattle.layout.specs.Cut.{cut, groupX, groupY, groupWide, groupHigh}
 use Rattle.lf_group.specs.Blocks.{wideIn, highIn}
 use Rattle.filter_strength.specs.declared.Filter.the-variants.{Off}
-use Rattle.filter_strength.specs.Strength.{zero32, scaledFilter, sharedFilter}
+use Rattle.filter_strength.specs.Strength.{zero32, scaledFilter, dividedFilter}
 use Rattle.filter_strength.specs.Limits.{inLimits}
 use Rattle.varblock_scan.specs.Scan.{takeCell, scan}
 use Rattle.layout_reading.specs.Reading.{place, judge, column, reading}
@@ -63,7 +63,7 @@ abbrev pub columns : Inputs
 columns = inputs 8 8 (0 ∷ 0 ∷ 0 ∷ []) (0 ∷ []) (0 ∷ []) (0 ∷ []) Off (replicate 8 zero32) 1
 
 layout-accepted : layoutOf columns (0 ∷ []) (0 ∷ []) (zero32 ∷ []) ≡ record { answer = accepted 1; kinds = 2 ∷ []; hfMul = 1 ∷ []; sigma = zero32 ∷ [] }
-unfolding layoutOf wideIn highIn inLimits le lt eq reading column judge place scan takeCell rows cells wide high TRANSFORMS scaledFilter sharedFilter
+unfolding layoutOf wideIn highIn inLimits le lt eq reading column judge place scan takeCell rows cells wide high TRANSFORMS scaledFilter dividedFilter
 layout-accepted = refl
 
 lengths-fit : lengthsFit one ≡ true

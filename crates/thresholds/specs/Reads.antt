@@ -1,5 +1,5 @@
 -- Laws of the reads of block contexts: how far they go, and how large qf values are.
-use mathlib.Core.Path.{_≡_, refl, sym, _∙_, subst}
+use mathlib.Core.Path.{_≡_, refl, sym, subst}
 use mathlib.Core.Bool.{Bool, true, false, cond}
 use mathlib.Core.List.{List}
 use Prim.Native.Nat.{ℕ, zero, suc, _+_, _-_, _/_, _%_, _^_, _≤_, _<_}
@@ -7,9 +7,9 @@ use native.Mathlib.Nat.{mod-lt}
 use native.Mathlib.Omega.{arith}
 use lib.Dec.{eqb}
 use lib.Pow.{pow-pos}
-use Rattle.bits.specs.Bits.{Read, Value, Ended, then, Choice, Constant, Offset, readBits, readChoice, chosen, readU32}
+use Rattle.bits.specs.Bits.{Read, Value, Ended, then, Choice, Offset, readBits, readChoice, chosen, readU32}
 use Rattle.bits.specs.Numbers.{Bytes, number}
-use Rattle.bits.specs.Laws.{value-at, ended-at, read-whole}
+use Rattle.bits.specs.Laws.{choice-ended, value-at, ended-at, read-whole}
 use Rattle.bits.specs.Signed.{unpackSigned}
 use Rattle.thresholds.specs.declared.Kind.{Kind}
 use Rattle.thresholds.specs.declared.Kind.the-variants.{Lf, Qf}
@@ -44,14 +44,6 @@ offset-small s o n top h l t p v at e = go (readBits s p n) refl
         let b : (o + w) % 2 ^ 32 ≡ v = cc in
         (omega (arith, value-at s p n w q f .0), omega (arith, field-lt s p n w q h f))
     go (Ended q) f = absurd (let z : _≡_ {A = ℕ} 0 1 = cc (rw f at e) in omega arith)
-
-choice-ended : (s : List ℕ) (p : ℕ) (m : Choice) (at : ℕ) → readChoice s p m ≡ Ended at → at ≡ p
-choice-ended s p (Constant v) at e = absurd (let z : _≡_ {A = ℕ} 0 1 = cc in omega arith)
-choice-ended s p (Offset o n) at e = go (readBits s p n) refl
-  where
-    go : (r : Read) → readBits s p n ≡ r → at ≡ p
-    go (Value v q) f = absurd (let z : _≡_ {A = ℕ} 0 1 = cc (rw f at e) in omega arith)
-    go (Ended q) f = let a : q ≡ at = cc (rw f at e) in sym a ∙ ended-at s p n q f
 
 module _ (s : List ℕ) (top : ℕ) (a b c d : Choice) (sa : Small s top a) (sb : Small s top b) (sc : Small s top c) (sd : Small s top d) where
   chosen-small : (k : ℕ) → Small s top (chosen k a b c d)

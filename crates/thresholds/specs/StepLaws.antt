@@ -1,13 +1,13 @@
 -- A read of the reader as a step of the context call.
 use mathlib.Core.Path.{_≡_, ap, sym}
 use mathlib.Core.List.{List}
-use Prim.Native.Nat.{ℕ, _+_, _-_, _≤_}
+use Prim.Native.Nat.{ℕ, _+_, _≤_}
 use native.Mathlib.Omega.{arith}
 use Rattle.bits.specs.declared.Place.{Place}
 use Rattle.bits.specs.declared.Got.the-variants as got
 use Rattle.bits.specs.Bits.{Read, Value, Ended, then}
 use Rattle.bits.specs.Reads.{placeAt, gotOf}
-use Rattle.bits.specs.Laws.{was-value, was-end}
+use Rattle.bits.specs.Laws.{WasValue, was-value, was-end}
 use Rattle.thresholds.specs.declared.Step.the-variants as step
 use Rattle.bits.specs.Numbers.{Bytes}
 use Rattle.thresholds.specs.Reading.{qfU32}
@@ -46,11 +46,6 @@ field-end p r k l e =
     rw (w .is, a)
 
 -- What a step says of its read.
-pub record WasValue (r : Read) (v : ℕ) (q : Place) : Type 0 where
-  pub at : ℕ
-  pub is : r ≡ Value v at
-  pub place : q ≡ placeAt at
-
 pub stepped : (r : Read) (v : ℕ) (q : Place) → stepOf r ≡ step.Value v q → WasValue r v q
 stepped (Value w at) v q e =
     let a : w ≡ v = cc in

@@ -1,4 +1,4 @@
--- The declared types against the reads of block contexts.
+-- The declared types against the reads of block contexts (document 01, Block contexts).
 use mathlib.Core.List.{List}
 use Prim.Native.Nat.{ℕ}
 use lib.ListN.{length, replicate}

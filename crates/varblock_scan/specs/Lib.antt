@@ -1,4 +1,3 @@
 -- the scan of a varblock's rectangle, and laws on it
 pub mod Scan
-pub mod Loops
 pub mod Steps

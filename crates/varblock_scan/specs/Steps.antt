@@ -1,39 +1,25 @@
--- The scan as the code goes.
-use mathlib.Core.Path.{_≡_, refl, ap, sym, _∙_}
-use mathlib.Core.Bool.{Bool, true, false, _&&_}
+-- Laws on the scan, cell by cell.
+use mathlib.Core.Path.{_≡_, refl}
+use mathlib.Core.Bool.{true, false}
 use mathlib.Core.List.{List}
 use Prim.Native.Nat.{ℕ, _+_, _*_, _≤_, _<_}
 use native.Mathlib.Omega.{arith}
-use lib.ListN.{getD, set}
+use lib.ListN.{set}
 use lib.Ieee.{Float}
 use borrow.Author.Tests.{lt-ltb, le-ltb, le-leb, lt-leb}
-use Rattle.layout.specs.Walk.{walk}
 use Rattle.layout.specs.Grid.{at}
 use Rattle.filter_strength.specs.declared.Filter.{Filter}
 use Rattle.filter_strength.specs.declared.Filter.the-variants.{Off, On}
-use Rattle.filter_strength.specs.Strength.{looked}
-use Rattle.varblock_scan.specs.declared.Fault.{Fault}
-use Rattle.varblock_scan.specs.declared.Fault.the-variants.{Clear, Outside, Overlap, Sharpness}
-use Rattle.varblock_scan.specs.Scan.{Scan, Taking, Left, takeCell, scan}
-use Rattle.varblock_scan.specs.Loops.{rowsLeft, cellsLeft, loop-start}
+use Rattle.filter_strength.specs.Strength.{timesLookUp}
+use Rattle.varblock_scan.specs.declared.Scanned.{Scanned}
+use Rattle.varblock_scan.specs.declared.Scanned.the-variants.{Taken, Outside, Overlap, Sharpness}
+use Rattle.varblock_scan.specs.Scan.{Scan, Taking, Left, takeCell, scan, scanned, refuses}
+use Rattle.layout.specs.Loops.{rowsLeft, loop-start}
 
--- the scan that a fault stands for, by kinds and sigma
-abbrev pub scanned : Fault → List ℕ → List Float → Scan
-scanned Clear kinds sigma = Taking kinds sigma
-scanned (Outside cx cy) kinds sigma = Left 9 cx cy
-scanned (Overlap cx cy) kinds sigma = Left 8 cx cy
-scanned (Sharpness cx cy) kinds sigma = Left 10 cx cy
-
-abbrev pub refuses : Fault → Bool
-refuses Clear = false
-refuses (Outside cx cy) = true
-refuses (Overlap cx cy) = true
-refuses (Sharpness cx cy) = true
-
-module _ (bw bh : ℕ) (share : Filter) (lookups : List Float) (sharpness : List ℕ) where
+module _ (bw bh : ℕ) (divided : Filter) (lookups : List Float) (sharpness : List ℕ) where
   module _ (cx cy : ℕ) (k : List ℕ) (s : List Float) where
     abbrev pub taken : Scan
-    taken = takeCell bw bh share lookups sharpness cx cy (Taking k s)
+    taken = takeCell bw bh divided lookups sharpness cx cy (Taking k s)
 
     pub cell-wide : bw ≤ cx → Left 9 cx cy ≡ taken
     unfolding takeCell
@@ -48,44 +34,37 @@ module _ (bw bh : ℕ) (share : Filter) (lookups : List Float) (sharpness : List
       unfolding takeCell
       cell-overlap h = rw (lt-leb bw cx inX, lt-leb bh cy inY, lt-ltb 0 (at k bw cx cy) h)
 
-      pub cell-off : at k bw cx cy ≤ 0 → share ≡ Off → Taking (set k (cy * bw + cx) 1) s ≡ taken
+      pub cell-off : at k bw cx cy ≤ 0 → divided ≡ Off → Taking (set k (cy * bw + cx) 1) s ≡ taken
       unfolding takeCell
       cell-off h e = rw (lt-leb bw cx inX, lt-leb bh cy inY, le-ltb 0 (at k bw cx cy) h, e)
 
-      pub cell-blunt : (q : Float) → at k bw cx cy ≤ 0 → share ≡ On q → 8 ≤ at sharpness bw cx cy → Left 10 cx cy ≡ taken
+      pub cell-sharpness : (q : Float) → at k bw cx cy ≤ 0 → divided ≡ On q → 8 ≤ at sharpness bw cx cy → Left 10 cx cy ≡ taken
       unfolding takeCell
-      cell-blunt q h e l = rw (lt-leb bw cx inX, lt-leb bh cy inY, le-ltb 0 (at k bw cx cy) h, e, le-leb 8 (at sharpness bw cx cy) l)
+      cell-sharpness q h e l = rw (lt-leb bw cx inX, lt-leb bh cy inY, le-ltb 0 (at k bw cx cy) h, e, le-leb 8 (at sharpness bw cx cy) l)
 
-      pub cell-on : (q : Float) → at k bw cx cy ≤ 0 → share ≡ On q → at sharpness bw cx cy < 8
-          → Taking (set k (cy * bw + cx) 1) (set s (cy * bw + cx) (looked q lookups (at sharpness bw cx cy))) ≡ taken
+      pub cell-on : (q : Float) → at k bw cx cy ≤ 0 → divided ≡ On q → at sharpness bw cx cy < 8
+          → Taking (set k (cy * bw + cx) 1) (set s (cy * bw + cx) (timesLookUp q lookups (at sharpness bw cx cy))) ≡ taken
       unfolding takeCell
       cell-on q h e l = rw (lt-leb bw cx inX, lt-leb bh cy inY, le-ltb 0 (at k bw cx cy) h, e, lt-leb 8 (at sharpness bw cx cy) l)
 
   -- the rectangle's walk
   abbrev pub cellAt : ℕ → ℕ → ℕ → ℕ → Scan → Scan
-  cellAt x y dx dy s = takeCell bw bh share lookups sharpness (x + dx) (y + dy) s
+  cellAt x y dx dy s = takeCell bw bh divided lookups sharpness (x + dx) (y + dy) s
 
-  pub scan-start : (x y w h : ℕ) (s : Scan) → scan bw bh share lookups sharpness x y w h s ≡ rowsLeft (cellAt x y) w h 0 s
+  pub scan-start : (x y w h : ℕ) (s : Scan) → scan bw bh divided lookups sharpness x y w h s ≡ rowsLeft (cellAt x y) w h 0 s
   unfolding scan
   scan-start x y w h s = loop-start (cellAt x y) w h s
 
   -- a cell that refuses ends the scan
-  pub refused-stays : (f : Fault) (k : List ℕ) (s : List Float) → refuses f ≡ true → (x y dx dy : ℕ) → cellAt x y dx dy (scanned f k s) ≡ scanned f k s
+  pub refused-stays : (f : Scanned) (k : List ℕ) (s : List Float) → refuses f ≡ true → (x y dx dy : ℕ) → cellAt x y dx dy (scanned f k s) ≡ scanned f k s
   unfolding takeCell
-  refused-stays Clear k s e x y dx dy = absurd (let z : _≡_ {A = ℕ} 0 1 = cc in omega arith)
+  refused-stays Taken k s e x y dx dy = absurd (let z : _≡_ {A = ℕ} 0 1 = cc in omega arith)
   refused-stays (Outside a b) k s e x y dx dy = refl
   refused-stays (Overlap a b) k s e x y dx dy = refl
   refused-stays (Sharpness a b) k s e x y dx dy = refl
 
--- kinds and sigma matter only while no cell refuses
-pub refused-same : (f : Fault) (k l : List ℕ) (s t : List Float) → refuses f ≡ true → scanned f k s ≡ scanned f l t
-refused-same Clear k l s t e = absurd (let z : _≡_ {A = ℕ} 0 1 = cc in omega arith)
-refused-same (Outside a b) k l s t e = refl
-refused-same (Overlap a b) k l s t e = refl
-refused-same (Sharpness a b) k l s t e = refl
-
-pub clear-is : (f : Fault) → refuses f ≡ false → f ≡ Clear
-clear-is Clear e = refl
-clear-is (Outside a b) e = absurd (let z : _≡_ {A = ℕ} 0 1 = cc in omega arith)
-clear-is (Overlap a b) e = absurd (let z : _≡_ {A = ℕ} 0 1 = cc in omega arith)
-clear-is (Sharpness a b) e = absurd (let z : _≡_ {A = ℕ} 0 1 = cc in omega arith)
+pub taken-is : (f : Scanned) → refuses f ≡ false → f ≡ Taken
+taken-is Taken e = refl
+taken-is (Outside a b) e = absurd (let z : _≡_ {A = ℕ} 0 1 = cc in omega arith)
+taken-is (Overlap a b) e = absurd (let z : _≡_ {A = ℕ} 0 1 = cc in omega arith)
+taken-is (Sharpness a b) e = absurd (let z : _≡_ {A = ℕ} 0 1 = cc in omega arith)

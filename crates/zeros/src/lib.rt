@@ -1,10 +1,9 @@
 // Lent memory set to zero.
 ghost use mathlib.Core.Path.{_≡_};
 ghost use mathlib.Core.Bool.{false};
-ghost use Prim.Native.Nat.{ℕ};
 ghost use lib.IntN.{pos};
 ghost use lib.ListN.{length, replicate};
-ghost use lib.Ieee.{Float, fin};
+ghost use lib.Ieee.{fin};
 
 pub fn clear_u8(bytes: &mut [u8])
     ensures { λ r. ⌜ now (bytes .exit) ≡ replicate (length (now (bytes .entry))) 0 ⌝ }

@@ -40,7 +40,7 @@ returns c =
     let sizes = c .before .before .before .before .before .before in
     let index = sizes .before .before in
     let a = index .before .before .before .before .args in
-    let C = lists 0 (a .t1) (a .lf-thresholds .now) (a .qf-thresholds .now) (a .block-ctx-map .now) in
+    let C = lists (a .t1) (a .lf-thresholds .now) (a .qf-thresholds .now) (a .block-ctx-map .now) in
     let n = getD (a .t1) in
     let size = lf-size-is (a .lf-thresholds .now) (n 0 0) (n 1 0) (n 2 0) (omega arith) in
     contexts-are C (a .order) (a .hf-mul) (a .lf-there) (a .q0) (a .q1) (a .q2)

@@ -1,13 +1,13 @@
 use Rattle.bits.specs.Numbers.{Bytes}
 use Rattle.bits.specs.Reads.{passed}
-use Rattle.thresholds.specs.Reading.{listsOf, lfValue, qfValue, readList, readLists}
-use Rattle.hf_block_context.specs.Call.{judgedLists}
-use Rattle.thresholds.specs.Reads.{lf-near, qf-near}
+use Rattle.thresholds.specs.Reading.{Reading, Lists, lfValue, qfValue, readList, readLists}
+use Rattle.hf_block_context.specs.Call.{judgedLists, orEnded}
+use Rattle.thresholds.specs.Reads.{lf-near}
 use Rattle.thresholds.specs.Steps.{thresholdsOf}
-use Rattle.hf_block_context.specs.CallLaws.{WasList, was-list, was-short, short0, short1, short2, short3, whole, judged-arrays, or-ended, or-judged}
+use Rattle.hf_block_context.specs.CallLaws.{WasList, was-list, was-short, short0, short1, short2, whole, judgedQf, behind-lf, or-ended}
 use borrow.Author.Needs.{needs}
 use native.Mathlib.Omega.{arith}
-use mathlib.Core.Path.{_≡_, _∙_, ap}
+use mathlib.Core.Path.{_∙_, ap, sym}
 use Prim.Native.Nat.{ℕ, _-_}
 use Rattle.hf_block_context.proofs.by_lists.Statement.{statement}
 use Rattle.hf_block_context.proofs.by_lists.Tie as tie
@@ -42,16 +42,6 @@ module _ (c : tie.After-step22) where
       was-list (a .bytes .now) (lfValue (a .bytes .now)) (second (c .before .before .before .before) .at) (λ p v at e. lf-near (a .bytes .now) (bytes-of b) p .value v at e .0) (bytes-of b)
       (c .before .before .read-list3 .result) (c .step22 .given .0 .0) (c .step22 .given .0 .1 .0)
       (c .before .before .read-list3 .ensures ∙ ap (λ (p : ℕ). thresholdsOf (readList (a .bytes .now) (lfValue (a .bytes .now)) p)) (second (c .before .before .before .before) .place)) (c .step22 .given .1)
-
-module _ (c : tie.After-step32) where
-  fourth : let b = c .before .before .before .before .before .before .before .before .before .before .before .before in let a = b .before .before .before .before .before .args in
-      WasList (a .bytes .now) (qfValue (a .bytes .now)) (third (c .before .before .before .before) .at) (c .before .before .read-list4 .result) (c .step32 .given .0 .0) (c .step32 .given .0 .1 .0)
-  fourth =
-      let b = c .before .before .before .before .before .before .before .before .before .before .before .before in
-      let a = b .before .before .before .before .before .args in
-      was-list (a .bytes .now) (qfValue (a .bytes .now)) (third (c .before .before .before .before) .at) (λ p v at e. qf-near (a .bytes .now) (bytes-of b) p .value v at e .0) (bytes-of b)
-      (c .before .before .read-list4 .result) (c .step32 .given .0 .0) (c .step32 .given .0 .1 .0)
-      (c .before .before .read-list4 .ensures ∙ ap (λ (p : ℕ). thresholdsOf (readList (a .bytes .now) (qfValue (a .bytes .now)) p)) (third (c .before .before .before .before) .place)) (c .step32 .given .1)
 
 read-list-requires : tie.Need-read-list-requires
 read-list-requires c κs = search needs
@@ -91,29 +81,18 @@ refuse-requires-3 c κs = search needs
 enum-known-step2-2 : tie.Need-enum-known-step2-2
 enum-known-step2-2 c = search needs
 
-read-list-requires-4 : tie.Need-read-list-requires-4
-read-list-requires-4 c κs =
-    let l = third (c .before) in (l .bit, omega (arith, l .place, l .near, second (c .before .before .before .before .before) .near, first (c .before .before .before .before .before .before .before .before .before) .near))
-
-enum-known-step3 : tie.Need-enum-known-step3
-enum-known-step3 c = search needs
-
-refuse-requires-4 : tie.Need-refuse-requires-4
-refuse-requires-4 c κs = search needs
-
-enum-known-step3-2 : tie.Need-enum-known-step3-2
-enum-known-step3-2 c = search needs
-
 joined-requires : tie.Need-joined-requires
 joined-requires c κs = search needs
 
-bits-read-requires : tie.Need-bits-read-requires
-bits-read-requires c κs = search needs
-
-judge-requires : tie.Need-judge-requires
-judge-requires c κs =
-    let l = c .before .before .before .before .before .before .before .before .before .before in
-    (first (l .before .before .before .before .before .before .before .before .before .before .before .before) .few, second (l .before .before .before .before .before .before .before .before) .few, third (l .before .before .before .before) .few, fourth l .few)
+with-qf-requires : tie.Need-with-qf-requires
+with-qf-requires c κs =
+    let e = c .before .before .before .before .before .before .before .before in
+    let d = e .before .before .before .before in
+    let b = d .before .before .before .before in
+    let l = first b in
+    let m = second d in
+    let n = third e in
+    (n .bit, omega (arith, n .place, n .near, m .near, l .near, b .before .before .before .before .before .pre .1), l .few, m .few, n .few)
 
 returns : tie.Need-returns
 returns c =
@@ -154,7 +133,7 @@ returns-3 c =
 
 returns-4 : tie.Need-returns-4
 returns-4 c =
-    let e = c .before .before .before .before .before .before in
+    let e = c .before .before .before .before .before .before .before .before .before in
     let d = e .before .before .before .before in
     let b = d .before .before .before .before in
     let a = b .before .before .before .before .before .args in
@@ -162,33 +141,14 @@ returns-4 c =
     let l = first b in
     let m = second d in
     let n = third e in
-    let at = c .before .before .step3 .given .0 .0 in
-    c .refuse4 .ensures
-    ∙ or-ended (readLists s (passed (a .p))) (judgedLists (a .num-clusters) (a .map .now)) at
-    (short3 s (passed (a .p)) (l .vs) (l .at) (l .is) (m .vs) (m .at) (m .is) (n .vs) (n .at) (n .is) at
-    (was-short s (qfValue s) (n .at) (c .before .before .before .before .read-list4 .result) at
-    (c .before .before .before .before .read-list4 .ensures ∙ ap (λ (p : ℕ). thresholdsOf (readList s (qfValue s) p)) (n .place)) (c .before .before .step3 .given .1)))
-
-returns-5 : tie.Need-returns-5
-returns-5 c =
-    let f = c .before .before .before .before .before .before .before .before .before .before .before in
-    let e = f .before .before .before .before in
-    let d = e .before .before .before .before in
-    let b = d .before .before .before .before in
-    let a = b .before .before .before .before .before .args in
-    let s = a .bytes .now in
-    let l = first b in
-    let m = second d in
-    let n = third e in
-    let o = fourth f in
-    let at : c .before .bits-read .result ≡ o .at = omega (arith, o .place, o .near, n .near, m .near, l .near, b .before .before .before .before .before .pre .1) in
-    c .judge .ensures
-    ∙ judged-arrays (a .num-clusters) (a .map .now) (l .vs) (m .vs) (n .vs) (o .vs)
-    (b .before .before .read-list .result .values) (d .before .before .read-list2 .result .values) (e .before .before .read-list3 .result .values) (f .before .before .read-list4 .result .values) (c .before .before .before .joined .result)
-    (b .step02 .given .0 .0) (d .step12 .given .0 .0) (e .step22 .given .0 .0) (f .step32 .given .0 .0) (o .at) (c .before .bits-read .result)
-    (l .count) (m .count) (n .count) (o .count) (l .values) (m .values) (n .values) (o .values) (c .before .before .before .joined .ensures) at
-    ∙ or-judged (readLists s (passed (a .p))) (judgedLists (a .num-clusters) (a .map .now)) (listsOf (l .vs) (m .vs) (n .vs) (o .vs)) (o .at)
-    (whole s (passed (a .p)) (l .vs) (l .at) (l .is) (m .vs) (m .at) (m .is) (n .vs) (n .at) (n .is) (o .vs) (o .at) (o .is))
+    c .with-qf .ensures
+    ∙ ap (λ (p : ℕ). orEnded (readList s (qfValue s) p) (judgedQf (a .num-clusters) (a .map .now) (b .step02 .given .0 .0) (d .step12 .given .0 .0) (e .step22 .given .0 .0) (c .before .joined .result))) (n .place)
+    ∙ behind-lf (a .num-clusters) (a .map .now) (l .vs) (m .vs) (n .vs)
+    (b .before .before .read-list .result .values) (d .before .before .read-list2 .result .values) (e .before .before .read-list3 .result .values) (c .before .joined .result)
+    (b .step02 .given .0 .0) (d .step12 .given .0 .0) (e .step22 .given .0 .0) (l .count) (m .count) (n .count) (l .values) (m .values) (n .values) (c .before .joined .ensures)
+    (readList s (qfValue s) (n .at))
+    ∙ ap (λ (r : Reading Lists). orEnded r (judgedLists (a .num-clusters) (a .map .now)))
+    (sym (whole s (passed (a .p)) (l .vs) (l .at) (l .is) (m .vs) (m .at) (m .is) (n .vs) (n .at) (n .is)))
 
 pub by-lists-spec : {M : Type 1} → statement M
 by-lists-spec =
@@ -206,15 +166,9 @@ by-lists-spec =
     enum-known-step2
     refuse-requires-3
     enum-known-step2-2
-    read-list-requires-4
-    enum-known-step3
-    refuse-requires-4
-    enum-known-step3-2
     joined-requires
-    bits-read-requires
-    judge-requires
+    with-qf-requires
     returns
     returns-2
     returns-3
-    returns-4
-    returns-5)
+    returns-4)

@@ -2,11 +2,11 @@ use Prim.Native.Nat.{_%_, ℕ, _-_}
 use Rattle.bits.specs.declared.Place.{Place}
 use Rattle.bits.specs.Bits.{readBits}
 use Rattle.bits.specs.Reads.{passed}
-use Rattle.bits.specs.Laws.{passed-at, value-at}
+use Rattle.bits.specs.Laws.{WasValue, passed-at, value-at}
 use Rattle.thresholds.specs.Reading.{readLists}
 use Rattle.hf_block_context.specs.Call.{judgedLists, orEnded, accepted, stored, noLists, DEFAULT-MAP}
 use Rattle.thresholds.specs.Steps.{stepOf}
-use Rattle.thresholds.specs.StepLaws.{WasValue, stepped, ended}
+use Rattle.thresholds.specs.StepLaws.{stepped, ended}
 use Rattle.hf_block_context.specs.CallLaws.{parsed-ended, parsed-default, parsed-lists}
 use borrow.Author.Needs.{needs}
 use native.Mathlib.Omega.{arith}

@@ -1,5 +1,5 @@
 use Rattle.hf_metadata.specs.CallSteps.{fill-accepts, fill-refuses}
-use Rattle.layout_reading.specs.Places.{jobWith}
+use Rattle.layout_reading.specs.Reading.{jobWith}
 use Rattle.filter_strength.specs.Strength.{zero32}
 use lib.Ieee.{Float}
 use lib.ListN.{replicate}

@@ -1,15 +1,14 @@
-use Rattle.hf_metadata.specs.CallSteps.{counts, call-size, call-modes, call-params, call-lengths, call-works, most-blocks}
+use Rattle.hf_metadata.specs.CallSteps.{counts, call-size, call-modes, call-params, call-lengths, call-works}
 use Rattle.hf_metadata.specs.Call.{inputs, countsFit}
 use Rattle.lf_group.specs.Blocks.{highIn}
-use Rattle.hf_metadata.specs.CallSteps.{counts, call-size, call-modes, call-params, call-lengths, call-works}
-use Rattle.hf_metadata.specs.Call.{inputs}
 use Rattle.lf_group.specs.declared.Blocks.{Blocks}
 use Rattle.lf_group.specs.Bounds.{wide-most, high-most}
 use borrow.Author.Tests.{not-true, not-false}
 use borrow.Author.Needs.{needs}
 use native.Mathlib.Omega.{arith}
 use mathlib.Core.Path.{_∙_, ap, sym}
-use Prim.Native.Nat.{ℕ, _*_}
+use Prim.Native.Nat.{ℕ, _*_, _≤_}
+use native.Mathlib.Nat.{mul-le-mul}
 use lib.ListN.{length}
 use Rattle.hf_metadata.proofs.layout.Statement.{statement}
 use Rattle.hf_metadata.proofs.layout.Tie as tie
@@ -48,9 +47,11 @@ mul-counts-fit c =
     let b = c .blocks-of in
     let ew = ap (λ (s : Blocks). s .bw) (b .ensures) in
     let eh = ap (λ (s : Blocks). s .bh) (b .ensures) in
-    let w = wide-most (a .width) (a .height) fits (a .modes) in
-    let h = high-most (a .width) (a .height) fits (a .modes) in
-    omega (arith, most-blocks (b .result .bw) (b .result .bh) (omega arith) (omega arith))
+    let wm = wide-most (a .width) (a .height) fits (a .modes) in
+    let hm = high-most (a .width) (a .height) fits (a .modes) in
+    let w : b .result .bw ≤ 256 = omega arith in
+    let h : b .result .bh ≤ 256 = omega arith in
+    omega (arith, mul-le-mul h w)
 
 counts-fit-requires : tie.Need-counts-fit-requires
 counts-fit-requires c κs = search needs

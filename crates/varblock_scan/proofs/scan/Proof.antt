@@ -1,8 +1,8 @@
-use Rattle.varblock_scan.specs.declared.Fault.{Fault}
-use Rattle.varblock_scan.specs.Steps.{scanned, refuses, cellAt, scan-start, refused-stays, clear-is}
-use Rattle.varblock_scan.specs.Loops.{rowsLeft, cellsLeft, loop-enter, loop-next, loop-stop, loop-leave, loop-finish}
-use Rattle.varblock_scan.specs.Scan.{Taking}
-use Rattle.varblock_scan.specs.declared.Fault.the-variants.{Clear}
+use Rattle.varblock_scan.specs.declared.Scanned.{Scanned}
+use Rattle.varblock_scan.specs.Steps.{cellAt, scan-start, refused-stays, taken-is}
+use Rattle.layout.specs.Loops.{rowsLeft, cellsLeft, loop-enter, loop-next, loop-stop, loop-leave, loop-finish}
+use Rattle.varblock_scan.specs.Scan.{Taking, scanned, refuses}
+use Rattle.varblock_scan.specs.declared.Scanned.the-variants.{Taken}
 use mathlib.Core.Path.{refl}
 use borrow.Author.Needs.{needs}
 use native.Mathlib.Omega.{arith}
@@ -13,16 +13,16 @@ use Rattle.varblock_scan.proofs.scan.Statement.{statement}
 use Rattle.varblock_scan.proofs.scan.Tie as tie
 
 abbrev Inv-loop : tie.InvT-loop
-Inv-loop kinds₀ sigma₀ sharpness lookups share bw bh x y w h fault₀ dy dx₀ kinds sigma fault dx = (dx ≤ w) × (fault ≡ Clear) × (length kinds ≡ bh * bw) × (length sigma ≡ bh * bw) × (cellsLeft (cellAt bw bh share lookups sharpness x y) w h dy 0 (Taking kinds₀ sigma₀) ≡ cellsLeft (cellAt bw bh share lookups sharpness x y) w h dy dx (Taking kinds sigma))
+Inv-loop kinds₀ sigma₀ sharpness lookups divided bw bh x y w h outcome₀ dy dx₀ kinds sigma outcome dx = (dx ≤ w) × (outcome ≡ Taken) × (length kinds ≡ bh * bw) × (length sigma ≡ bh * bw) × (cellsLeft (cellAt bw bh divided lookups sharpness x y) w h dy 0 (Taking kinds₀ sigma₀) ≡ cellsLeft (cellAt bw bh divided lookups sharpness x y) w h dy dx (Taking kinds sigma))
 
 abbrev μ-loop : tie.MeasureT-loop
-μ-loop kinds₀ sigma₀ sharpness lookups share bw bh x y w h fault₀ dy dx₀ kinds sigma fault dx = w - dx
+μ-loop kinds₀ sigma₀ sharpness lookups divided bw bh x y w h outcome₀ dy dx₀ kinds sigma outcome dx = w - dx
 
 abbrev Inv-rows : tie.InvT-rows
-Inv-rows kinds₀ sigma₀ sharpness lookups share bw bh x y w h fault₀ dy₀ kinds sigma fault dy = (dy ≤ h) × (fault ≡ Clear) × (length kinds ≡ bh * bw) × (length sigma ≡ bh * bw) × (rowsLeft (cellAt bw bh share lookups sharpness x y) w h 0 (Taking kinds₀ sigma₀) ≡ rowsLeft (cellAt bw bh share lookups sharpness x y) w h dy (Taking kinds sigma))
+Inv-rows kinds₀ sigma₀ sharpness lookups divided bw bh x y w h outcome₀ dy₀ kinds sigma outcome dy = (dy ≤ h) × (outcome ≡ Taken) × (length kinds ≡ bh * bw) × (length sigma ≡ bh * bw) × (rowsLeft (cellAt bw bh divided lookups sharpness x y) w h 0 (Taking kinds₀ sigma₀) ≡ rowsLeft (cellAt bw bh divided lookups sharpness x y) w h dy (Taking kinds sigma))
 
 abbrev μ-rows : tie.MeasureT-rows
-μ-rows kinds₀ sigma₀ sharpness lookups share bw bh x y w h fault₀ dy₀ kinds sigma fault dy = h - dy
+μ-rows kinds₀ sigma₀ sharpness lookups divided bw bh x y w h outcome₀ dy₀ kinds sigma outcome dy = h - dy
 
 rows-holds : tie.Need-rows-holds Inv-loop μ-loop Inv-rows μ-rows
 rows-holds c = (omega arith, refl, omega arith, omega arith, refl)
@@ -56,9 +56,9 @@ loop-again c =
     let o = c .before .before .before .before .before .before .before .before .before .before .before .before .rows in
     let l = c .before .before .before .before .before .before .before .before .before .before .loop in
     let v = c .before .before .before .before .before .before .take-cell in
-    let e = clear-is (v .result) (sym (c .before .refuses .ensures) ∙ c .if1 .left) in
-    let t = sym (ap (λ (z : Fault). scanned z (v .last .0) (v .last .1 .0)) e) ∙ v .ensures in
-    (omega arith, l .inv .1, omega arith, omega arith, l .inv .4 ∙ loop-next (cellAt (a .bw) (a .bh) (a .share) (a .lookups .now) (a .sharpness .now) (a .x) (a .y)) (a .w) (a .h) (o .dy) (l .dx) (Taking (l .kinds) (l .sigma)) (Taking (v .last .0) (v .last .1 .0)) (omega arith) t)
+    let e = taken-is (v .result) (sym (c .before .refuses .ensures) ∙ c .if1 .left) in
+    let t = sym (ap (λ (z : Scanned). scanned z (v .last .0) (v .last .1 .0)) e) ∙ v .ensures in
+    (omega arith, l .inv .1, omega arith, omega arith, l .inv .4 ∙ loop-next (cellAt (a .bw) (a .bh) (a .divided) (a .lookups .now) (a .sharpness .now) (a .x) (a .y)) (a .w) (a .h) (o .dy) (l .dx) (Taking (l .kinds) (l .sigma)) (Taking (v .last .0) (v .last .1 .0)) (omega arith) t)
 
 add-dy : tie.Need-add-dy Inv-loop μ-loop Inv-rows μ-rows
 add-dy c = search needs
@@ -71,7 +71,7 @@ rows-again c =
     let a = c .before .before .before .before .before .before .before .args in
     let o = c .before .before .before .rows in
     let l = c .before .loop in
-    (omega arith, l .inv .1, l .inv .2, l .inv .3, o .inv .4 ∙ loop-enter (cellAt (a .bw) (a .bh) (a .share) (a .lookups .now) (a .sharpness .now) (a .x) (a .y)) (a .w) (a .h) (o .dy) (Taking (o .kinds) (o .sigma)) (omega arith) ∙ l .inv .4 ∙ loop-leave (cellAt (a .bw) (a .bh) (a .share) (a .lookups .now) (a .sharpness .now) (a .x) (a .y)) (a .w) (a .h) (o .dy) (l .dx) (Taking (l .kinds) (l .sigma)) (omega arith))
+    (omega arith, l .inv .1, l .inv .2, l .inv .3, o .inv .4 ∙ loop-enter (cellAt (a .bw) (a .bh) (a .divided) (a .lookups .now) (a .sharpness .now) (a .x) (a .y)) (a .w) (a .h) (o .dy) (Taking (o .kinds) (o .sigma)) (omega arith) ∙ l .inv .4 ∙ loop-leave (cellAt (a .bw) (a .bh) (a .divided) (a .lookups .now) (a .sharpness .now) (a .x) (a .y)) (a .w) (a .h) (o .dy) (l .dx) (Taking (l .kinds) (l .sigma)) (omega arith))
 
 same-length : tie.Need-same-length Inv-loop μ-loop Inv-rows μ-rows
 same-length c = search needs
@@ -83,7 +83,7 @@ returns : tie.Need-returns Inv-loop μ-loop Inv-rows μ-rows
 returns c =
     let a = c .before .before .before .before .before .args in
     let o = c .before .rows in
-    ap (λ (z : Fault). scanned z (o .kinds) (o .sigma)) (o .inv .1) ∙ sym (scan-start (a .bw) (a .bh) (a .share) (a .lookups .now) (a .sharpness .now) (a .x) (a .y) (a .w) (a .h) (Taking (a .kinds .now) (a .sigma .now)) ∙ o .inv .4 ∙ loop-finish (cellAt (a .bw) (a .bh) (a .share) (a .lookups .now) (a .sharpness .now) (a .x) (a .y)) (a .w) (a .h) (o .dy) (Taking (o .kinds) (o .sigma)) (omega arith))
+    ap (λ (z : Scanned). scanned z (o .kinds) (o .sigma)) (o .inv .1) ∙ sym (scan-start (a .bw) (a .bh) (a .divided) (a .lookups .now) (a .sharpness .now) (a .x) (a .y) (a .w) (a .h) (Taking (a .kinds .now) (a .sigma .now)) ∙ o .inv .4 ∙ loop-finish (cellAt (a .bw) (a .bh) (a .divided) (a .lookups .now) (a .sharpness .now) (a .x) (a .y)) (a .w) (a .h) (o .dy) (Taking (o .kinds) (o .sigma)) (omega arith))
 
 same-length-3 : tie.Need-same-length-3 Inv-loop μ-loop Inv-rows μ-rows
 same-length-3 c = search needs
@@ -98,7 +98,7 @@ returns-2 c =
     let l = c .before .before .before .before .before .before .before .before .before .before .loop in
     let v = c .before .before .before .before .before .before .take-cell in
     let e = sym (c .before .refuses .ensures) ∙ c .if1 .taken in
-    sym (scan-start (a .bw) (a .bh) (a .share) (a .lookups .now) (a .sharpness .now) (a .x) (a .y) (a .w) (a .h) (Taking (a .kinds .now) (a .sigma .now)) ∙ o .inv .4 ∙ loop-enter (cellAt (a .bw) (a .bh) (a .share) (a .lookups .now) (a .sharpness .now) (a .x) (a .y)) (a .w) (a .h) (o .dy) (Taking (o .kinds) (o .sigma)) (omega arith) ∙ l .inv .4 ∙ loop-stop (cellAt (a .bw) (a .bh) (a .share) (a .lookups .now) (a .sharpness .now) (a .x) (a .y)) (a .w) (a .h) (o .dy) (l .dx) (Taking (l .kinds) (l .sigma)) (scanned (v .result) (v .last .0) (v .last .1 .0)) (refused-stays (a .bw) (a .bh) (a .share) (a .lookups .now) (a .sharpness .now) (v .result) (v .last .0) (v .last .1 .0) e (a .x) (a .y)) (omega arith) (v .ensures))
+    sym (scan-start (a .bw) (a .bh) (a .divided) (a .lookups .now) (a .sharpness .now) (a .x) (a .y) (a .w) (a .h) (Taking (a .kinds .now) (a .sigma .now)) ∙ o .inv .4 ∙ loop-enter (cellAt (a .bw) (a .bh) (a .divided) (a .lookups .now) (a .sharpness .now) (a .x) (a .y)) (a .w) (a .h) (o .dy) (Taking (o .kinds) (o .sigma)) (omega arith) ∙ l .inv .4 ∙ loop-stop (cellAt (a .bw) (a .bh) (a .divided) (a .lookups .now) (a .sharpness .now) (a .x) (a .y)) (a .w) (a .h) (o .dy) (l .dx) (Taking (l .kinds) (l .sigma)) (scanned (v .result) (v .last .0) (v .last .1 .0)) (refused-stays (a .bw) (a .bh) (a .divided) (a .lookups .now) (a .sharpness .now) (v .result) (v .last .0) (v .last .1 .0) e (a .x) (a .y)) (omega arith) (v .ensures))
 
 pub scan-spec : {M : Type 1} → statement M
 scan-spec =

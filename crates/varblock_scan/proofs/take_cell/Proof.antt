@@ -1,4 +1,4 @@
-use Rattle.varblock_scan.specs.Steps.{cell-wide, cell-high, cell-overlap, cell-off, cell-blunt, cell-on}
+use Rattle.varblock_scan.specs.Steps.{cell-wide, cell-high, cell-overlap, cell-off, cell-sharpness, cell-on}
 use lib.Arith.{digits-lt}
 use borrow.Author.Needs.{needs}
 use native.Mathlib.Omega.{arith}
@@ -8,12 +8,12 @@ use Rattle.varblock_scan.proofs.take_cell.Tie as tie
 returns : tie.Need-returns
 returns c =
     let a = c .before .args in
-    cell-wide (a .bw) (a .bh) (a .share) (a .lookups .now) (a .sharpness .now) (a .cx) (a .cy) (a .kinds .now) (a .sigma .now) (omega arith)
+    cell-wide (a .bw) (a .bh) (a .divided) (a .lookups .now) (a .sharpness .now) (a .cx) (a .cy) (a .kinds .now) (a .sigma .now) (omega arith)
 
 returns-2 : tie.Need-returns-2
 returns-2 c =
     let a = c .before .before .args in
-    cell-high (a .bw) (a .bh) (a .share) (a .lookups .now) (a .sharpness .now) (a .cx) (a .cy) (a .kinds .now) (a .sigma .now) (omega arith) (omega arith)
+    cell-high (a .bw) (a .bh) (a .divided) (a .lookups .now) (a .sharpness .now) (a .cx) (a .cy) (a .kinds .now) (a .sigma .now) (omega arith) (omega arith)
 
 mul-i : tie.Need-mul-i
 mul-i c =
@@ -33,7 +33,7 @@ slice-read-if3 c =
 returns-3 : tie.Need-returns-3
 returns-3 c =
     let a = c .before .before .before .before .args in
-    cell-overlap (a .bw) (a .bh) (a .share) (a .lookups .now) (a .sharpness .now) (a .cx) (a .cy) (a .kinds .now) (a .sigma .now) (omega arith) (omega arith) (omega arith)
+    cell-overlap (a .bw) (a .bh) (a .divided) (a .lookups .now) (a .sharpness .now) (a .cx) (a .cy) (a .kinds .now) (a .sigma .now) (omega arith) (omega arith) (omega arith)
 
 enum-told : tie.Need-enum-told
 enum-told c = search needs
@@ -43,8 +43,8 @@ slice-write-kinds c =
     let a = c .before .before .before .before .before .before .args in
     omega (arith, digits-lt {q = a .cy} {m = a .bh} {r = a .cx} {c = a .bw} (omega arith) (omega arith))
 
-enum-known-share : tie.Need-enum-known-share
-enum-known-share c = search needs
+enum-known-divided : tie.Need-enum-known-divided
+enum-known-divided c = search needs
 
 mul-s : tie.Need-mul-s
 mul-s c =
@@ -59,7 +59,7 @@ shared-slice-read-s c =
 returns-4 : tie.Need-returns-4
 returns-4 c =
     let a = c .before .before .before .before .before .before .before .before .before .args in
-    cell-blunt (a .bw) (a .bh) (a .share) (a .lookups .now) (a .sharpness .now) (a .cx) (a .cy) (a .kinds .now) (a .sigma .now) (omega arith) (omega arith) _ (omega arith) (c .before .before .before .share .given .1) (omega arith)
+    cell-sharpness (a .bw) (a .bh) (a .divided) (a .lookups .now) (a .sharpness .now) (a .cx) (a .cy) (a .kinds .now) (a .sigma .now) (omega arith) (omega arith) _ (omega arith) (c .before .before .before .divided .given .1) (omega arith)
 
 slice-write-kinds-2 : tie.Need-slice-write-kinds-2
 slice-write-kinds-2 c =
@@ -91,7 +91,7 @@ same-length c = search needs
 returns-5 : tie.Need-returns-5
 returns-5 c =
     let a = c .before .before .before .before .before .before .args in
-    cell-off (a .bw) (a .bh) (a .share) (a .lookups .now) (a .sharpness .now) (a .cx) (a .cy) (a .kinds .now) (a .sigma .now) (omega arith) (omega arith) (omega arith) (c .enum-told .given .1)
+    cell-off (a .bw) (a .bh) (a .divided) (a .lookups .now) (a .sharpness .now) (a .cx) (a .cy) (a .kinds .now) (a .sigma .now) (omega arith) (omega arith) (omega arith) (c .enum-told .given .1)
 
 same-length-2 : tie.Need-same-length-2
 same-length-2 c = search needs
@@ -102,7 +102,7 @@ same-length-3 c = search needs
 returns-6 : tie.Need-returns-6
 returns-6 c =
     let a = c .before .before .before .before .before .before .before .before .before .before .args in
-    cell-on (a .bw) (a .bh) (a .share) (a .lookups .now) (a .sharpness .now) (a .cx) (a .cy) (a .kinds .now) (a .sigma .now) (omega arith) (omega arith) _ (omega arith) (c .before .before .before .before .share .given .1) (omega arith)
+    cell-on (a .bw) (a .bh) (a .divided) (a .lookups .now) (a .sharpness .now) (a .cx) (a .cy) (a .kinds .now) (a .sigma .now) (omega arith) (omega arith) _ (omega arith) (c .before .before .before .before .divided .given .1) (omega arith)
 
 pub take-cell-spec : {M : Type 1} → statement M
 take-cell-spec =
@@ -116,7 +116,7 @@ take-cell-spec =
     returns-3
     enum-told
     slice-write-kinds
-    enum-known-share
+    enum-known-divided
     mul-s
     shared-slice-read-s
     returns-4

@@ -1,13 +1,17 @@
 use Prim.Native.Nat.{_*_}
 use borrow.Author.Tests.{eq-eqb, ne-eqb}
 use Rattle.block_check.specs.Calls.{lengthsFit}
-use Rattle.block_check.specs.Laws.{area}
+use Prim.Native.Nat.{_≤_}
+use native.Mathlib.Nat.{mul-le-mul}
 use native.Mathlib.Omega.{arith}
 use Rattle.block_check.proofs.check.lengths_fit.Statement.{statement}
 use Rattle.block_check.proofs.check.lengths_fit.Tie as tie
 
 mul-cells : tie.Need-mul-cells
-mul-cells c = omega (arith, area (c .args .wide) (c .args .high) (omega arith) (omega arith))
+mul-cells c =
+    let w : c .args .wide ≤ 256 = omega arith in
+    let h : c .args .high ≤ 256 = omega arith in
+    omega (arith, mul-le-mul h w)
 
 returns : tie.Need-returns
 unfolding lengthsFit

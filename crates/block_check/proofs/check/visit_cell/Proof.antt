@@ -3,7 +3,7 @@ use Prim.Native.Nat.{ℕ, _+_}
 use borrow.Author.Tests.{not-true, not-false}
 use Rattle.dct_select.specs.declared.Sides.{Sides}
 use Rattle.layout.specs.Kinds.{wideOf, highOf}
-use Rattle.layout.specs.Grid.{paint}
+use Rattle.layout.specs.Grid.{fillFrom}
 use Rattle.layout.specs.Check.{Until, clear}
 use Rattle.layout.specs.CheckLaws.{fitting-fits, visit-not-one, visit-one, visit-small, visit-unfit, visit-unclear, visit-raised}
 use borrow.Author.Needs.{needs}
@@ -88,8 +88,8 @@ returns-6 c =
     sym
     (visit-raised (a .bw) (a .bh) (a .kind) (a .mul) (a .x) (a .y) (a .until .now) (omega arith) (omega arith) f g
     ∙ ap Until
-    (ap (λ (n : ℕ). paint (a .until .now) (a .x) n (a .y + highOf (a .kind))) w
-    ∙ ap (λ (n : ℕ). paint (a .until .now) (a .x) (s .wide) (a .y + n)) h
+    (ap (λ (n : ℕ). fillFrom (a .until .now) (a .x) n (a .y + highOf (a .kind))) w
+    ∙ ap (λ (n : ℕ). fillFrom (a .until .now) (a .x) (s .wide) (a .y + n)) h
     ∙ sym (c .raise .ensures)))
 
 pub visit-cell-spec : {M : Type 1} → statement M

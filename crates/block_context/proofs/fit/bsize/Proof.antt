@@ -1,5 +1,5 @@
 use native.Mathlib.Nat.{mul-le-mul}
-use Rattle.block_context.specs.Record.{cappedBsize}
+use Rattle.block_context.specs.Laws.{cappedBsize}
 use borrow.Author.Needs.{needs}
 use native.Mathlib.Omega.{arith}
 use Prim.Native.Nat.{_-_, _+_}

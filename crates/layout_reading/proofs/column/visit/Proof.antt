@@ -1,4 +1,5 @@
-use Rattle.layout_reading.specs.Places.{stateOf, jobWith, byJudged, visit-taken, visit-ends, visit-judged}
+use Rattle.layout_reading.specs.Places.{byJudged, visit-taken, visit-ends, visit-judged}
+use Rattle.layout_reading.specs.Reading.{stateOf, jobWith}
 use Rattle.layout_column.specs.Judged.{asks-most}
 use Rattle.layout_column.specs.Columns.{lowBits, hfMulOf}
 use lib.ListN.{getD}

@@ -1,5 +1,6 @@
-use Rattle.layout_reading.specs.Places.{stateOf, jobWith, stepped, stop-stays}
-use Rattle.varblock_scan.specs.Loops.{rowsLeft, cellsLeft, loop-start, loop-enter, loop-next, loop-stop, loop-leave, loop-finish}
+use Rattle.layout_reading.specs.Places.{stop-stays}
+use Rattle.layout_reading.specs.Reading.{stateOf, jobWith, stepped}
+use Rattle.layout.specs.Loops.{rowsLeft, cellsLeft, loop-start, loop-enter, loop-next, loop-stop, loop-leave, loop-finish}
 use Rattle.layout_reading.specs.Reading.{Going, visit}
 use Rattle.layout_reading.specs.declared.column.Step.{Step}
 use mathlib.Core.Path.{refl}

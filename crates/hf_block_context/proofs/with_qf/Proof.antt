@@ -1,0 +1,74 @@
+use Rattle.bits.specs.Numbers.{Bytes}
+use Rattle.bits.specs.Reads.{passed}
+use Rattle.thresholds.specs.Reading.{qfValue, readList}
+use Rattle.thresholds.specs.Reads.{qf-near}
+use Rattle.hf_block_context.specs.CallLaws.{WasList, was-list, was-short, judgedQf, judged-qf, or-ended, or-judged}
+use borrow.Author.Needs.{needs}
+use native.Mathlib.Omega.{arith}
+use mathlib.Core.Path.{_≡_, _∙_}
+use Rattle.hf_block_context.proofs.with_qf.Statement.{statement}
+use Rattle.hf_block_context.proofs.with_qf.Tie as tie
+
+-- What the list that was read says.
+module _ (c : tie.After-step2) where
+  bytes : Bytes (c .before .before .before .before .before .args .bytes .now)
+  bytes i = c .before .before .before .before .shared-slice-known .given i .fits
+
+  listed : let a = c .before .before .before .before .before .args in WasList (a .bytes .now) (qfValue (a .bytes .now)) (passed (a .p)) (c .before .before .read-list .result) (c .step2 .given .0 .0) (c .step2 .given .0 .1 .0)
+  listed =
+      let a = c .before .before .before .before .before .args in
+      was-list (a .bytes .now) (qfValue (a .bytes .now)) (passed (a .p)) (λ p v at e. qf-near (a .bytes .now) bytes p .value v at e .0) bytes
+      (c .before .before .read-list .result) (c .step2 .given .0 .0) (c .step2 .given .0 .1 .0) (c .before .before .read-list .ensures) (c .step2 .given .1)
+
+read-list-requires : tie.Need-read-list-requires
+read-list-requires c κs = search needs
+
+enum-known-step : tie.Need-enum-known-step
+enum-known-step c = search needs
+
+refuse-requires : tie.Need-refuse-requires
+refuse-requires c κs = search needs
+
+enum-known-step-2 : tie.Need-enum-known-step-2
+enum-known-step-2 c = search needs
+
+bits-read-requires : tie.Need-bits-read-requires
+bits-read-requires c κs = search needs
+
+judge-requires : tie.Need-judge-requires
+judge-requires c κs =
+    let q = c .before .before .before .before .before .before .before .before .pre in (q .2, q .3, q .4, listed (c .before .before .before) .few)
+
+returns : tie.Need-returns
+returns c =
+    let a = c .before .before .before .before .before .before .before .args in
+    let s = a .bytes .now in
+    let at = c .before .before .step .given .0 .0 in
+    c .refuse .ensures
+    ∙ or-ended (readList s (qfValue s) (passed (a .p))) (judgedQf (a .num-clusters) (a .map .now) (a .n0) (a .n1) (a .n2) (a .lf)) at
+    (was-short s (qfValue s) (passed (a .p)) (c .before .before .before .before .read-list .result) at (c .before .before .before .before .read-list .ensures) (c .before .before .step .given .1))
+
+returns-2 : tie.Need-returns-2
+returns-2 c =
+    let f = c .before .before .before .before in
+    let a = f .before .before .before .before .before .args in
+    let s = a .bytes .now in
+    let l = listed f in
+    let at : c .before .bits-read .result ≡ l .at = omega (arith, l .place, l .near, f .before .before .before .before .before .pre .1) in
+    c .judge .ensures
+    ∙ judged-qf (a .num-clusters) (a .map .now) (l .vs) (f .before .before .read-list .result .values) (a .lf) (a .n0) (a .n1) (a .n2) (f .step2 .given .0 .0) (l .at) (c .before .bits-read .result)
+    (l .count) (l .values) at
+    ∙ or-judged (readList s (qfValue s) (passed (a .p))) (judgedQf (a .num-clusters) (a .map .now) (a .n0) (a .n1) (a .n2) (a .lf)) (l .vs) (l .at) (l .is)
+
+pub with-qf-spec : {M : Type 1} → statement M
+with-qf-spec =
+    tie.close
+    (tie.spec
+    read-list-requires
+    enum-known-step
+    refuse-requires
+    enum-known-step-2
+    bits-read-requires
+    judge-requires
+    returns
+    returns-2)
