@@ -5,3 +5,4 @@ pub mod Accepted
 pub mod Theorems
 pub mod Marked
 pub mod Refused
+pub mod Sigma

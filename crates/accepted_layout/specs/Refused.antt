@@ -3,8 +3,7 @@
 use mathlib.Core.Path.{_≡_, refl, ap, sym, _∙_}
 use mathlib.Core.Bool.{Bool, true, false, cond, not, _&&_}
 use mathlib.Core.List.{List}
-use mathlib.Core.Logic.{_⊎_, inl, inr}
-use Prim.Native.Nat.{ℕ, zero, suc, _+_, _*_, _%_, _≤_, _<_}
+use Prim.Native.Nat.{ℕ, _+_, _*_, _%_, _≤_, _<_}
 use native.Mathlib.Omega.{arith}
 use lib.Dec.{ltb, leb, eqb}
 use lib.ListN.{length, getD, replicate}
@@ -12,15 +11,15 @@ use lib.Ieee.{Float}
 use Rattle.refusal.specs.declared.Said.{Said}
 use Rattle.refusal.specs.Said as refusals
 use Rattle.dct_select.specs.Transforms.{COUNT, wide, high}
-use Rattle.layout.specs.Walk.{walk, forward}
+use Rattle.layout.specs.Walk.{forward}
 use Rattle.layout.specs.Grid.{at}
 use Rattle.lf_group.specs.Blocks.{sizeFits}
 use Rattle.filter_strength.specs.declared.Filter.{Filter}
 use Rattle.filter_strength.specs.Strength.{zero32, sharedFilter}
 use Rattle.layout_column.specs.Columns.{lowBits, hfMulOf, positive}
-use Rattle.varblock_scan.specs.Scan.{Scan, Taking, Left, isOn, sigmaWith, takeCell, scan}
-use Rattle.layout_reading.specs.Reading.{Job, Placed, Reading, Going, Stopped, refuseIf, placed, place, placeIn, judge, column, visit, start, zeros, zeroSigma, reading}
-use Rattle.hf_metadata.specs.Call.{Answer, accepted, refused, Outcome, outcomeOf, Inputs, jobOf, parametersFit, lengthsFit, refuseWith, layoutOf}
+use Rattle.varblock_scan.specs.Scan.{Scan, Taking, Left, isOn, takeCell, scan}
+use Rattle.layout_reading.specs.Reading.{Job, Placed, Reading, Going, Stopped, refuseIf, placed, place, placeIn, judge, column, visit, start, reading}
+use Rattle.hf_metadata.specs.Call.{accepted, refused, Outcome, outcomeOf, Inputs, jobOf, parametersFit, lengthsFit, refuseWith, layoutOf}
 use Rattle.accepted_layout.specs.Theorems.{bwOf, bhOf, off-size, off-parameters, off-lengths, works}
 
 -- a scan is left with 8, 9 or 10

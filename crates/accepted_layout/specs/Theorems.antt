@@ -1,13 +1,10 @@
 -- The layout call as a whole: what an accepted one has written, what a refused one hands back and leaves.
 use mathlib.Core.Path.{_≡_, refl, ap, sym, _∙_}
-use mathlib.Core.Bool.{Bool, true, false, cond, not}
+use mathlib.Core.Bool.{Bool, true, false}
 use mathlib.Core.List.{List}
-use mathlib.Core.Logic.{_⊎_, inl, inr}
-use Prim.Native.Nat.{ℕ, _+_, _*_, _≤_, _<_}
+use Prim.Native.Nat.{ℕ, _*_, _≤_, _<_}
 use native.Mathlib.Omega.{arith}
-use lib.ListN.{length, replicate}
 use lib.Ieee.{Float}
-use Rattle.refusal.specs.declared.Said.{Said}
 use Rattle.refusal.specs.Said as refusals
 use Rattle.lf_group.specs.Blocks.{sizeFits, wideIn, highIn}
 use Rattle.layout.specs.Grid.{at}
@@ -15,8 +12,8 @@ use Rattle.layout.specs.Valid.{Covers, Owned, Layout}
 use Rattle.layout.specs.Check.{check}
 use Rattle.layout.specs.Varblocks.{varblocksOf, area}
 use Rattle.layout.specs.Theorems.{layout-check, disjoint, covered, layout-area}
-use Rattle.layout_reading.specs.Reading.{Job, Placed, Reading, Going, Stopped, reading}
-use Rattle.hf_metadata.specs.Call.{Answer, accepted, refused, Outcome, outcomeOf, Inputs, jobOf, parametersFit, lengthsFit, refuseWith, layoutOf}
+use Rattle.layout_reading.specs.Reading.{Placed, Reading, Going, Stopped, reading}
+use Rattle.hf_metadata.specs.Call.{accepted, refused, Outcome, outcomeOf, Inputs, jobOf, parametersFit, lengthsFit, refuseWith, layoutOf}
 use Rattle.accepted_layout.specs.Accepted.{read-layout}
 
 -- the grid's sides
