@@ -159,7 +159,7 @@ module _ (J : Job) where
     pub done : (a b : ℕ) → a < J .bw → b < J .bh → Before a b x y → 0 < at (p .kinds) (J .bw) a b
     pub behind : (a b : ℕ) → a < J .bw → b < J .bh → 2 ≤ at (p .kinds) (J .bw) a b → Before a b x y
 
-  passing : (x y : ℕ) (p : Placed) → 0 < at (p .kinds) (J .bw) x y → Sofar x y p → Sofar (x + 1) y p
+  pub passing : (x y : ℕ) (p : Placed) → 0 < at (p .kinds) (J .bw) x y → Sofar x y p → Sofar (x + 1) y p
   passing x y p h q = record { lengthK = q .lengthK; lengthM = q .lengthM; part = q .part; done = λ a b i j g. go a b i j (last a b x y g); behind = λ a b i j h. later a b x y (q .behind a b i j h) }
     where
       go : (a b : ℕ) → a < J .bw → b < J .bh → Here x y a b ⊎ Before a b x y → 0 < at (p .kinds) (J .bw) a b
@@ -182,7 +182,7 @@ module _ (J : Job) where
       go (inl e) = inl (e, new-in (J .bw) (J .bh) (at (p .kinds) (J .bw)) (at (p .muls) (J .bw)) (at (p′ .kinds) (J .bw)) (at (p′ .muls) (J .bw)) t h x y (q .part) (fitting x y t h p p′ k) (k .free) (k .puts) a b (rw (e .0, e .1) at v))
       go (inr w) = inr w
 
-  placing : (x y t h : ℕ) (p p′ : Placed) → Column J x y p p′ t h → Sofar x y p → Sofar (x + 1) y p′
+  pub placing : (x y t h : ℕ) (p p′ : Placed) → Column J x y p p′ t h → Sofar x y p → Sofar (x + 1) y p′
   placing x y t h p p′ c q = record {
     lengthK = c .lengthK;
     lengthM = c .lengthM;
@@ -218,7 +218,7 @@ module _ (J : Job) where
       go a b i j (inl e) = let z = s .atCorner in let z′ : K′ a b ≡ K′ x y = rw (e .0, e .1) in omega arith
       go a b i j (inr g) = taken (J .bw) (J .bh) K M K′ M′ t h x y (q .part) fit (c .free) s a b i j (q .done a b i j g)
 
-  turned : (y : ℕ) (p : Placed) → y < J .bh → Sofar (J .bw) y p → Sofar 0 (y + 1) p
+  pub turned : (y : ℕ) (p : Placed) → y < J .bh → Sofar (J .bw) y p → Sofar 0 (y + 1) p
   turned y p h q = record { lengthK = q .lengthK; lengthM = q .lengthM; part = q .part; done = λ a b i j g. q .done a b i j (go a b i g (eq-or-ne b y)); behind = λ a b i j g. fwd a b (q .behind a b i j g) }
     where
       go : (a b : ℕ) → a < J .bw → Before a b 0 (y + 1) → (b ≡ y) ⊎ (b ≡ y → ⊥) → Before a b (J .bw) y
@@ -233,7 +233,7 @@ module _ (J : Job) where
   blank : (a b : ℕ) → a < J .bw → b < J .bh → at (start J .kinds) (J .bw) a b ≡ 0
   blank a b i j = getD-replicate {A = ℕ} (J .bh * J .bw) (b * J .bw + a) 0 0 (place-lt (J .bw) (J .bh) a b i j)
 
-  begun : Sofar 0 0 (start J)
+  pub begun : Sofar 0 0 (start J)
   begun = record {
     lengthK = length-replicate {A = ℕ} (J .bh * J .bw) 0;
     lengthM = length-replicate {A = ℕ} (J .bh * J .bw) 0;
