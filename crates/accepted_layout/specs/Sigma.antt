@@ -33,16 +33,16 @@ abbrev pub sigmaAt : List Float → ℕ → ℕ → ℕ → Float
 sigmaAt sigma bw x y = getD sigma (y * bw + x) zero32
 
 -- sigma of a block of a varblock whose filter is given; filter off: as it was
-abbrev lit : Filter → List Float → ℕ → Float → Float
-lit Off lookups sharpness old = old
-lit (On q) lookups sharpness old = looked q lookups sharpness
+abbrev cellSigma : Filter → List Float → ℕ → Float → Float
+cellSigma Off lookups sharpness old = old
+cellSigma (On q) lookups sharpness old = looked q lookups sharpness
 
 module _ (lookups : List Float) (sharpness : List ℕ) (s : List Float) (i : ℕ) where
   length-with : (f : Filter) → length (sigmaWith f lookups sharpness s i) ≡ length s
   length-with Off = refl
   length-with (On q) = length-set s i (looked q lookups (getD sharpness i 0))
 
-  with-same : (f : Filter) → i < length s → getD (sigmaWith f lookups sharpness s i) i zero32 ≡ lit f lookups (getD sharpness i 0) (getD s i zero32)
+  with-same : (f : Filter) → i < length s → getD (sigmaWith f lookups sharpness s i) i zero32 ≡ cellSigma f lookups (getD sharpness i 0) (getD s i zero32)
   with-same Off h = refl
   with-same (On q) h = getD-set-same s i (looked q lookups (getD sharpness i 0)) zero32 h
 
@@ -60,10 +60,10 @@ module _ (bw bh : ℕ) (filter : Filter) (lookups : List Float) (sharpness : Lis
   sharp-below (On q) n e g = leb-false 8 n e
 
   -- one cell
-  cell-lit : (cx cy : ℕ) (k k′ : List ℕ) (s s′ : List Float) → takeCell bw bh filter lookups sharpness cx cy (Taking k s) ≡ Taking k′ s′
+  cell-sigma : (cx cy : ℕ) (k k′ : List ℕ) (s s′ : List Float) → takeCell bw bh filter lookups sharpness cx cy (Taking k s) ≡ Taking k′ s′
       → (s′ ≡ sigmaWith filter lookups sharpness s (cy * bw + cx)) × (isOn filter ≡ true → at sharpness bw cx cy < 8)
   unfolding takeCell
-  cell-lit cx cy k k′ s s′ e =
+  cell-sigma cx cy k k′ s s′ e =
       let p1 = passed (leb bw cx) 9 cx cy _ k′ s′ e in
       let p2 = passed (leb bh cy) 9 cx cy _ k′ s′ (p1 .1) in
       let p3 = passed (ltb 0 (at k bw cx cy)) 8 cx cy _ k′ s′ (p2 .1) in
@@ -77,19 +77,19 @@ module _ (bw bh : ℕ) (filter : Filter) (lookups : List Float) (sharpness : Lis
     abbrev Taken : ℕ → ℕ → Type 0
     Taken dx dy = (x ≤ a) × (a < x + w) × (y ≤ b) × Before a b (x + dx) (y + dy)
 
-    record Lit (dx dy : ℕ) (s′ : List Float) : Type 0 where
+    record SigmaSofar (dx dy : ℕ) (s′ : List Float) : Type 0 where
       lengthS : length s′ ≡ bh * bw
-      now : Taken dx dy → sigmaAt s′ bw a b ≡ lit filter lookups (at sharpness bw a b) (sigmaAt s bw a b)
+      now : Taken dx dy → sigmaAt s′ bw a b ≡ cellSigma filter lookups (at sharpness bw a b) (sigmaAt s bw a b)
       sharp : Taken dx dy → isOn filter ≡ true → at sharpness bw a b < 8
       kept : (Taken dx dy → ⊥) → sigmaAt s′ bw a b ≡ sigmaAt s bw a b
 
     Sound : ℕ → ℕ → Scan → Type 0
-    Sound dx dy (Taking k s′) = Lit dx dy s′
+    Sound dx dy (Taking k s′) = SigmaSofar dx dy s′
     Sound dx dy (Left n c d) = Unit
 
     one-more : (dx dy : ℕ) (s₁ s₂ : List Float) → dx < w → x + dx < bw → y + dy < bh
         → (s₂ ≡ sigmaWith filter lookups sharpness s₁ ((y + dy) * bw + (x + dx))) × (isOn filter ≡ true → at sharpness bw (x + dx) (y + dy) < 8)
-        → Lit dx dy s₁ → Lit (dx + 1) dy s₂
+        → SigmaSofar dx dy s₁ → SigmaSofar (dx + 1) dy s₂
     one-more dx dy s₁ s₂ hd hx hy c r = go (eq-or-ne a (x + dx)) (eq-or-ne b (y + dy))
       where
         lengthened : length s₂ ≡ bh * bw
@@ -101,7 +101,7 @@ module _ (bw bh : ℕ) (filter : Filter) (lookups : List Float) (sharpness : Lis
         before : Taken dx dy → Taken (dx + 1) dy
         before t = (t .0, t .1, t .2, rw next (later a b (x + dx) (y + dy) (t .3)))
 
-        other : (Here (x + dx) (y + dy) a b → ⊥) → Lit (dx + 1) dy s₂
+        other : (Here (x + dx) (y + dy) a b → ⊥) → SigmaSofar (dx + 1) dy s₂
         other n = record {
           lengthS = lengthened;
           now = λ t. same ∙ r .now (was t);
@@ -120,7 +120,7 @@ module _ (bw bh : ℕ) (filter : Filter) (lookups : List Float) (sharpness : Lis
                 by (inl e) = absurd (n e)
                 by (inr g) = g
 
-        itself : a ≡ x + dx → b ≡ y + dy → Lit (dx + 1) dy s₂
+        itself : a ≡ x + dx → b ≡ y + dy → SigmaSofar (dx + 1) dy s₂
         itself e f = record {
           lengthS = lengthened;
           now = λ t. is;
@@ -134,12 +134,12 @@ module _ (bw bh : ℕ) (filter : Filter) (lookups : List Float) (sharpness : Lis
             at-place : b * bw + a ≡ (y + dy) * bw + (x + dx)
             at-place = rw (e, f)
 
-            is : sigmaAt s₂ bw a b ≡ lit filter lookups (at sharpness bw a b) (sigmaAt s bw a b)
+            is : sigmaAt s₂ bw a b ≡ cellSigma filter lookups (at sharpness bw a b) (sigmaAt s bw a b)
             is = ap (λ (z : List Float). sigmaAt z bw a b) (c .0 ∙ ap (λ (j : ℕ). sigmaWith filter lookups sharpness s₁ j) (sym at-place))
                 ∙ with-same lookups sharpness s₁ (b * bw + a) filter (let l = r .lengthS in omega (arith, place-lt bw bh a b ha hb))
-                ∙ ap (λ (z : Float). lit filter lookups (at sharpness bw a b) z) old
+                ∙ ap (λ (z : Float). cellSigma filter lookups (at sharpness bw a b) z) old
 
-        go : (a ≡ x + dx) ⊎ (a ≡ x + dx → ⊥) → (b ≡ y + dy) ⊎ (b ≡ y + dy → ⊥) → Lit (dx + 1) dy s₂
+        go : (a ≡ x + dx) ⊎ (a ≡ x + dx → ⊥) → (b ≡ y + dy) ⊎ (b ≡ y + dy → ⊥) → SigmaSofar (dx + 1) dy s₂
         go (inl e) (inl f) = itself e f
         go (inl e) (inr f) = other (λ m. f (m .1))
         go (inr e) f = other (λ m. e (m .0))
@@ -157,7 +157,7 @@ module _ (bw bh : ℕ) (filter : Filter) (lookups : List Float) (sharpness : Lis
         go (Left n c d) e = tt
         go (Taking k₂ s₂) e =
             let c = cell-took bw bh filter lookups sharpness (x + dx) (y + dy) k₁ k₂ s₁ s₂ e in
-            one-more dx dy s₁ s₂ hx (c .inX) (c .inY) (cell-lit (x + dx) (y + dy) k₁ k₂ s₁ s₂ e) r
+            one-more dx dy s₁ s₂ hx (c .inX) (c .inY) (cell-sigma (x + dx) (y + dy) k₁ k₂ s₁ s₂ e) r
 
     back : (dy : ℕ) → Taken 0 (dy + 1) → Taken w dy
     back dy t = (t .0, t .1, t .2, go (t .3) (eq-or-ne b (y + dy)))
@@ -187,7 +187,7 @@ module _ (bw bh : ℕ) (filter : Filter) (lookups : List Float) (sharpness : Lis
         go (inl g) = let z = t .2 in omega arith
         go (inr g) = let z = t .0 in omega arith
 
-    ended : (k k′ : List ℕ) (s′ : List Float) → scan bw bh filter lookups sharpness x y w h (Taking k s) ≡ Taking k′ s′ → Lit 0 h s′
+    ended : (k k′ : List ℕ) (s′ : List Float) → scan bw bh filter lookups sharpness x y w h (Taking k s) ≡ Taking k′ s′ → SigmaSofar 0 h s′
     unfolding scan Sound
     ended k k′ s′ f =
         rw f at (forward (λ (dx dy : ℕ). takeCell bw bh filter lookups sharpness (x + dx) (y + dy)) w h Sound step turn (Taking k s)
@@ -196,7 +196,7 @@ module _ (bw bh : ℕ) (filter : Filter) (lookups : List Float) (sharpness : Lis
     -- by the rectangle
     record Scanned (s′ : List Float) : Type 0 where
       lengthS : length s′ ≡ bh * bw
-      now : InRect x y w h a b → sigmaAt s′ bw a b ≡ lit filter lookups (at sharpness bw a b) (sigmaAt s bw a b)
+      now : InRect x y w h a b → sigmaAt s′ bw a b ≡ cellSigma filter lookups (at sharpness bw a b) (sigmaAt s bw a b)
       sharp : InRect x y w h a b → isOn filter ≡ true → at sharpness bw a b < 8
       kept : (InRect x y w h a b → ⊥) → sigmaAt s′ bw a b ≡ sigmaAt s bw a b
 
@@ -226,7 +226,7 @@ module _ (J : Job) where
     lengthS : length (p .sigma) ≡ J .bh * J .bw
     free : (a b : ℕ) → a < J .bw → b < J .bh → at (p .kinds) (J .bw) a b ≡ 0 → sigmaAt (p .sigma) (J .bw) a b ≡ zero32
     taken : (a b c d : ℕ) → a < J .bw → b < J .bh → Covers (at (p .kinds) (J .bw)) c d a b
-        → sigmaAt (p .sigma) (J .bw) a b ≡ lit (sharedFilter (J .filter) (at (p .muls) (J .bw) c d)) (J .lookups) (at (J .sharpness) (J .bw) a b) zero32
+        → sigmaAt (p .sigma) (J .bw) a b ≡ cellSigma (sharedFilter (J .filter) (at (p .muls) (J .bw) c d)) (J .lookups) (at (J .sharpness) (J .bw) a b) zero32
     sharp : (a b : ℕ) → a < J .bw → b < J .bh → 0 < at (p .kinds) (J .bw) a b → isOn (J .filter) ≡ true → at (J .sharpness) (J .bw) a b < 8
 
   begin : Strengths (start J)
@@ -255,14 +255,14 @@ module _ (J : Job) where
     now-free a b i j e (beyond n) = seen a b i j .kept n ∙ r .free a b i j (sym (c .puts .elsewhere a b i n) ∙ e)
 
     now-taken : (a b u v : ℕ) → a < J .bw → b < J .bh → (Here x y u v × InRect x y (wide t) (high t) a b) ⊎ Covers (at (p .kinds) (J .bw)) u v a b
-        → sigmaAt (q .sigma) (J .bw) a b ≡ lit (sharedFilter (J .filter) (at (q .muls) (J .bw) u v)) (J .lookups) (at (J .sharpness) (J .bw) a b) zero32
+        → sigmaAt (q .sigma) (J .bw) a b ≡ cellSigma (sharedFilter (J .filter) (at (q .muls) (J .bw) u v)) (J .lookups) (at (J .sharpness) (J .bw) a b) zero32
     now-taken a b u v i j (inl m) =
         seen a b i j .now (m .1)
-        ∙ ap (λ (z : Float). lit (sharedFilter (J .filter) h) (J .lookups) (at (J .sharpness) (J .bw) a b) z) (r .free a b i j (c .free a b (m .1)))
-        ∙ ap (λ (n : ℕ). lit (sharedFilter (J .filter) n) (J .lookups) (at (J .sharpness) (J .bw) a b) zero32) (sym (ap (λ (n : ℕ). at (q .muls) (J .bw) n v) (m .0 .0) ∙ ap (λ (n : ℕ). at (q .muls) (J .bw) x n) (m .0 .1) ∙ c .puts .mulCorner))
+        ∙ ap (λ (z : Float). cellSigma (sharedFilter (J .filter) h) (J .lookups) (at (J .sharpness) (J .bw) a b) z) (r .free a b i j (c .free a b (m .1)))
+        ∙ ap (λ (n : ℕ). cellSigma (sharedFilter (J .filter) n) (J .lookups) (at (J .sharpness) (J .bw) a b) zero32) (sym (ap (λ (n : ℕ). at (q .muls) (J .bw) n v) (m .0 .0) ∙ ap (λ (n : ℕ). at (q .muls) (J .bw) x n) (m .0 .1) ∙ c .puts .mulCorner))
     now-taken a b u v i j (inr w) =
         seen a b i j .kept (λ m. let z = c .free a b m in let f = o .part .full a b u v i j w in omega arith) ∙ r .taken a b u v i j w
-        ∙ ap (λ (n : ℕ). lit (sharedFilter (J .filter) n) (J .lookups) (at (J .sharpness) (J .bw) a b) zero32)
+        ∙ ap (λ (n : ℕ). cellSigma (sharedFilter (J .filter) n) (J .lookups) (at (J .sharpness) (J .bw) a b) zero32)
         (sym (c .puts .mulOther u v (let z = w .fromX in omega arith) (λ m. let z = w .corner in let k : at (p .kinds) (J .bw) u v ≡ at (p .kinds) (J .bw) x y = rw (m .0, m .1) in omega (arith, was-free))))
 
     now-sharp : (a b : ℕ) → a < J .bw → b < J .bh → 0 < at (q .kinds) (J .bw) a b → isOn (J .filter) ≡ true → Spot x y (wide t) (high t) a b → at (J .sharpness) (J .bw) a b < 8
@@ -279,7 +279,7 @@ module _ (J : Job) where
     }
 
 -- the four steps in turn
-steps : (f : Filter) (scale h : ℕ) (lookups : List Float) (sharpness : ℕ) → lit (sharedFilter (scaledFilter f scale) h) lookups sharpness zero32 ≡ sigmaOf f scale h lookups sharpness
+steps : (f : Filter) (scale h : ℕ) (lookups : List Float) (sharpness : ℕ) → cellSigma (sharedFilter (scaledFilter f scale) h) lookups sharpness zero32 ≡ sigmaOf f scale h lookups sharpness
 unfolding scaledFilter sharedFilter sigmaOf
 steps Off scale h lookups sharpness = refl
 steps (On m) scale h lookups sharpness = refl
