@@ -9,7 +9,7 @@ use native.Mathlib.Omega.{arith}
 use lib.Pow.{pow-add}
 use lib.Dec.{leb, eqb}
 use lib.ListN.{length, getD, take, drop, replicate, length-append}
-use lib.Seq.{sets-eq, take-at}
+use lib.Seq.{length-sets, sets-eq, take-at}
 use borrow.Author.Tests.{lt-ltb, le-ltb, le-leb, lt-leb, leb-true}
 use Rattle.laws.specs.Cases.{le-or-lt}
 use Rattle.refusal.specs.declared.Said.{Said}
@@ -141,8 +141,10 @@ text-most s = go (hasSize s && hasEnd s) refl
         layout-most (width s) (height s) (types s) (muls s) (leb-true (width s) 512 (w .1)) (leb-true (height s) 512 (h .1))
 
 -- so into as many bytes all of it is put: the first r bytes are the text
-pub text-whole : (s d d′ : List ℕ) (r : ℕ) → 90000 ≤ length d → Puts d 0 (textOf s) d′ r → take r d′ ≡ textOf s
+pub text-whole : (s d d′ : List ℕ) (r : ℕ) → 90000 ≤ length d → Puts d 0 (textOf s) d′ r → (r ≤ length d′) × (take r d′ ≡ textOf s)
 text-whole s d d′ r l p =
     let m = text-most s in
-    let e : r ≡ length (textOf s) = let z = p .place in omega arith in
-    ap (take r) (p .bytes ∙ sets-eq (textOf s) d 0 (omega arith)) ∙ take-at (textOf s) (drop (0 + length (textOf s)) d) r (sym e)
+    let z = p .place in
+    let e : r ≡ length (textOf s) = omega arith in
+    let n : length d′ ≡ length d = ap length (p .bytes) ∙ length-sets d 0 (textOf s) in
+    (omega arith, ap (take r) (p .bytes ∙ sets-eq (textOf s) d 0 (omega arith)) ∙ take-at (textOf s) (drop (0 + length (textOf s)) d) r (sym e))
