@@ -1,24 +1,24 @@
 -- An accepted reading has written a layout.
-use mathlib.Core.Path.{_≡_, refl, ap, sym, _∙_}
+use mathlib.Core.Path.{_≡_, refl, _∙_}
 use mathlib.Core.Bool.{Bool, true, false, cond}
 use mathlib.Core.Logic.{_⊎_, inl, inr}
-use mathlib.Core.List.{List}
-use Prim.Native.Nat.{ℕ, zero, suc, _+_, _*_, _-_, _^_, _≤_, _<_}
+use Prim.Native.Nat.{ℕ, _+_, _*_, _-_, _≤_, _<_}
 use native.Mathlib.Omega.{arith}
 use lib.Dec.{eqb}
-use lib.ListN.{length, replicate, length-replicate, getD-replicate}
-use borrow.Author.Tests.{eqb-true, eqb-false}
+use lib.ListN.{length, getD, length-replicate, getD-replicate}
+use borrow.Author.Tests.{eqb-false}
 use Rattle.laws.specs.Cases.{eq-or-ne}
 use Rattle.dct_select.specs.Transforms.{wide, high}
 use Rattle.dct_select.specs.Varblock.{wide-some, high-some}
 use Rattle.layout.specs.Kinds.{wideOf, highOf}
-use Rattle.layout.specs.Walk.{walk, forward}
+use Rattle.layout.specs.Walk.{forward}
 use Rattle.layout.specs.Grid.{at, place-lt}
-use Rattle.layout.specs.Valid.{Cells, Covers, Fits, Owned, Valid, Layout}
+use Rattle.layout.specs.Valid.{Cells, Covers, Fits, Owned, Layout}
 use Rattle.layout.specs.Order.{Here, Before, later, last}
+use Rattle.layout_column.specs.Columns.{lowBits, hfMulOf}
 use Rattle.layout_reading.specs.Reading.{Job, Placed, Reading, Going, Stopped, column, visit, start, reading}
 use Rattle.accepted_layout.specs.Took.{InRect}
-use Rattle.accepted_layout.specs.Puts.{Puts, Column, Spot, corner, body, beyond, spot, nextType, nextMul, column-put}
+use Rattle.accepted_layout.specs.Puts.{Puts, Column, Spot, corner, body, beyond, spot, column-put}
 
 -- what was placed so far: as in a layout, but for cells that are free
 pub record Part (bw bh : ℕ) (K M : Cells) : Type 0 where
@@ -159,18 +159,30 @@ module _ (J : Job) where
     pub done : (a b : ℕ) → a < J .bw → b < J .bh → Before a b x y → 0 < at (p .kinds) (J .bw) a b
     pub behind : (a b : ℕ) → a < J .bw → b < J .bh → 2 ≤ at (p .kinds) (J .bw) a b → Before a b x y
 
-  Sound : ℕ → ℕ → Reading → Type 0
-  Sound x y (Going p) = Sofar x y p
-  Sound x y (Stopped r) = Unit
-
-  passing : (x y : ℕ) (p : Placed) → 0 < at (p .kinds) (J .bw) x y → Sofar x y p → Sofar (x + 1) y p
+  pub passing : (x y : ℕ) (p : Placed) → 0 < at (p .kinds) (J .bw) x y → Sofar x y p → Sofar (x + 1) y p
   passing x y p h q = record { lengthK = q .lengthK; lengthM = q .lengthM; part = q .part; done = λ a b i j g. go a b i j (last a b x y g); behind = λ a b i j h. later a b x y (q .behind a b i j h) }
     where
       go : (a b : ℕ) → a < J .bw → b < J .bh → Here x y a b ⊎ Before a b x y → 0 < at (p .kinds) (J .bw) a b
       go a b i j (inl e) = rw (e .0, e .1) h
       go a b i j (inr g) = q .done a b i j g
 
-  placing : (x y t h : ℕ) (p p′ : Placed) → Column J x y p p′ t h → Sofar x y p → Sofar (x + 1) y p′
+  fitting : (x y t h : ℕ) (p p′ : Placed) → Column J x y p p′ t h → Fits (J .bw) (J .bh) x y (2 + t) h
+  fitting x y t h p p′ c =
+      let same : 2 + t - 2 ≡ t = omega arith in
+      let a = c .known in
+      record { known = omega arith; inX = rw same (c .inX); inY = rw same (c .inY); squareX = rw same (c .squareX); squareY = rw same (c .squareY); positive = c .positive; signed = c .signed }
+
+  -- a rectangle after a column was placed is the column's or an old one
+  pub after : (x y t h : ℕ) (p p′ : Placed) → Column J x y p p′ t h → Sofar x y p → (a b c d : ℕ) → a < J .bw → Covers (at (p′ .kinds) (J .bw)) c d a b
+      → (Here x y c d × InRect x y (wide t) (high t) a b) ⊎ Covers (at (p .kinds) (J .bw)) c d a b
+  after x y t h p p′ k q a b c d i v =
+      go (which (J .bw) (J .bh) (at (p .kinds) (J .bw)) (at (p .muls) (J .bw)) (at (p′ .kinds) (J .bw)) (at (p′ .muls) (J .bw)) t h x y (q .part) (fitting x y t h p p′ k) (k .free) (k .puts) a b c d i v)
+    where
+      go : Here x y c d ⊎ Covers (at (p .kinds) (J .bw)) c d a b → (Here x y c d × InRect x y (wide t) (high t) a b) ⊎ Covers (at (p .kinds) (J .bw)) c d a b
+      go (inl e) = inl (e, new-in (J .bw) (J .bh) (at (p .kinds) (J .bw)) (at (p .muls) (J .bw)) (at (p′ .kinds) (J .bw)) (at (p′ .muls) (J .bw)) t h x y (q .part) (fitting x y t h p p′ k) (k .free) (k .puts) a b (rw (e .0, e .1) at v))
+      go (inr w) = inr w
+
+  pub placing : (x y t h : ℕ) (p p′ : Placed) → Column J x y p p′ t h → Sofar x y p → Sofar (x + 1) y p′
   placing x y t h p p′ c q = record {
     lengthK = c .lengthK;
     lengthM = c .lengthM;
@@ -191,11 +203,8 @@ module _ (J : Job) where
       M′ : Cells
       M′ = at (p′ .muls) (J .bw)
 
-      same : 2 + t - 2 ≡ t
-      same = omega arith
-
       fit : Fits (J .bw) (J .bh) x y (2 + t) h
-      fit = let a = c .known in record { known = omega arith; inX = rw same (c .inX); inY = rw same (c .inY); squareX = rw same (c .squareX); squareY = rw same (c .squareY); positive = c .positive; signed = c .signed }
+      fit = fitting x y t h p p′ c
 
       s : Puts (J .bw) K M K′ M′ t h x y
       s = c .puts
@@ -209,20 +218,7 @@ module _ (J : Job) where
       go a b i j (inl e) = let z = s .atCorner in let z′ : K′ a b ≡ K′ x y = rw (e .0, e .1) in omega arith
       go a b i j (inr g) = taken (J .bw) (J .bh) K M K′ M′ t h x y (q .part) fit (c .free) s a b i j (q .done a b i j g)
 
-  step : (x y : ℕ) (s : Reading) → x < J .bw → y < J .bh → Sound x y s → Sound (x + 1) y (visit J x y s)
-  unfolding Sound
-  step x y (Stopped r) hx hy q = tt
-  step x y (Going p) hx hy q = go (eqb (at (p .kinds) (J .bw) x y) 0) refl
-    where
-      col : (s : Reading) → column J x y p ≡ s → Sound (x + 1) y s
-      col (Stopped r) e = tt
-      col (Going p′) e = placing x y _ _ p p′ (column-put J x y p p′ (q .lengthK) (q .lengthM) hx hy e .0) q
-
-      go : (b : Bool) → eqb (at (p .kinds) (J .bw) x y) 0 ≡ b → Sound (x + 1) y (cond b (column J x y p) (Going p))
-      go true e = col (column J x y p) refl
-      go false e = passing x y p (let n = eqb-false (at (p .kinds) (J .bw) x y) 0 e in omega arith) q
-
-  turned : (y : ℕ) (p : Placed) → y < J .bh → Sofar (J .bw) y p → Sofar 0 (y + 1) p
+  pub turned : (y : ℕ) (p : Placed) → y < J .bh → Sofar (J .bw) y p → Sofar 0 (y + 1) p
   turned y p h q = record { lengthK = q .lengthK; lengthM = q .lengthM; part = q .part; done = λ a b i j g. q .done a b i j (go a b i g (eq-or-ne b y)); behind = λ a b i j g. fwd a b (q .behind a b i j g) }
     where
       go : (a b : ℕ) → a < J .bw → Before a b 0 (y + 1) → (b ≡ y) ⊎ (b ≡ y → ⊥) → Before a b (J .bw) y
@@ -234,15 +230,10 @@ module _ (J : Job) where
       fwd a b (inl g) = inl (omega arith)
       fwd a b (inr g) = inl (omega arith)
 
-  turn : (y : ℕ) (s : Reading) → y < J .bh → Sound (J .bw) y s → Sound 0 (y + 1) s
-  unfolding Sound
-  turn y (Stopped r) h q = tt
-  turn y (Going p) h q = turned y p h q
-
   blank : (a b : ℕ) → a < J .bw → b < J .bh → at (start J .kinds) (J .bw) a b ≡ 0
   blank a b i j = getD-replicate {A = ℕ} (J .bh * J .bw) (b * J .bw + a) 0 0 (place-lt (J .bw) (J .bh) a b i j)
 
-  begun : Sofar 0 0 (start J)
+  pub begun : Sofar 0 0 (start J)
   begun = record {
     lengthK = length-replicate {A = ℕ} (J .bh * J .bw) 0;
     lengthM = length-replicate {A = ℕ} (J .bh * J .bw) 0;
@@ -260,15 +251,42 @@ module _ (J : Job) where
       go a b (inl g) = absurd (omega arith)
       go a b (inr g) = absurd (omega arith)
 
-  sound : Sound 0 (J .bh) (reading J)
-  unfolding reading Sound
-  sound = forward (visit J) (J .bw) (J .bh) Sound step turn (Going (start J)) begun
+  -- what holds before anything is placed, and is kept by each column placed, holds of what was read
+  module _ (Q : Placed → Type 0) (begin : Q (start J))
+      (keep : (x y : ℕ) (p p′ : Placed) → x < J .bw → y < J .bh → p .used < length (J .types) → Sofar x y p
+      → Column J x y p p′ (lowBits (getD (J .types) (p .used) 0)) (hfMulOf (getD (J .muls) (p .used) 0)) → Q p → Q p′) where
+    Along : ℕ → ℕ → Reading → Type 0
+    Along x y (Going p) = Sofar x y p × Q p
+    Along x y (Stopped r) = Unit
+
+    one : (x y : ℕ) (s : Reading) → x < J .bw → y < J .bh → Along x y s → Along (x + 1) y (visit J x y s)
+    unfolding Along
+    one x y (Stopped r) hx hy q = tt
+    one x y (Going p) hx hy q = go (eqb (at (p .kinds) (J .bw) x y) 0) refl
+      where
+        col : (s : Reading) → column J x y p ≡ s → Along (x + 1) y s
+        col (Stopped r) e = tt
+        col (Going p′) e =
+            let c = column-put J x y p p′ (q .0 .lengthK) (q .0 .lengthM) hx hy e in
+            (placing x y _ _ p p′ (c .0) (q .0), keep x y p p′ hx hy (c .1) (q .0) (c .0) (q .1))
+
+        go : (b : Bool) → eqb (at (p .kinds) (J .bw) x y) 0 ≡ b → Along (x + 1) y (cond b (column J x y p) (Going p))
+        go true e = col (column J x y p) refl
+        go false e = (passing x y p (let n = eqb-false (at (p .kinds) (J .bw) x y) 0 e in omega arith) (q .0), q .1)
+
+    row : (y : ℕ) (s : Reading) → y < J .bh → Along (J .bw) y s → Along 0 (y + 1) s
+    unfolding Along
+    row y (Stopped r) h q = tt
+    row y (Going p) h q = (turned y p h (q .0), q .1)
+
+    pub along : (p : Placed) → reading J ≡ Going p → Sofar 0 (J .bh) p × Q p
+    unfolding reading Along
+    along p e = rw e at (forward (visit J) (J .bw) (J .bh) Along one row (Going (start J)) (begun, begin))
 
   -- a reading that was not stopped
   pub read-layout : (p : Placed) → reading J ≡ Going p → Layout (J .bw) (J .bh) (p .kinds) (p .muls)
-  unfolding Sound
   read-layout p e =
-      let q : Sofar 0 (J .bh) p = rw e at sound in
+      let q : Sofar 0 (J .bh) p = along (λ (r : Placed). Unit) tt (λ x y r r′ hx hy u s c k. tt) p e .0 in
       record {
         kindsLength = q .lengthK;
         mulsLength = q .lengthM;

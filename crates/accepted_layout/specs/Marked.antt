@@ -1,23 +1,20 @@
 -- Document 01's marked examples of the layout call, by computation: M4 to M6, and the examples of refusals 4 to 10.
 use mathlib.Core.Path.{_≡_, refl}
-use mathlib.Core.Bool.{Bool, true, false}
 use mathlib.Core.List.{List, [], _∷_}
 use Prim.Native.Nat.{ℕ, _*_}
-use lib.IntN.{pos}
 use lib.ListN.{replicate}
-use lib.Ieee.{Float, fin, le, lt, eq}
+use lib.Ieee.{le, lt, eq}
 use Rattle.refusal.specs.Said.{at}
 use Rattle.dct_select.specs.Transforms.{TRANSFORMS, wide, high}
 use Rattle.layout.specs.Walk.{cells, rows}
 use Rattle.layout.specs.Varblocks.{Varblock, varblocksOf, area, cornersRow, cornersFrom}
 use Rattle.lf_group.specs.Blocks.{wideIn, highIn}
-use Rattle.filter_strength.specs.declared.Filter.{Filter}
 use Rattle.filter_strength.specs.declared.Filter.the-variants.{Off, On}
 use Rattle.filter_strength.specs.Strength.{zero32, scaledFilter, dividedFilter}
 use Rattle.filter_strength.specs.Limits.{inLimits}
 use Rattle.varblock_scan.specs.Scan.{takeCell, scan}
 use Rattle.layout_reading.specs.Reading.{place, judge, column, reading}
-use Rattle.hf_metadata.specs.Call.{Answer, accepted, refused, Outcome, inputs, layoutOf}
+use Rattle.hf_metadata.specs.Call.{accepted, refused, Outcome, inputs, layoutOf}
 
 -- modes 0, filter off, over cleared buffers of bw x bh blocks
 abbrev pub off : ℕ → ℕ → List ℕ → List ℕ → Outcome

@@ -1,9 +1,9 @@
 -- A column that was placed: what it is, and what its varblock changes.
 use mathlib.Core.Path.{_≡_, refl, ap, sym, _∙_}
-use mathlib.Core.Bool.{Bool, true, false, cond, not, _&&_}
+use mathlib.Core.Bool.{Bool, true, false, not}
 use mathlib.Core.Logic.{_⊎_, inl, inr}
 use mathlib.Core.List.{List}
-use Prim.Native.Nat.{ℕ, zero, suc, _+_, _*_, _-_, _%_, _^_, _≤_, _<_}
+use Prim.Native.Nat.{ℕ, _+_, _*_, _-_, _%_, _^_, _≤_, _<_}
 use native.Mathlib.Omega.{arith}
 use lib.Dec.{T, ltb, leb, leb→le, ltb→lt}
 use lib.ListN.{length, getD, set, length-set}
@@ -16,11 +16,10 @@ use Rattle.dct_select.specs.Varblock.{wide-some, high-some}
 use Rattle.layout.specs.Stretch.{Place, left, inside, right, place}
 use Rattle.layout.specs.Grid.{at, set-same, set-other}
 use Rattle.layout.specs.Order.{Here}
-use Rattle.filter_strength.specs.declared.Filter.{Filter}
 use Rattle.filter_strength.specs.Strength.{dividedFilter}
 use Rattle.layout_column.specs.Columns.{lowBits, hfMulOf, positive}
 use Rattle.varblock_scan.specs.Scan.{Scan, Taking, Left, scan}
-use Rattle.layout_reading.specs.Reading.{Job, Placed, Reading, Going, Stopped, refuseIf, placed, placeIn, judge, column}
+use Rattle.layout_reading.specs.Reading.{Job, Placed, Reading, Going, refuseIf, placed, placeIn, judge, column}
 use Rattle.layout_reading.specs.Reading as reading
 use Rattle.accepted_layout.specs.Took.{InRect, Took, took}
 
@@ -46,6 +45,8 @@ pub record Column (J : Job) (x y : ℕ) (p q : Placed) (t h : ℕ) : Type 0 wher
   pub lengthK : length (q .kinds) ≡ J .bh * J .bw
   pub lengthM : length (q .muls) ≡ J .bh * J .bw
   pub usedIs : q .used ≡ p .used + 1
+  pub taken : List ℕ
+  pub scanIs : scan (J .bw) (J .bh) (dividedFilter (J .filter) h) (J .lookups) (J .sharpness) x y (wide t) (high t) (Taking (p .kinds) (p .sigma)) ≡ Taking taken (q .sigma)
 
 passed : (b : Bool) (n x y : ℕ) (r : Reading) (q : Placed) → refuseIf b n x y r ≡ Going q → (b ≡ false) × (r ≡ Going q)
 passed true n x y r q e = absurd (let z : _≡_ {A = ℕ} 0 1 = cc in omega arith)
@@ -97,6 +98,8 @@ module _ (J : Job) (x y : ℕ) (p q : Placed) (lk : length (p .kinds) ≡ J .bh 
       lengthK = ap (λ (o : Placed). length (o .kinds)) g ∙ length-set k (y * J .bw + x) (2 + t) ∙ l;
       lengthM = ap (λ (o : Placed). length (o .muls)) g ∙ length-set (p .muls) (y * J .bw + x) h ∙ lm;
       usedIs = ap (λ (o : Placed). o .used) g;
+      taken = k;
+      scanIs = f ∙ ap (λ (o : Placed). Taking k (o .sigma)) (sym g);
     }
       where
         both : Took (J .bw) (J .bh) (at (p .kinds) (J .bw)) (at k (J .bw)) x y (wide t) (high t) × (length k ≡ J .bh * J .bw)

@@ -3,24 +3,26 @@
 use mathlib.Core.Path.{_≡_, refl, ap, sym, _∙_}
 use mathlib.Core.Bool.{Bool, true, false, cond, not, _&&_}
 use mathlib.Core.List.{List}
-use mathlib.Core.Logic.{_⊎_, inl, inr}
-use Prim.Native.Nat.{ℕ, zero, suc, _+_, _*_, _%_, _≤_, _<_}
+use Prim.Native.Nat.{ℕ, _+_, _*_, _%_, _≤_, _<_}
 use native.Mathlib.Omega.{arith}
 use lib.Dec.{ltb, leb, eqb}
 use lib.ListN.{length, getD, replicate}
 use lib.Ieee.{Float}
+use borrow.Author.Tests.{eqb-true, eqb-false}
 use Rattle.refusal.specs.declared.Said.{Said}
 use Rattle.refusal.specs.Said as refusals
 use Rattle.dct_select.specs.Transforms.{COUNT, wide, high}
-use Rattle.layout.specs.Walk.{walk, forward}
+use Rattle.layout.specs.Walk.{forward}
 use Rattle.layout.specs.Grid.{at}
 use Rattle.lf_group.specs.Blocks.{sizeFits}
 use Rattle.filter_strength.specs.declared.Filter.{Filter}
 use Rattle.filter_strength.specs.Strength.{zero32, dividedFilter}
 use Rattle.layout_column.specs.Columns.{lowBits, hfMulOf, positive}
-use Rattle.varblock_scan.specs.Scan.{Scan, Taking, Left, isOn, sigmaWith, takeCell, scan}
-use Rattle.layout_reading.specs.Reading.{Job, Placed, Reading, Going, Stopped, refuseIf, placed, place, placeIn, judge, column, visit, start, zeros, zeroSigma, reading}
-use Rattle.hf_metadata.specs.Call.{Answer, accepted, refused, Outcome, outcomeOf, Inputs, jobOf, parametersFit, lengthsFit, refuseWith, layoutOf}
+use Rattle.varblock_scan.specs.Scan.{Scan, Taking, Left, isOn, takeCell, scan}
+use Rattle.layout_reading.specs.Reading.{Job, Placed, Reading, Going, Stopped, refuseIf, placed, place, placeIn, judge, column, visit, start, reading}
+use Rattle.hf_metadata.specs.Call.{accepted, refused, Outcome, outcomeOf, Inputs, jobOf, parametersFit, lengthsFit, refuseWith, layoutOf}
+use Rattle.accepted_layout.specs.Puts.{column-put}
+use Rattle.accepted_layout.specs.Accepted.{Sofar, passing, placing, turned, begun}
 use Rattle.accepted_layout.specs.Theorems.{bwOf, bhOf, off-size, off-parameters, off-lengths, works}
 
 -- a scan is left with 8, 9 or 10
@@ -54,21 +56,26 @@ pub record AtBlock (bw bh : ℕ) (r : Said) : Type 0 where
   pub inY : r .y < bh
 
 module _ (J : Job) where
-  Well : Reading → Type 0
-  Well (Going p) = Unit
-  Well (Stopped r) = AtBlock (J .bw) (J .bh) r
+  -- the next column is refused at the free block; the blocks before it, row by row, are taken by what was placed
+  pub record AtFree (r : Said) : Type 0 where
+    pub before : Placed
+    pub sofar : Sofar J (r .x) (r .y) before
+    pub free : at (before .kinds) (J .bw) (r .x) (r .y) ≡ 0
+    pub stops : column J (r .x) (r .y) before ≡ Stopped r
 
-  cond-well : (b : Bool) (s t : Reading) → Well s → Well t → Well (cond b s t)
-  cond-well true s t p q = p
-  cond-well false s t p q = q
+  module _ (x y : ℕ) (p : Placed) where
+    -- refused with 4 to 10 at (x, y)
+    Well : Reading → Type 0
+    Well (Going q) = Unit
+    Well (Stopped r) = (4 ≤ r .number) × (r .number ≤ 10) × (x ≡ r .x) × (y ≡ r .y)
 
-  module _ (x y : ℕ) (hx : x < J .bw) (hy : y < J .bh) (p : Placed) where
-    at-block : (n : ℕ) → 4 ≤ n → n ≤ 10 → AtBlock (J .bw) (J .bh) (refusals.at n x y)
-    at-block n a b = record { least = a; most = b; inX = hx; inY = hy }
+    cond-well : (b : Bool) (s t : Reading) → Well s → Well t → Well (cond b s t)
+    cond-well true s t q w = q
+    cond-well false s t q w = w
 
     if-well : (b : Bool) (n : ℕ) (t : Reading) → 4 ≤ n → n ≤ 10 → Well t → Well (refuseIf b n x y t)
     unfolding Well
-    if-well b n t l m q = cond-well b (Stopped (refusals.at n x y)) t (at-block n l m) q
+    if-well b n t l m q = cond-well b (Stopped (refusals.at n x y)) t (l, m, refl, refl) q
 
     place-well : (kind h w n : ℕ) → Well (placeIn J kind h w n x y p)
     unfolding Well LeftWell place
@@ -78,7 +85,7 @@ module _ (J : Job) where
       where
         go : (s : Scan) → LeftWell s → Well (placed (J .bw) kind h x y p s)
         go (Taking k s) q = tt
-        go (Left m a b) q = at-block m (omega arith) (omega arith)
+        go (Left m a b) q = (omega arith, omega arith, refl, refl)
 
     column-well : Well (column J x y p)
     unfolding column judge
@@ -91,14 +98,41 @@ module _ (J : Job) where
         (if-well (ltb 32 (x % 32 + wide t)) 7 _ (omega arith) (omega arith)
         (if-well (ltb 32 (y % 32 + high t)) 7 _ (omega arith) (omega arith) (place-well (2 + t) h (wide t) (high t))))))
 
-  step : (x y : ℕ) (s : Reading) → x < J .bw → y < J .bh → Well s → Well (visit J x y s)
-  unfolding Well
-  step x y (Stopped r) hx hy q = q
-  step x y (Going p) hx hy q = cond-well (eqb (at (p .kinds) (J .bw) x y) 0) (column J x y p) (Going p) (column-well x y hx hy p) tt
+    column-stops : (r : Said) → x < J .bw → y < J .bh → Sofar J x y p → at (p .kinds) (J .bw) x y ≡ 0 → column J x y p ≡ Stopped r → AtBlock (J .bw) (J .bh) r × AtFree r
+    unfolding Well
+    column-stops r hx hy o f e =
+        let w : Well (Stopped r) = rw e at column-well in
+        let u = w .2 in
+        let v = w .3 in (
+          record { least = w .0; most = w .1; inX = omega arith; inY = omega arith },
+          record { before = p; sofar = rw (u, v) at o; free = rw (u, v) at f; stops = rw (u, v) at e },
+        )
 
-  pub read-well : (r : Said) → reading J ≡ Stopped r → AtBlock (J .bw) (J .bh) r
-  unfolding reading Well
-  read-well r e = rw e at (forward (visit J) (J .bw) (J .bh) (λ x y s. Well s) step (λ y s h q. q) (Going (start J)) tt)
+  Sound : ℕ → ℕ → Reading → Type 0
+  Sound x y (Going p) = Sofar J x y p
+  Sound x y (Stopped r) = AtBlock (J .bw) (J .bh) r × AtFree r
+
+  step : (x y : ℕ) (s : Reading) → x < J .bw → y < J .bh → Sound x y s → Sound (x + 1) y (visit J x y s)
+  unfolding Sound
+  step x y (Stopped r) hx hy q = q
+  step x y (Going p) hx hy q = go (eqb (at (p .kinds) (J .bw) x y) 0) refl
+    where
+      col : at (p .kinds) (J .bw) x y ≡ 0 → (s : Reading) → column J x y p ≡ s → Sound (x + 1) y s
+      col f (Stopped r) e = column-stops x y p r hx hy q f e
+      col f (Going p′) e = placing J x y _ _ p p′ (column-put J x y p p′ (q .lengthK) (q .lengthM) hx hy e .0) q
+
+      go : (b : Bool) → eqb (at (p .kinds) (J .bw) x y) 0 ≡ b → Sound (x + 1) y (cond b (column J x y p) (Going p))
+      go true e = col (eqb-true (at (p .kinds) (J .bw) x y) 0 e) (column J x y p) refl
+      go false e = passing J x y p (let n = eqb-false (at (p .kinds) (J .bw) x y) 0 e in omega arith) q
+
+  turn : (y : ℕ) (s : Reading) → y < J .bh → Sound (J .bw) y s → Sound 0 (y + 1) s
+  unfolding Sound
+  turn y (Stopped r) h q = q
+  turn y (Going p) h q = turned J y p h q
+
+  pub read-stops : (r : Said) → reading J ≡ Stopped r → AtBlock (J .bw) (J .bh) r × AtFree r
+  unfolding reading Sound
+  read-stops r e = rw e at (forward (visit J) (J .bw) (J .bh) Sound step turn (Going (start J)) (begun J))
 
 module _ (i : Inputs) (kinds hfMul : List ℕ) (sigma : List Float) where
   abbrev outcome : Outcome
@@ -111,9 +145,10 @@ module _ (i : Inputs) (kinds hfMul : List ℕ) (sigma : List Float) where
     pub hfMulKept : outcome .hfMul ≡ hfMul
     pub sigmaKept : outcome .sigma ≡ sigma
 
-  -- while reading: a block of the grid, and all is zero
+  -- while reading: 4 to 10 at the free block, and all is zero
   pub record AtWork (r : Said) : Type 0 where
     pub block : AtBlock (bwOf i) (bhOf i) r
+    pub free : AtFree (jobOf i) r
     pub kindsZero : outcome .kinds ≡ replicate (bhOf i * bwOf i) 0
     pub hfMulZero : outcome .hfMul ≡ replicate (bhOf i * bwOf i) 0
     pub sigmaZero : outcome .sigma ≡ replicate (bhOf i * bwOf i) zero32
@@ -139,8 +174,10 @@ module _ (i : Inputs) (kinds hfMul : List ℕ) (sigma : List Float) where
   at-work r (Going p) e o f = absurd (let g : accepted (p .used) ≡ refused r = ap (λ (q : Outcome). q .answer) o ∙ f in let z : _≡_ {A = ℕ} 0 1 = cc in omega arith)
   at-work r (Stopped t) e o f =
       let d : t ≡ r = same t r (ap (λ (q : Outcome). q .answer) o ∙ f) in
+      let w = read-stops (jobOf i) t e in
       record {
-        block = rw d at (read-well (jobOf i) t e);
+        block = rw d at (w .0);
+        free = rw d at (w .1);
         kindsZero = sym (ap (λ (q : Outcome). q .kinds) o);
         hfMulZero = sym (ap (λ (q : Outcome). q .hfMul) o);
         sigmaZero = sym (ap (λ (q : Outcome). q .sigma) o);

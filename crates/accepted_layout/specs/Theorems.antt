@@ -1,21 +1,21 @@
--- The layout call as a whole: what an accepted one has written, what a refused one hands back and leaves.
+-- The layout call as a whole: what an accepted one has written.
 use mathlib.Core.Path.{_≡_, refl, ap, sym, _∙_}
-use mathlib.Core.Bool.{Bool, true, false, cond, not}
+use mathlib.Core.Bool.{Bool, true, false}
 use mathlib.Core.List.{List}
-use mathlib.Core.Logic.{_⊎_, inl, inr}
-use Prim.Native.Nat.{ℕ, _+_, _*_, _≤_, _<_}
+use Prim.Native.Nat.{ℕ, _*_, _<_}
 use native.Mathlib.Omega.{arith}
-use lib.ListN.{length, replicate}
 use lib.Ieee.{Float}
-use Rattle.refusal.specs.declared.Said.{Said}
 use Rattle.refusal.specs.Said as refusals
 use Rattle.lf_group.specs.Blocks.{sizeFits, wideIn, highIn}
 use Rattle.layout.specs.Grid.{at}
 use Rattle.layout.specs.Valid.{Covers, Owned, Layout}
 use Rattle.layout.specs.Varblocks.{varblocksOf, area}
 use Rattle.layout.specs.Theorems.{disjoint, covered, layout-area}
-use Rattle.layout_reading.specs.Reading.{Job, Placed, Reading, Going, Stopped, reading}
-use Rattle.hf_metadata.specs.Call.{Answer, accepted, refused, Outcome, outcomeOf, Inputs, jobOf, parametersFit, lengthsFit, refuseWith, layoutOf}
+use Rattle.block_check.specs.Calls.{refuses}
+use Rattle.block_record.specs.Calls.{cutOf}
+use Rattle.block_record.specs.Theorems.{cut-not-18}
+use Rattle.layout_reading.specs.Reading.{Placed, Reading, Going, Stopped, reading}
+use Rattle.hf_metadata.specs.Call.{accepted, refused, Outcome, outcomeOf, Inputs, jobOf, parametersFit, lengthsFit, refuseWith, layoutOf}
 use Rattle.accepted_layout.specs.Accepted.{read-layout}
 
 -- the grid's sides
@@ -97,6 +97,10 @@ module _ (i : Inputs) (kinds hfMul : List ℕ) (sigma : List Float) where
     accepted-layout =
         let r = accepted-read n e in
         rw (r .kindsAre, r .hfMulAre) (read-layout (jobOf i) (r .last) (r .read))
+
+    -- the cut never refuses it with 18
+    pub accepted-cut : (g : ℕ) (outKinds outMuls : List ℕ) → cutOf (bwOf i) (bhOf i) (outcome .kinds) (outcome .hfMul) g outKinds outMuls .answer ≡ refuses (refusals.at 18 0 0) → ⊥
+    accepted-cut g outKinds outMuls = cut-not-18 (bwOf i) (bhOf i) (outcome .kinds) (outcome .hfMul) g outKinds outMuls accepted-layout
 
     -- each block is in just one varblock, which lies inside the grid and a square of 32 x 32 blocks (`Fits` of accepted-layout)
     pub accepted-covered : (x y : ℕ) → x < bwOf i → y < bhOf i → Owned (at (outcome .kinds) (bwOf i)) x y

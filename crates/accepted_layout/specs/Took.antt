@@ -3,16 +3,16 @@ use mathlib.Core.Path.{_≡_, refl, ap, sym, _∙_}
 use mathlib.Core.Bool.{Bool, true, false, cond, _&&_}
 use mathlib.Core.Logic.{_⊎_, inl, inr}
 use mathlib.Core.List.{List}
-use Prim.Native.Nat.{ℕ, zero, suc, _+_, _*_, _-_, _≤_, _<_}
+use Prim.Native.Nat.{ℕ, _+_, _*_, _-_, _≤_, _<_}
 use native.Mathlib.Omega.{arith}
 use lib.Dec.{ltb, leb}
-use lib.ListN.{length, getD, set, length-set}
+use lib.ListN.{length, set, length-set}
 use lib.Ieee.{Float}
 use borrow.Author.Tests.{ltb-false, leb-false}
 use Rattle.laws.specs.Cases.{eq-or-ne}
-use Rattle.layout.specs.Walk.{walk, forward}
+use Rattle.layout.specs.Walk.{forward}
 use Rattle.layout.specs.Grid.{at, set-same, set-other}
-use Rattle.layout.specs.Order.{Here, Before, last, never}
+use Rattle.layout.specs.Order.{Here, Before, last}
 use Rattle.filter_strength.specs.declared.Filter.{Filter}
 use Rattle.varblock_scan.specs.Scan.{Scan, Taking, Left, isOn, sigmaWith, takeCell, scan}
 
@@ -35,7 +35,7 @@ pub record CellTook (bw bh cx cy : ℕ) (k k′ : List ℕ) : Type 0 where
   pub free : at k bw cx cy ≡ 0
   pub now : k′ ≡ set k (cy * bw + cx) 1
 
-passed : (b : Bool) (n cx cy : ℕ) (t : Scan) (k : List ℕ) (s : List Float) → cond b (Left n cx cy) t ≡ Taking k s → (b ≡ false) × (t ≡ Taking k s)
+pub passed : (b : Bool) (n cx cy : ℕ) (t : Scan) (k : List ℕ) (s : List Float) → cond b (Left n cx cy) t ≡ Taking k s → (b ≡ false) × (t ≡ Taking k s)
 passed true n cx cy t k s e = absurd (let z : _≡_ {A = ℕ} 0 1 = cc in omega arith)
 passed false n cx cy t k s e = (refl, e)
 

@@ -12,7 +12,7 @@ fn wide(x: u8) -> usize
 
 fn run(job: &[u8]) {
     let mut out = [0u8; 90000];
-    let k = lister::list(job, &mut out);
+    let k = lister::list_whole(job, &mut out);
     io::write_all(STDOUT_FILENO, &out[..k]);
 }
 

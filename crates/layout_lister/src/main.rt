@@ -7,6 +7,6 @@ fn main() {
     let mut job = [0u8; 36870];
     let n = io::read_full(STDIN_FILENO, &mut job);
     let mut out = [0u8; 90000];
-    let k = lister::list(&job[..n], &mut out);
+    let k = lister::list_whole(&job[..n], &mut out);
     io::write_all(STDOUT_FILENO, &out[..k]);
 }

@@ -3,7 +3,7 @@ use filter_strength::Filter;
 use hf_metadata::LayoutAnswer;
 ghost use mathlib.Core.Path.{_≡_};
 ghost use Prim.Native.Nat.{_*_, _≤_};
-ghost use lib.ListN.{length, getD, replicate};
+ghost use lib.ListN.{length, getD, take, replicate};
 ghost use Rattle.filter_strength.specs.Strength.{zero32};
 ghost use Rattle.text.specs.Text.{Puts};
 ghost use Rattle.lister_job.specs.Job.{width as widthOf, height as heightOf};
@@ -133,7 +133,7 @@ fn list_job(
 }
 
 // The printed text of a job, as much of it as out holds, and how many bytes that is.
-pub fn list(job: &[u8], out: &mut [u8]) -> usize
+fn list(job: &[u8], out: &mut [u8]) -> usize
     ensures { λ r. ⌜ Puts (now (out .entry)) 0 (textOf (now (job .entry))) (now (out .exit)) r ⌝ }
 {
     if job.len() < 5 {
@@ -153,4 +153,11 @@ pub fn list(job: &[u8], out: &mut [u8]) -> usize
     let mut types = [0u32; 4096];
     let mut muls = [0u32; 4096];
     list_job(out, job, width, height, &mut types, &mut muls)
+}
+
+// All of a job's text, which is at most 90,000 bytes, and how many bytes it is.
+pub fn list_whole(job: &[u8], out: &mut [u8; 90000]) -> usize
+    ensures { λ r. ⌜ (r ≤ length (now (out .exit))) × (take r (now (out .exit)) ≡ textOf (now (job .entry))) ⌝ }
+{
+    list(job, out)
 }

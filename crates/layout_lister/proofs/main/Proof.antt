@@ -1,7 +1,6 @@
 use borrow.Author.Needs.{needs}
 use native.Mathlib.Omega.{arith}
-use mathlib.Core.Path.{ap}
-use lib.ListN.{length-take, length}
+use lib.ListN.{length-take}
 use Rattle.layout_lister.proofs.main.Statement.{statement}
 use Rattle.layout_lister.proofs.main.Tie as tie
 
@@ -14,26 +13,20 @@ read-full-requires c κs = search needs
 array-share-prefix-job : tie.Need-array-share-prefix-job
 array-share-prefix-job c = search needs
 
-slice-aggregate-list : tie.Need-slice-aggregate-list
-slice-aggregate-list c = search needs
+slice-aggregate-list-whole : tie.Need-slice-aggregate-list-whole
+slice-aggregate-list-whole c = search needs
 
-slice-aggregate-list-2 : tie.Need-slice-aggregate-list-2
-slice-aggregate-list-2 c = search needs
-
-list-requires : tie.Need-list-requires
-list-requires c κs = search needs
+list-whole-requires : tie.Need-list-whole-requires
+list-whole-requires c κs = search needs
 
 array-share-prefix-out : tie.Need-array-share-prefix-out
-array-share-prefix-out c = search needs
+array-share-prefix-out c = c .list-whole .ensures .0
 
 slice-aggregate-write-all : tie.Need-slice-aggregate-write-all
 slice-aggregate-write-all c =
-    let k = c .before .before .list .result in
-    let d = c .before .before .list .last .1 .0 in
-    let e = c .before .before .list .ensures in
-    let p = e .place in
-    let n = ap length (e .bytes) in
-    omega (arith, length-take k d)
+    let b = c .before .list-whole in
+    let h = b .ensures .0 in
+    omega (arith, length-take (b .result) (b .last .1 .0))
 
 write-all-requires : tie.Need-write-all-requires
 write-all-requires c κs = search needs
@@ -48,9 +41,8 @@ main-spec =
     slice-aggregate-read-full
     read-full-requires
     array-share-prefix-job
-    slice-aggregate-list
-    slice-aggregate-list-2
-    list-requires
+    slice-aggregate-list-whole
+    list-whole-requires
     array-share-prefix-out
     slice-aggregate-write-all
     write-all-requires
