@@ -12,6 +12,7 @@ pub mod Corners
 pub mod Items
 pub mod Demand3
 pub mod Chain
+pub mod Others
 pub mod Logging
 pub mod Ways
 pub mod SymbolsRead
