@@ -3,10 +3,9 @@
 use mathlib.Core.Path.{_≡_, refl, ap, sym, _∙_}
 use mathlib.Core.Bool.{true}
 use mathlib.Core.Logic.{inl, inr}
-use mathlib.Core.List.{List, [], _∷_}
+use mathlib.Core.List.{[], _∷_}
 use Prim.Native.Nat.{ℕ, zero, suc, _+_, _*_, _^_, _-_, _/_, _%_, _<_}
 use native.Mathlib.Omega.{arith}
-use lib.Dec.{eqb}
 use lib.ListN.{length, getD, set, replicate}
 use lib.Ieee.{le, lt, eq}
 use borrow.Author.Tests.{eq-eqb}
@@ -36,14 +35,13 @@ use Rattle.block_check.specs.Calls.{gives, inLimits as inLimits32, lengthsFit a
 use Rattle.block_record.specs.Calls.{group, outcome, cutCheck, cutOf}
 use Rattle.block_record.specs.CutSteps.{cut-done}
 use Rattle.accepted_layout.specs.Theorems.{bwOf, bhOf}
+use Rattle.one_to_one.specs.Filling.{cell, InV, Low, LowKept, Fixed, Filling, Fills, Given}
 use Rattle.one_to_one.specs.Symbols.{symbol, pack}
-use Rattle.one_to_one.specs.Sequence.{differing, coeffs, sequence}
-use Rattle.one_to_one.specs.Premises.{cell, set-below}
-use Rattle.one_to_one.specs.Corners.{InV}
-use Rattle.one_to_one.specs.Items.{Low, LowKept}
-use Rattle.one_to_one.specs.Demand3.{Fixed, Filling, Fills, theSequence, one-sequence}
-use Rattle.one_to_one.specs.Chain.{Given, fixed-by-calls}
-use Rattle.one_to_one.specs.Plain.{store, store-long, order-0, store-wrote, defaults, defaults-read, plain}
+use Rattle.one_to_one.specs.Sequence.{differing, coeffs, sequence, theSequence}
+use Rattle.one_to_one.specs.Premises.{set-below}
+use Rattle.one_to_one.specs.Demand3.{one-sequence}
+use Rattle.one_to_one.specs.Chain.{fixed-by-calls}
+use Rattle.one_to_one.specs.Plain.{store, store-long, order-0, store-wrote, defaults-read, plain}
 
 abbrev zeros : Grids
 zeros = replicate 64 0 ∷ replicate 64 0 ∷ replicate 64 0 ∷ []
@@ -121,16 +119,18 @@ given = record {
   bitsRead = 1;
   contexts = ap (λ r. r .answer) defaults-read;
   record-is = sym (ap (λ r. r .contexts) defaults-read);
-  orders = store-wrote;
-  few = omega arith;
-  preset = 0;
-  bits = 0;
-  readWhole = no-bits;
-  below = omega arith;
-  lengths = lengths-fit;
-  three = refl;
-  start = zero-cells;
-  shift = refl;
+  wrote = store-wrote;
+  rest = record {
+    few = omega arith;
+    preset = 0;
+    bits = 0;
+    readWhole = no-bits;
+    below = omega arith;
+    lengths = lengths-fit;
+    three = refl;
+    start = zero-cells;
+    shift = refl;
+  };
 }
 
 -- all premises of demand 3
