@@ -1,29 +1,29 @@
 -- One list, as the code reads it.
 use mathlib.Core.Path.{_≡_, refl, ap, sym, subst, _∙_}
-use mathlib.Core.Bool.{Bool, true, false, cond, _&&_}
+use mathlib.Core.Bool.{Bool, true, false, cond}
 use mathlib.Core.List.{List, [], _∷_, _++_, append-nil}
-use Prim.Native.Nat.{ℕ, zero, suc, _+_, _*_, _-_, _/_, _%_, _<_, _≤_}
+use Prim.Native.Nat.{ℕ, zero, suc, _+_, _*_, _-_, _/_, _<_, _≤_}
 use native.Mathlib.Numerals.{add-one}
 use native.Mathlib.Nat.{div-le-self}
 use native.Mathlib.Omega.{arith}
 use lib.Dec.{ltb}
 use lib.ListN.{length, getD, take, drop, length-drop, drop-of-length-le, replicate}
-use lib.Seq.{drop-cons, drop-drop, length-take-le, take-all, drop-length}
+use lib.Seq.{drop-cons, length-take-le, take-all, drop-length}
 use borrow.Author.Tests.{lt-ltb, le-leb, lt-leb}
-use Rattle.refusal.specs.declared.Refusal.{Refusal}
+use Rattle.refusal.specs.declared.Refusal.the-variants as refusal
 use Rattle.natural_order.specs.Places.{Place, flat}
 use Rattle.natural_order.specs.Natural.{natural}
 use Rattle.natural_order.specs.Sizes.{Size, not-higher}
 use Rattle.natural_order.specs.Turns.{natural-numbers}
 use Rattle.natural_order.specs.Facts.{natural-facts}
 use Rattle.permutation.specs.Digits.{ordered}
-use Rattle.permutation.specs.Permuted.{leading, unflat, allBelow, permutable, permuted}
+use Rattle.permutation.specs.Permuted.{leading, unflat, allBelow, permuted}
 use Rattle.permutation.specs.Flat.{unflat-flat}
 use Rattle.permutation.specs.Leading.{leading-most}
-use Rattle.permutation.specs.Permuting.{all-fit, moved}
+use Rattle.permutation.specs.Permuting.{moved}
 use Rattle.hf_pass.specs.declared.OrdersAnswer.{OrdersAnswer}
 use Rattle.hf_pass.specs.declared.OrdersAnswer.the-variants as answer
-use Rattle.hf_pass.specs.Reading.{Reading, Given, Refused, then, tooLarge, symbolsEnd, check, digits, oneList, entryList}
+use Rattle.hf_pass.specs.Reading.{Reading, Given, Refused, then, check, digits, oneList, entryList}
 
 -- the answer and the list that a reading asks for; a refused list is not asked about
 abbrev pub Listed : Reading (List Place) → OrdersAnswer → List ℕ → Type 0
@@ -40,7 +40,7 @@ countOf (answer.Refused why) = 0
 
 -- digits, by how many of those that are there are below what remains
 pub digits-large : (n left : ℕ) (us : List ℕ) (at many : ℕ) → many ≤ n → many ≤ length us → leading (take many us) left < many
-    → digits n left us at ≡ Refused (tooLarge (at + leading (take many us) left + 1))
+    → digits n left us at ≡ Refused (refusal.Order (at + leading (take many us) left + 1))
 unfolding digits leading
 digits-large n left us at zero a b h = absurd (omega arith)
 digits-large zero left us at (suc many) a b h = absurd (omega arith)
@@ -48,22 +48,22 @@ digits-large (suc n) left [] at (suc many) a b h = absurd (omega arith)
 digits-large (suc n) left (u ∷ us) at (suc many) a b h = go (ltb u left) h (digits-large n (left - 1) us (at + 1) many (omega arith) (omega arith))
   where
     go : (ok : Bool) → cond ok (suc (leading (take many us) (left - 1))) 0 < suc many
-        → (leading (take many us) (left - 1) < many → digits n (left - 1) us (at + 1) ≡ Refused (tooLarge (at + 1 + leading (take many us) (left - 1) + 1)))
-        → check ok (at + 1) (then (digits n (left - 1) us (at + 1)) (λ ds. Given (u ∷ ds))) ≡ Refused (tooLarge (at + cond ok (suc (leading (take many us) (left - 1))) 0 + 1))
+        → (leading (take many us) (left - 1) < many → digits n (left - 1) us (at + 1) ≡ Refused (refusal.Order (at + 1 + leading (take many us) (left - 1) + 1)))
+        → check ok (at + 1) (then (digits n (left - 1) us (at + 1)) (λ ds. Given (u ∷ ds))) ≡ Refused (refusal.Order (at + cond ok (suc (leading (take many us) (left - 1))) 0 + 1))
     go true h r =
         let e : at + 1 + leading (take many us) (left - 1) + 1 ≡ at + suc (leading (take many us) (left - 1)) + 1 = omega arith in
         rw (r (omega arith), e)
-    go false h r = let e : at + 1 ≡ at + 0 + 1 = omega arith in ap (λ (k : ℕ). Refused (tooLarge k)) e
+    go false h r = let e : at + 1 ≡ at + 0 + 1 = omega arith in ap (λ (k : ℕ). Refused (refusal.Order k)) e
 
-pub digits-short : (n left : ℕ) (us : List ℕ) (at : ℕ) → length us < n → leading us left ≡ length us → digits n left us at ≡ Refused (symbolsEnd (at + length us))
+pub digits-short : (n left : ℕ) (us : List ℕ) (at : ℕ) → length us < n → leading us left ≡ length us → digits n left us at ≡ Refused (refusal.SymbolsEnd (at + length us))
 unfolding digits leading
 digits-short zero left us at a e = absurd (omega arith)
-digits-short (suc n) left [] at a e = ap (λ (k : ℕ). Refused (symbolsEnd k)) (omega arith)
+digits-short (suc n) left [] at a e = ap (λ (k : ℕ). Refused (refusal.SymbolsEnd k)) (omega arith)
 digits-short (suc n) left (u ∷ us) at a e = go (ltb u left) e (digits-short n (left - 1) us (at + 1) (omega arith))
   where
     go : (ok : Bool) → cond ok (suc (leading us (left - 1))) 0 ≡ suc (length us)
-        → (leading us (left - 1) ≡ length us → digits n (left - 1) us (at + 1) ≡ Refused (symbolsEnd (at + 1 + length us)))
-        → check ok (at + 1) (then (digits n (left - 1) us (at + 1)) (λ ds. Given (u ∷ ds))) ≡ Refused (symbolsEnd (at + suc (length us)))
+        → (leading us (left - 1) ≡ length us → digits n (left - 1) us (at + 1) ≡ Refused (refusal.SymbolsEnd (at + 1 + length us)))
+        → check ok (at + 1) (then (digits n (left - 1) us (at + 1)) (λ ds. Given (u ∷ ds))) ≡ Refused (refusal.SymbolsEnd (at + suc (length us)))
     go true h r = let f : at + 1 + length us ≡ at + suc (length us) = omega arith in rw (r (omega arith), f)
     go false h r = absurd (omega arith)
 
@@ -107,13 +107,13 @@ module _ (bw bh : ℕ) (z : Size bw bh) (narrow : bw ≤ 256) (small : bw * bh �
     pub list-unused : (used : Bool) (m : List ℕ) → used ≡ false → m ≡ flat (natural bw bh) → Listed (wholeList used) (answer.Accepted start) m
     list-unused used m u e = rw u (refl, e)
 
-    pub list-short : (used : Bool) (m : List ℕ) → used ≡ true → length symbols ≤ start → Listed (wholeList used) (answer.Refused (symbolsEnd start)) m
+    pub list-short : (used : Bool) (m : List ℕ) → used ≡ true → length symbols ≤ start → Listed (wholeList used) (answer.Refused (refusal.SymbolsEnd start)) m
     unfolding oneList
     list-short used m u h = rw (u, drop-of-length-le symbols h) refl
 
     -- the length is there
     module _ (used : Bool) (u : used ≡ true) (h : start < length symbols) (n : ℕ) (en : n ≡ getD symbols start 0) where
-      pub list-large : (m : List ℕ) → bw * bh - bw * bh / 64 < n → Listed (wholeList used) (answer.Refused (tooLarge (start + 1))) m
+      pub list-large : (m : List ℕ) → bw * bh - bw * bh / 64 < n → Listed (wholeList used) (answer.Refused (refusal.Order (start + 1))) m
       unfolding oneList
       list-large m b =
           let b' : bw * bh - bw * bh / 64 < getD symbols start 0 = rw en at b in
@@ -136,7 +136,7 @@ module _ (bw bh : ℕ) (z : Size bw bh) (narrow : bw ≤ 256) (small : bw * bh �
           there' : many ≤ length (drop (start + 1) symbols)
           there' = omega (arith, length-drop (start + 1) symbols)
 
-          pub list-digit : (m : List ℕ) → good < many → Listed (wholeList used) (answer.Refused (tooLarge (start + 1 + good + 1))) m
+          pub list-digit : (m : List ℕ) → good < many → Listed (wholeList used) (answer.Refused (refusal.Order (start + 1 + good + 1))) m
           list-digit m g =
               let us = drop (start + 1) symbols in
               let g' : leading (take many us) (bw * bh - bw * bh / 64) < many = rw good-by at g in
@@ -147,7 +147,7 @@ module _ (bw bh : ℕ) (z : Size bw bh) (narrow : bw ≤ 256) (small : bw * bh �
               let us = drop (start + 1) symbols in
               omega (arith, good-by, leading-most (take many us) (bw * bh - bw * bh / 64), length-take-le many us there')
 
-          pub list-ended : (m : List ℕ) → many ≤ good → many < n → many ≡ length symbols - (start + 1) → Listed (wholeList used) (answer.Refused (symbolsEnd (start + 1 + many))) m
+          pub list-ended : (m : List ℕ) → many ≤ good → many < n → many ≡ length symbols - (start + 1) → Listed (wholeList used) (answer.Refused (refusal.SymbolsEnd (start + 1 + many))) m
           list-ended m g f e =
               let us = drop (start + 1) symbols in
               let l : many ≡ length us = omega (arith, length-drop (start + 1) symbols) in

@@ -1,5 +1,5 @@
 -- The ways out of the order call.
-use mathlib.Core.Path.{_≡_, refl, ap, sym, _∙_}
+use mathlib.Core.Path.{_≡_, ap, sym, _∙_}
 use mathlib.Core.List.{List}
 use Prim.Native.Nat.{ℕ, _*_}
 use native.Mathlib.Omega.{arith}
@@ -9,10 +9,9 @@ use Rattle.refusal.specs.declared.Refusal.the-variants as refusal
 use Rattle.bits.specs.declared.Place.{Place}
 use Rattle.bits.specs.declared.Got.{Got}
 use Rattle.bits.specs.declared.Got.the-variants as got
-use Rattle.bits.specs.declared.U32Specifier.{U32Specifier}
-use Rattle.bits.specs.Bits.{Read, Value, Ended, readU32}
+use Rattle.bits.specs.Bits.{Read, readU32}
 use Rattle.bits.specs.Reads.{passed, placeAt, gotOf, choiceOf}
-use Rattle.bits.specs.Laws.{WasValue, was-value, WasEnd, was-end}
+use Rattle.bits.specs.Laws.{was-value, was-end}
 use Rattle.dct_select.specs.BlockSizes.{BLOCK-SIZES}
 use Rattle.hf_pass_store.specs.Store.{stored, PLACES}
 use Rattle.hf_pass_store.specs.Offsets.{places-by}
@@ -40,9 +39,6 @@ module _ (bytes symbols store : List ℕ) where
     ready filled e =
         let f : filled ≡ stored (naturals BLOCK-SIZES) = e ∙ natural-store store n in
         record { long = ap length f ∙ whole-long; natural = f }
-
-    abbrev choices : Read
-    choices = readU32 bytes 0 (choiceOf (record { offset = 95; bits = 0 })) (choiceOf (record { offset = 19; bits = 0 })) (choiceOf (record { offset = 0; bits = 0 })) (choiceOf (record { offset = 0; bits = 13 }))
 
     -- the bits as the code reads them from the start
     module _ (p : Place) (ep : p ≡ placeAt 0) (g : Got)

@@ -1,4 +1,4 @@
--- The whole order call, list by list.
+-- The loop over the 39 lists.
 use mathlib.Core.Path.{_≡_, refl, ap, ap₂, sym, _∙_, fun-ext}
 use mathlib.Core.Bool.{Bool, true, false}
 use mathlib.Core.List.{List, [], _∷_, _++_, append-assoc, append-nil}
@@ -14,7 +14,7 @@ use Rattle.dct_select.specs.BlockSizes.{BLOCK-SIZES, widthOf, heightOf}
 use Rattle.dct_select.specs.LookUp.{blockSize}
 use Rattle.natural_order.specs.Places.{Place, flat}
 use Rattle.natural_order.specs.Natural.{natural}
-use Rattle.natural_order.specs.Sizes.{Size, size-of}
+use Rattle.natural_order.specs.Sizes.{size-of}
 use Rattle.natural_order.specs.Turns.{flat-length, natural-numbers}
 use Rattle.natural_order.specs.Listing.{listing-length}
 use Rattle.natural_order.specs.Filling.{Sided, sided}
@@ -24,7 +24,7 @@ use Rattle.hf_pass_store.specs.Naturals.{naturals, whole-long}
 use Rattle.hf_pass.specs.declared.OrdersAnswer.{OrdersAnswer}
 use Rattle.hf_pass.specs.declared.OrdersAnswer.the-variants as answer
 use Rattle.hf_pass.specs.Reading.{Reading, Given, Refused, then, Entry, entry, entryList, lists, plan, wanted, orders, oneList}
-use Rattle.hf_pass.specs.Call.{Outcome, outcome, written}
+use Rattle.hf_pass.specs.Call.{outcome, written}
 use Rattle.hf_pass.specs.Read.{Holds, Stops, OneGiven, one-gives, holds-map, EntryGiven, entry-gives}
 use Rattle.hf_pass.specs.Accepted.{plan-at, plan-length, given}
 use Rattle.hf_pass.specs.Lists.{Listed, isRefused, countOf}

@@ -5,20 +5,18 @@ use mathlib.Core.List.{List, []}
 use Prim.Native.Nat.{ℕ, _+_, _*_, _<_}
 use native.Mathlib.Omega.{arith}
 use lib.Dec.{eqb}
-use lib.ListN.{length, getD, length-replicate}
-use borrow.Author.Tests.{eqb-true}
+use lib.ListN.{length, getD}
 use Rattle.refusal.specs.declared.Refusal.the-variants as refusal
 use Rattle.bits.specs.Bits.{Read, Value, Ended}
 use Rattle.dct_select.specs.BlockSizes.{widthOf, heightOf}
 use Rattle.natural_order.specs.Places.{Place, flat}
 use Rattle.natural_order.specs.Order.{Order}
 use Rattle.hf_pass_store.specs.Store.{stored, stretch, placesFit, PLACES}
-use Rattle.hf_pass.specs.declared.OrdersAnswer.{OrdersAnswer}
 use Rattle.hf_pass.specs.declared.OrdersAnswer.the-variants as answer
 use Rattle.hf_pass.specs.Reading.{Reading, Given, Refused, orders}
 use Rattle.hf_pass.specs.Call.{Outcome, outcome, usedOrders, written, read, parsed}
 use Rattle.hf_pass.specs.Accepted.{orders-accepted}
-use Rattle.hf_pass.specs.Stretch.{stretch-list, store-length}
+use Rattle.hf_pass.specs.Stretch.{stretch-list}
 use Rattle.hf_pass.specs.Fits.{accepted-fits}
 
 -- a call, with whatever bits, symbols and earlier contents, was answered with a result and left this store
@@ -60,9 +58,6 @@ behind store w = go (eqb (length (w .earlier)) (2 * PLACES)) (w .call)
 module _ (store : List ℕ) (w : Wrote store) where
   abbrev b : Behind store
   b = behind store w
-
-  pub wrote-length : length store ≡ 2 * PLACES
-  wrote-length = ap length (b .is) ∙ store-length (b .used) (b .symbols) (b .lists) (b .left) (b .count) (b .given)
 
   -- the list of an order and a channel
   abbrev pub listOf : ℕ → ℕ → List Place

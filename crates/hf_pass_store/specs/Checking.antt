@@ -1,18 +1,17 @@
 -- The check of stored places, list by list.
-use mathlib.Core.Path.{_≡_, refl, ap, sym, _∙_}
+use mathlib.Core.Path.{_≡_, sym, _∙_}
 use mathlib.Core.Bool.{Bool, true, false, _&&_}
-use mathlib.Core.List.{List, [], _∷_}
-use Prim.Native.Nat.{ℕ, zero, suc, _+_, _*_, _-_, _/_, _<_, _≤_}
+use mathlib.Core.List.{List, _∷_}
+use Prim.Native.Nat.{ℕ, suc, _+_, _*_, _-_, _/_, _<_, _≤_}
 use native.Mathlib.Numerals.{add-one}
 use native.Mathlib.Omega.{arith}
-use lib.Dec.{eqb}
 use lib.ListN.{length, getD, take, drop, drop-of-length-le}
 use lib.Seq.{drop-cons, drop-drop}
 use borrow.Author.Tests.{eq-eqb, ne-eqb}
 use Rattle.dct_select.specs.declared.Sides.{Sides}
 use Rattle.dct_select.specs.BlockSizes.{BLOCK-SIZES, widthOf, heightOf}
 use Rattle.dct_select.specs.LookUp.{blockSize}
-use Rattle.hf_pass_store.specs.Store.{PLACES, thrice, area, before, insideAll, listsFit, placesFit}
+use Rattle.hf_pass_store.specs.Store.{PLACES, thrice, insideAll, listsFit, placesFit}
 use Rattle.hf_pass_store.specs.Offsets.{from, from-step, from-start, from-most, lists-39, list-size, places-by}
 use Rattle.hf_pass_store.specs.Powers.{Power, width-power, height-power}
 

@@ -1,13 +1,13 @@
--- Looking a list up.
-use mathlib.Core.Path.{_≡_, refl, ap, sym, _∙_}
+-- Looking a list up (document 01, Orders).
+use mathlib.Core.Path.{_≡_, refl, sym, _∙_}
 use mathlib.Core.Bool.{Bool, true, false, cond, _&&_}
 use mathlib.Core.List.{List, [], _∷_}
 use Prim.Native.Nat.{ℕ, _+_, _*_, _-_, _/_, _<_, _≤_}
 use native.Mathlib.Omega.{arith}
-use lib.Dec.{T, eqb, eqb→eq, ltb}
+use lib.Dec.{eqb, eqb→eq, ltb}
 use lib.ListN.{length, getD, take, drop}
 use borrow.Author.Tests.{lt-ltb, le-ltb, eq-eqb, ne-eqb, ltb-true, eqb-true}
-use Rattle.laws.specs.Tables.{each, each-at}
+use Rattle.laws.specs.Tables.{each-at}
 use Rattle.dct_select.specs.declared.Sides.{Sides}
 use Rattle.dct_select.specs.BlockSizes.{BLOCK-SIZES, widthOf, heightOf}
 use Rattle.dct_select.specs.LookUp.{blockSize}

@@ -1,14 +1,14 @@
--- A store of natural orders.
+-- A store of natural orders (document 01, Orders).
 use mathlib.Core.Path.{_≡_, refl, ap, sym, _∙_}
 use mathlib.Core.Bool.{Bool, true, false, cond}
 use mathlib.Core.List.{List, [], _∷_, _++_, append-assoc, append-nil}
-use Prim.Native.Nat.{ℕ, zero, suc, _+_, _*_, _-_, _/_, _<_, _≤_}
+use Prim.Native.Nat.{ℕ, suc, _+_, _*_, _-_, _/_, _<_, _≤_}
 use native.Mathlib.Numerals.{add-one}
 use native.Mathlib.Omega.{arith}
 use lib.Dec.{T, eqb}
 use lib.Ieee.Fits.{and-l, and-r}
 use lib.ListN.{length, getD, take, drop, set, length-append, length-drop, drop-of-length-le, List·getD-append}
-use lib.Seq.{drop-cons, paste, take-at, take-append-le, drop-at, take-all, drop-drop, sets, sets-eq, length-take-le, getD-take, paste-suc, paste-zero}
+use lib.Seq.{drop-cons, paste, take-at, drop-at, drop-drop, sets, sets-eq, length-take-le, getD-take, paste-suc, paste-zero}
 use borrow.Author.Tests.{eq-eqb, ne-eqb}
 use Rattle.laws.specs.Tables.{every}
 use Rattle.dct_select.specs.declared.Sides.{Sides}
@@ -18,10 +18,10 @@ use Rattle.natural_order.specs.Places.{Place, flat}
 use Rattle.natural_order.specs.Natural.{natural}
 use Rattle.natural_order.specs.Sizes.{right, of-right, all-right, size-of}
 use Rattle.natural_order.specs.Turns.{natural-numbers, sets-all, laid}
-use Rattle.natural_order.specs.Filled.{roomFor, filled}
+use Rattle.natural_order.specs.Filled.{filled}
 use Rattle.natural_order.specs.Filling.{room-for}
-use Rattle.hf_pass_store.specs.Store.{PLACES, stored, thrice, area, before}
-use Rattle.hf_pass_store.specs.Offsets.{from, from-step, from-start, from-most, from-channel, sizes-13, lists-39, store-places, places-by}
+use Rattle.hf_pass_store.specs.Store.{PLACES, stored, thrice, before}
+use Rattle.hf_pass_store.specs.Offsets.{from, from-step, from-most, from-channel, sizes-13, store-places, places-by}
 
 -- each size's natural order for channels 0, 1, 2
 abbrev pub naturals : List Place → List (List Place)
@@ -51,9 +51,6 @@ three-long k h =
 module _ (k n : ℕ) (h : k < 13) (e : n ≡ 2 * (widthOf k * heightOf k)) (lists one two three : List ℕ) (long : length lists ≡ 3 * n) where
   abbrev l : List ℕ
   l = flat (natural (widthOf k) (heightOf k))
-
-  part-fits : take (n - 0) lists ≡ take n lists
-  part-fits = let z : n - 0 ≡ n = omega arith in rw z
 
   pub three-times : (part : List ℕ) → part ≡ filled (take (n - 0) (drop 0 lists)) k → one ≡ take 0 lists ++ (part ++ drop (n - 0) (drop 0 lists))
       → two ≡ paste one n one n → three ≡ paste two (2 * n) two n → three ≡ threeOf k

@@ -1,18 +1,16 @@
--- What the check of stored places says of each place.
-use mathlib.Core.Path.{_≡_, refl, ap, sym, _∙_}
+-- What the check of stored places says of each place (document 01, Refused, 13).
+use mathlib.Core.Path.{_≡_, refl, sym, _∙_}
 use mathlib.Core.Bool.{Bool, true, false, _&&_}
 use mathlib.Core.List.{List, [], _∷_}
 use Prim.Native.Nat.{ℕ, zero, suc, _+_, _*_, _/_, _%_, _<_, _≤_}
-use native.Mathlib.Numerals.{add-one}
-use native.Mathlib.Nat.{not-suc-le-zero}
 use native.Mathlib.Omega.{arith}
 use lib.Dec.{eqb, ltb}
 use lib.ListN.{length, getD, take, drop, length-drop}
 use lib.Seq.{length-take-le}
 use borrow.Author.Tests.{lt-ltb, eq-eqb, eqb-true, eqb-false, ltb-true}
-use Rattle.dct_select.specs.BlockSizes.{BLOCK-SIZES, widthOf, heightOf}
+use Rattle.dct_select.specs.BlockSizes.{widthOf, heightOf}
 use Rattle.natural_order.specs.Bools.{and-left, and-right}
-use Rattle.hf_pass_store.specs.Store.{PLACES, thrice, before, stretch, insideAll, placesFit}
+use Rattle.hf_pass_store.specs.Store.{PLACES, stretch, insideAll, placesFit}
 use Rattle.hf_pass_store.specs.Offsets.{from, from-step, from-most, places-by}
 use Rattle.hf_pass_store.specs.Checking.{fitFrom, fit-start, fit-next, fit-end}
 

@@ -4,15 +4,13 @@ use mathlib.Core.Bool.{Bool, true, false, _&&_}
 use mathlib.Core.List.{List, [], _∷_, map}
 use Prim.Native.Nat.{ℕ, zero, suc, _+_, _*_, _^_, _<_, _≤_}
 use native.Mathlib.Omega.{arith}
-use native.Mathlib.Numerals.{add-one}
 use native.Mathlib.Decide.{decLt}
-use lib.Bits.{bitOr, or-lt, or-add-and, and-le-l, and-le-r, or-zero-l}
+use lib.Bits.{bitOr, or-lt, or-add-and, and-le-l, and-le-r}
 use lib.Dec.{ltb}
 use lib.Pow.{pow-pos}
 use lib.ListN.{length, getD, drop, length-drop}
 use lib.Seq.{drop-cons}
 use borrow.Author.Tests.{lt-ltb, le-ltb}
-use Rattle.laws.specs.Lists.{getD-map}
 use Rattle.dct_select.specs.BlockSizes.{BLOCK-SIZES, widthOf, heightOf}
 use Rattle.natural_order.specs.Bools.{and-false}
 use Rattle.hf_pass_store.specs.Store.{insideAll}

@@ -1,4 +1,4 @@
-// The store of the orders: a list looked up, and the check of stored places (`hf_pass.rs`).
+// The store of the orders: natural orders written, a list looked up, the check of stored places (`hf_pass.rs`).
 use dct_select::block_sizes::block_size;
 use natural_order::fill_natural_order;
 ghost use mathlib.Core.Path.{_≡_};

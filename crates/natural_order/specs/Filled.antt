@@ -1,4 +1,4 @@
--- What filling a lent list with a natural order answers and leaves.
+-- What filling a lent list with a natural order answers and leaves (document 01, Orders).
 use mathlib.Core.Bool.{Bool, cond, _&&_}
 use mathlib.Core.List.{List}
 use Prim.Native.Nat.{ℕ, _*_}

@@ -1,17 +1,17 @@
 -- What follows for a list that has each cell of w × h once: its length, its places, no place twice, each cell found.
 use mathlib.Core.Path.{_≡_, refl, ap, sym, _∙_}
 use mathlib.Core.Bool.{Bool, true, false, cond, _&&_}
-use mathlib.Core.List.{List, [], _∷_, _++_}
+use mathlib.Core.List.{List, [], _∷_}
 use Prim.Native.Nat.{ℕ, zero, suc, _+_, _*_, _-_, _<_, _≤_}
 use native.Mathlib.Nat.{not-suc-le-zero, le-of-suc-le-suc, mul-comm}
 use native.Mathlib.Omega.{arith}
-use native.Mathlib.Decide.{ℕ-discrete, decLt}
+use native.Mathlib.Decide.{decLt}
 use lib.Dec.{ltb, eqb}
 use lib.ListN.{length, getD}
 use borrow.Author.Tests.{eqb-true}
-use Rattle.natural_order.specs.Places.{Place, run, joins, is, tally, count, Lists}
+use Rattle.natural_order.specs.Places.{Place, is, tally, count, Lists}
 use Rattle.natural_order.specs.Natural.{rows}
-use Rattle.natural_order.specs.Counts.{Hit, is-hit, is-miss}
+use Rattle.natural_order.specs.Counts.{Hit, is-hit}
 use Rattle.natural_order.specs.Rows.{inside-yes, inside-no-x, inside-no-y, rows-lists, rows-length}
 use Rattle.natural_order.specs.Bools.{and-left, and-right, tally-one}
 

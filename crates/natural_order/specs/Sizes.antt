@@ -1,13 +1,12 @@
 -- What the laws ask of a size, and that each of the 13 is one.
 use mathlib.Core.Path.{_≡_, refl, ap, sym, _∙_}
-use mathlib.Core.Bool.{Bool, true, false, _&&_}
-use mathlib.Core.List.{List, [], _∷_}
-use Prim.Native.Nat.{ℕ, zero, suc, _+_, _*_, _-_, _/_, _%_, _<_, _≤_}
-use native.Mathlib.Nat.{mul-div-cancel, div-add-mod', mul-assoc, mul-comm, not-suc-le-zero, le-of-suc-le-suc, pos-of-div-pos, mul-lt-mul-of-pos-right, mul-le-mul-right, mul-le-mul-left, zero-mul}
+use mathlib.Core.Bool.{Bool, _&&_}
+use Prim.Native.Nat.{ℕ, zero, suc, _*_, _-_, _/_, _%_, _<_, _≤_}
+use native.Mathlib.Nat.{mul-div-cancel, div-add-mod', mul-assoc, mul-comm, mul-lt-mul-of-pos-right, mul-le-mul-right, mul-le-mul-left, zero-mul}
 use native.Mathlib.Omega.{arith}
 use lib.Dec.{T, eqb, leb, leb→le, eqb→eq}
 use lib.Ieee.Fits.{and-l, and-r}
-use lib.ListN.{length, getD}
+use lib.ListN.{getD}
 use Rattle.laws.specs.Tables.{every, at-each}
 use Rattle.dct_select.specs.BlockSizes.{BLOCK-SIZES, widthOf, heightOf}
 use Rattle.natural_order.specs.Places.{Place}

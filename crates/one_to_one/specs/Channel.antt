@@ -12,11 +12,12 @@ use lib.Seq.{getD-set-same, getD-set-other, set-getD}
 use Rattle.refusal.specs.declared.Refusal.{Refusal}
 use Rattle.refusal.specs.declared.Refusal.the-variants.{SymbolsEnd, TooManyZeros}
 use Rattle.bits.specs.Signed.{unpackSigned}
+use Rattle.one_to_one.specs.Filling.{Words, Fills}
 use Rattle.one_to_one.specs.Symbols.{unpack-lt, symbol, symbol-same, symbol-zero, symbol-adds, symbol-of, symbol-lt}
 use Rattle.hf_coeff_walk.specs.Walk.{Walked, ended, stopped, walk, coeffContext, flag, less, gain}
 use Rattle.one_to_one.specs.Sequence.{differing, coeffs}
 use Rattle.one_to_one.specs.Contexts.{context-below}
-use Rattle.one_to_one.specs.Places.{In, Distinct, Words, Same, Cells, same-differing, same-coeffs, same-set, differing-le, differing-self, fill, fill-none}
+use Rattle.one_to_one.specs.Places.{In, Distinct, Same, Cells, same-differing, same-coeffs, same-set, differing-le, differing-self, fill, fill-none}
 
 pub passed : (b : Bool) (a : Walked) (why : ℕ → Refusal) (at : ℕ) (log g us′ : List ℕ) (at′ : ℕ) (log′ g′ : List ℕ) (left : ℕ)
     → cond b a (stopped why at log g) ≡ ended us′ at′ log′ g′ left → a ≡ ended us′ at′ log′ g′ left

@@ -1,11 +1,11 @@
 -- The channels of a layout's varblocks: their places fit the grids, are disjoint, and are all cells but the low-frequency ones.
 use mathlib.Core.Path.{_≡_, refl, ap, ap₂, sym, subst, _∙_}
-use mathlib.Core.Bool.{Bool, true, false}
+use mathlib.Core.Bool.{Bool}
 use mathlib.Core.Logic.{_⊎_, inl, inr}
 use mathlib.Core.List.{List, [], _∷_, _++_}
-use Prim.Native.Nat.{ℕ, zero, suc, _+_, _*_, _/_, _%_, _-_, _^_, _<_, _≤_}
+use Prim.Native.Nat.{ℕ, zero, suc, _+_, _*_, _/_, _%_, _-_, _<_, _≤_}
 use native.Mathlib.Omega.{arith}
-use native.Mathlib.Nat.{mul-le-mul, mod-lt, div-add-mod', div-lt-iff-lt-mul}
+use native.Mathlib.Nat.{mod-lt, div-add-mod', div-lt-iff-lt-mul}
 use native.Mathlib.Decide.{ℕ-discrete, decLt}
 use lib.Arith.{digits-lt}
 use lib.ListN.{length, getD, drop, List·getD-eq-default}
@@ -13,46 +13,32 @@ use Rattle.dct_select.specs.Transforms.{wide, high, orderOf, turns}
 use Rattle.dct_select.specs.BlockSizes.{widthOf, heightOf}
 use Rattle.natural_order.specs.Places.{Place}
 use Rattle.natural_order.specs.Order.{Order}
-use Rattle.layout.specs.Kinds.{wide-sized, high-sized}
 use Rattle.layout.specs.Grid.{at}
-use Rattle.layout.specs.Valid.{Covers, Owned, Layout}
+use Rattle.layout.specs.Valid.{Covers}
 use Rattle.layout.specs.Varblocks.{Varblock}
 use Rattle.hf_pass_store.specs.Store.{stretch}
+use Rattle.hf_pass.specs.Wrote.{Wrote, listOf, wrote-order, wrote-stretch}
 use Rattle.hf_coeff_walk.specs.Places.{across, down, cellOf, paired}
-use Rattle.hf_coeff_walk.specs.PlaceLaws.{length-places}
+use Rattle.hf_coeff_walk.specs.PlaceLaws.{length-places, paired-flat}
 use Rattle.hf_coeff_walk.specs.Item.{Item}
 use Rattle.hf_coeff_group.specs.Pass.{Pass, varblocks, blocksOf, placesAt, itemOf, channels, itemsOf}
 use Rattle.hf_coeff_group.specs.Group.{Grids}
+use Rattle.one_to_one.specs.Rectangles.{known, corner, type-is, right, bottom, few, covers}
+use Rattle.one_to_one.specs.Filling.{cell, InV, LaidOut, Sized, Low, LowKept}
 use Rattle.one_to_one.specs.Places.{In, Distinct}
-use Rattle.one_to_one.specs.Premises.{cell, Fit, Fits, Holds, Disjoint, Off}
+use Rattle.one_to_one.specs.Premises.{Fit, Fits, Holds, DisjointItems, Off}
 use Rattle.one_to_one.specs.Spread.{InP, Spread, order-lt, spread-of, place-in, in-place, cell-row, cell-column, distinct-places}
-use Rattle.one_to_one.specs.Corners.{InV, Apart, Corner, cornerAt, corner-of, of-corner, corners-apart}
-
--- the group is one that 18 lets pass
-abbrev pub LaidOut : Pass → Type 0
-LaidOut P = Layout (P .width) (P .height) (P .kinds) (P .muls)
+use Rattle.one_to_one.specs.Corners.{Apart, cornerAt, of-corner}
 
 -- each of the 39 stretches is an order of its size
 abbrev pub Ordered : Pass → Type 0
 Ordered P = (k c : ℕ) → k < 13 → c < 3 → Order (widthOf k) (heightOf k) (paired (stretch (P .store) k c))
 
--- three grids of the group's cells
-pub record Sized (P : Pass) (G : Grids) : Type 0 where
-  pub three : length G ≡ 3
-  pub cells : (c : ℕ) → c < 3 → length (getD G c []) ≡ 8 * P .height * (8 * P .width)
-
--- cell p is a low-frequency cell: in the corner of a varblock, as many cells wide and high as it has blocks
-pub record Low (P : Pass) (p : ℕ) : Type 0 where
-  pub of : Varblock
-  pub there : InV of (varblocks P)
-  pub left : 8 * of .x ≤ p % (8 * P .width)
-  pub right : p % (8 * P .width) < 8 * of .x + wide (of .type)
-  pub top : 8 * of .y ≤ p / (8 * P .width)
-  pub bottom : p / (8 * P .width) < 8 * of .y + high (of .type)
-
--- the low-frequency cells are kept at their start
-abbrev pub LowKept : Pass → Grids → Grids → Type 0
-LowKept P G W = (c p : ℕ) → c < 3 → Low P p → cell W c p ≡ cell G c p
+-- so it is in a store that an accepted order call wrote
+pub wrote-ordered : (P : Pass) → Wrote (P .store) → Ordered P
+wrote-ordered P w k c h l =
+    let l₀ = listOf (P .store) w k c in
+    rw (wrote-stretch (P .store) w k c h l, paired-flat l₀) (wrote-order (P .store) w k c h l)
 
 holds-left : (xs ys : List Item) (c p : ℕ) → Holds xs c p → Holds (xs ++ ys) c p
 holds-left [] ys c p h = absurd h
@@ -76,7 +62,7 @@ fits-both : (G : Grids) (xs ys : List Item) → Fits G xs → Fits G ys → Fits
 fits-both G [] ys f h = h
 fits-both G (a ∷ xs) ys f h = (f .0, fits-both G xs ys (f .1) h)
 
-disjoint-both : (xs ys : List Item) → Disjoint xs → Disjoint ys → ((c p : ℕ) → Holds xs c p → Holds ys c p → ⊥) → Disjoint (xs ++ ys)
+disjoint-both : (xs ys : List Item) → DisjointItems xs → DisjointItems ys → ((c p : ℕ) → Holds xs c p → Holds ys c p → ⊥) → DisjointItems (xs ++ ys)
 disjoint-both [] ys d f x = f
 disjoint-both (a ∷ xs) ys d f x = (
   (λ (p : ℕ). λ (i : In p (a .places)). λ (h : Holds (xs ++ ys) (a .channel) p). go p i (holds-either xs ys (a .channel) p h)),
@@ -135,33 +121,8 @@ module _ (P : Pass) (lay : LaidOut P) (ord : Ordered P) where
   abbrev M : ℕ → ℕ → ℕ
   M = at (P .muls) (P .width)
 
-  -- one varblock
+  -- one channel of a varblock
   module _ (v : Varblock) (i : InV v (varblocks P)) where
-    corner : Corner K M 0 (P .width) 0 (P .height) v
-    corner = corner-of K M (P .width) (P .height) v i
-
-    type-is : v .type ≡ K (v .x) (v .y) - 2
-    type-is = ap (λ (u : Varblock). u .type) (corner .is)
-
-    pub known : v .type < 27
-    known =
-        let f = lay .valid .fits (v .x) (v .y) (corner .toX) (corner .toY) (corner .kind) in
-        let a = f .known in let b = corner .kind in
-        omega (arith, type-is)
-
-    right : v .x + wide (v .type) ≤ P .width
-    right = rw type-is (lay .valid .fits (v .x) (v .y) (corner .toX) (corner .toY) (corner .kind) .inX)
-
-    bottom : v .y + high (v .type) ≤ P .height
-    bottom = rw type-is (lay .valid .fits (v .x) (v .y) (corner .toX) (corner .toY) (corner .kind) .inY)
-
-    few : blocksOf v ≤ 1024
-    few = mul-le-mul {n₁ = wide (v .type)} {m₁ = high (v .type)} {n₂ = 32} {m₂ = 32} (wide-sized (v .type) known .1) (high-sized (v .type) known .1)
-
-    covers : (bx bY : ℕ) → v .x ≤ bx → bx < v .x + wide (v .type) → v .y ≤ bY → bY < v .y + high (v .type) → Covers K (v .x) (v .y) bx bY
-    covers bx bY a b c d = record { corner = corner .kind; fromX = a; toX = rw type-is at b; fromY = c; toY = rw type-is at d }
-
-    -- one of its channels
     module _ (c : ℕ) (hc : c < 3) where
       abbrev turn : Bool
       turn = turns (v .type)
@@ -170,12 +131,12 @@ module _ (P : Pass) (lay : LaidOut P) (ord : Ordered P) where
       rest = drop (blocksOf v) (paired (stretch (P .store) (orderOf (v .type)) c))
 
       pub spread : Spread turn (wide (v .type)) (high (v .type)) rest
-      spread = spread-of (v .type) known (paired (stretch (P .store) (orderOf (v .type)) c)) (ord (orderOf (v .type)) c (order-lt (v .type) known) hc)
+      spread = spread-of (v .type) (known P lay v i) (paired (stretch (P .store) (orderOf (v .type)) c)) (ord (orderOf (v .type)) c (order-lt (v .type) (known P lay v i)) hc)
 
       in-row : (q : Place) → InP q rest → 8 * v .x + across turn q < 8 * P .width
       in-row q j =
           let a : across turn q < 8 * wide (v .type) = spread .inside q j .0 in
-          let b = right in
+          let b = right P lay v i in
           omega arith
 
       pub places-size : length (placesAt P v c) ≡ 63 * blocksOf v
@@ -188,7 +149,7 @@ module _ (P : Pass) (lay : LaidOut P) (ord : Ordered P) where
       places-inside p j =
           let r = in-place turn (8 * P .width) (8 * v .x) (8 * v .y) rest p j in
           let d : down turn (r .0) < 8 * high (v .type) = spread .inside (r .0) (r .1) .1 in
-          let b = bottom in
+          let b = bottom P lay v i in
           let y : 8 * v .y + down turn (r .0) < 8 * P .height = omega arith in
           rw (r .2) (digits-lt y (in-row (r .0) (r .1)))
 
@@ -203,12 +164,12 @@ module _ (P : Pass) (lay : LaidOut P) (ord : Ordered P) where
           ap (λ (x : ℕ). x % (8 * P .width)) (r .2) ∙ cell-column turn (8 * P .width) (8 * v .x) (8 * v .y) q (in-row q (r .1)) in
           let py : p / (8 * P .width) ≡ 8 * v .y + down turn q =
           ap (λ (x : ℕ). x / (8 * P .width)) (r .2) ∙ cell-row turn (8 * P .width) (8 * v .x) (8 * v .y) q (in-row q (r .1)) in
-          covers (p % (8 * P .width) / 8) (p / (8 * P .width) / 8) (omega arith) (omega arith) (omega arith) (omega arith)
+          covers P lay v i (p % (8 * P .width) / 8) (p / (8 * P .width) / 8) (omega arith) (omega arith) (omega arith) (omega arith)
 
       item-fit : (G : Grids) → Sized P G → (n : ℕ) → Fit G (itemOf P v n c)
       unfolding itemOf
       item-fit G sz n = record {
-        few = few;
+        few = few P lay v i;
         size = places-size;
         there = let x : length G ≡ 3 = sz .three in omega arith;
         distinct = places-distinct;
@@ -224,11 +185,11 @@ module _ (P : Pass) (lay : LaidOut P) (ord : Ordered P) where
       (item-fit v i 1 (omega arith) G sz 0, (item-fit v i 0 (omega arith) G sz 1, (item-fit v i 2 (omega arith) G sz 2, tt)))
       (fits-all G sz vs (λ u j. f u (inr j)))
 
-  disjoint-at : (v : Varblock) → Disjoint (channels P v)
+  disjoint-at : (v : Varblock) → DisjointItems (channels P v)
   unfolding itemOf
   disjoint-at v = ((λ p i h. none₂ h), ((λ p i h. none₁ h), ((λ p i h. h), tt)))
 
-  pub disjoint-all : (vs : List Varblock) → ((v : Varblock) → InV v vs → InV v (varblocks P)) → Apart vs → Disjoint (itemsOf P vs)
+  pub disjoint-all : (vs : List Varblock) → ((v : Varblock) → InV v vs → InV v (varblocks P)) → Apart vs → DisjointItems (itemsOf P vs)
   unfolding itemsOf
   disjoint-all [] f a = tt
   disjoint-all (v ∷ vs) f a = disjoint-both (channels P v) (itemsOf P vs) (disjoint-at v) (disjoint-all vs (λ u j. f u (inr j)) (a .1)) cross
@@ -239,7 +200,7 @@ module _ (P : Pass) (lay : LaidOut P) (ord : Ordered P) where
           let s = held P vs c p k in
           let i = f v (inl refl) in
           let j = f (s .0) (inr (s .1)) in
-          let pos : 0 < 8 * P .width = (let q = corner v i .toX in omega arith) in
+          let pos : 0 < 8 * P .width = (let q = corner P lay v i .toX in omega arith) in
           let x : p % (8 * P .width) < 8 * P .width = mod-lt p pos in
           let y : p / (8 * P .width) < 8 * P .height = div-lt-iff-lt-mul {k = 8 * P .width} {x = p} {y = 8 * P .height} pos .1 (places-inside v i c (r .0) p (r .1)) in
           let o = lay .valid .owned (p % (8 * P .width) / 8) (p / (8 * P .width) / 8) (omega arith) (omega arith) in
@@ -311,15 +272,15 @@ module _ (P : Pass) (lay : LaidOut P) (ord : Ordered P) where
           ap (λ (x : ℕ). x / (8 * P .width)) (r .2) ∙ cell-row t (8 * P .width) (8 * v .x) (8 * v .y) q (in-row v i c hc q (r .1)) in
           let a = l .left in let b = l .right in let d = l .top in let e = l .bottom in
           let cv = places-covered v i c hc p (s .3) in
-          let cu = covers u (l .there) (p % (8 * P .width) / 8) (p / (8 * P .width) / 8) (omega arith) (omega arith) (omega arith) (omega arith) in
+          let cu = covers P lay u (l .there) (p % (8 * P .width) / 8) (p / (8 * P .width) / 8) (omega arith) (omega arith) (omega arith) (omega arith) in
           let x₀ = cu .toX in let y₀ = cu .toY in
-          let xr = right u (l .there) in let yb = bottom u (l .there) in
+          let xr = right P lay u (l .there) in let yb = bottom P lay u (l .there) in
           let o = lay .valid .owned (p % (8 * P .width) / 8) (p / (8 * P .width) / 8) (omega arith) (omega arith) in
           let m = o .only (v .x) (v .y) cv in
           let n = o .only (u .x) (u .y) cu in
           let ex : u .x ≡ v .x = n .0 ∙ sym (m .0) in
           let ey : u .y ≡ v .y = n .1 ∙ sym (m .1) in
-          let et : u .type ≡ v .type = type-is u (l .there) ∙ ap₂ (λ (x y : ℕ). K x y - 2) ex ey ∙ sym (type-is v i) in
+          let et : u .type ≡ v .type = type-is P lay u (l .there) ∙ ap₂ (λ (x y : ℕ). K x y - 2) ex ey ∙ sym (type-is P lay v i) in
           let w : wide (u .type) ≡ wide (v .type) = ap wide et in
           let g : high (u .type) ≡ high (v .type) = ap high et in
           spread v i c hc .upper q (r .1) (omega arith) (omega arith)

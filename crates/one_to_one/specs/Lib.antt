@@ -1,3 +1,11 @@
+-- what the theorems speak of, and the theorems
+pub mod Filling
+pub mod Demand3
+pub mod Chain
+pub mod LowCells
+pub mod SymbolsRead
+pub mod Witness
+-- laws
 pub mod Symbols
 pub mod Sequence
 pub mod Places
@@ -9,12 +17,9 @@ pub mod Existence
 pub mod OneToOne
 pub mod Spread
 pub mod Corners
+pub mod Rectangles
 pub mod Items
-pub mod Demand3
-pub mod Chain
+pub mod OverCall
 pub mod Logging
 pub mod Ways
-pub mod SymbolsRead
 pub mod Plain
-pub mod Witness
-pub mod LowCells

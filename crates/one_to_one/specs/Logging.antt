@@ -1,5 +1,5 @@
 -- What a reading reads and logs: one cluster for each symbol, behind those logged before.
-use mathlib.Core.Path.{_≡_, refl, ap, sym, _∙_}
+use mathlib.Core.Path.{_≡_, refl, ap, _∙_}
 use mathlib.Core.Bool.{Bool, true, false, cond}
 use mathlib.Core.List.{List, [], _∷_, _++_}
 use Prim.Native.Nat.{ℕ, zero, suc, _+_, _*_, _≤_}
@@ -9,32 +9,11 @@ use lib.Dec.{ltb, leb}
 use lib.ListN.{length, getD, set, length-append}
 use lib.Seq.{sets}
 use Rattle.refusal.specs.declared.Refusal.{Refusal}
-use Rattle.refusal.specs.declared.Refusal.the-variants.{Length, Size, BitsEnd, ColumnsEnd, UnknownTransform, HfMul, Border, Overlap, Outside, Sharpness, Parameter, Context, Order, StoredPlace, Preset, SymbolsEnd, Count, TooManyZeros, Layout}
+use Rattle.refusal.specs.declared.Refusal.the-variants.{SymbolsEnd, Count, TooManyZeros}
 use Rattle.hf_coeff_walk.specs.Walk.{Walked, ended, stopped, walk, coeffContext, flag, less, gain}
 use Rattle.hf_coeff_walk.specs.Item.{Item, counted, newRow, coeffPart, countCluster}
 use Rattle.hf_coeff_group.specs.Group.{Grids, Reading, going, refused, after, item, read, readOf}
-
--- the symbols read that a refusal of the coefficient call hands back: 15 to 17 tell them, all others come before the first symbol
-abbrev pub told : Refusal → ℕ
-told (SymbolsEnd n) = n
-told (Count n) = n
-told (TooManyZeros n) = n
-told Length = 0
-told Size = 0
-told (BitsEnd n) = 0
-told (ColumnsEnd x y) = 0
-told (UnknownTransform x y) = 0
-told (HfMul x y) = 0
-told (Border x y) = 0
-told (Overlap x y) = 0
-told (Outside x y) = 0
-told (Sharpness x y) = 0
-told Parameter = 0
-told Context = 0
-told (Order n) = 0
-told StoredPlace = 0
-told (Preset n) = 0
-told Layout = 0
+use Rattle.one_to_one.specs.Filling.{told}
 
 -- a refusal after so many symbols, of all that there are: it tells them, and 15 comes only when none is left
 pub record Stop (all : ℕ) (why : ℕ → Refusal) (at : ℕ) : Type 0 where

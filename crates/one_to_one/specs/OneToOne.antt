@@ -9,9 +9,9 @@ use Rattle.hf_coeff_walk.specs.Item.{Item}
 use Rattle.hf_coeff_group.specs.Group.{leftOf, Grids, Reading, going, refused, read}
 use Rattle.hf_coeff.specs.declared.CoeffAnswer.the-variants.{Accepted}
 use Rattle.hf_coeff.specs.Call.{outcome}
+use Rattle.one_to_one.specs.Filling.{Words}
 use Rattle.one_to_one.specs.Sequence.{sequence}
-use Rattle.one_to_one.specs.Places.{Words}
-use Rattle.one_to_one.specs.Premises.{Fits, Disjoint, Small, Shape, Off}
+use Rattle.one_to_one.specs.Premises.{Fits, DisjointItems, Small, Shape, Off}
 use Rattle.one_to_one.specs.Whole.{Only, all-only}
 use Rattle.one_to_one.specs.Existence.{all-fills, sequence-words}
 
@@ -24,7 +24,7 @@ pub record Filled (r : Reading) (s : List ℕ) (W : Grids) : Type 0 where
 -- what is held fixed, and a filling
 pub record Group (its : List Item) (G W : Grids) : Type 0 where
   pub fit : Fits G its
-  pub disjoint : Disjoint its
+  pub disjoint : DisjointItems its
   pub start : Small its G
   pub wanted : Small its W
   pub shape : Shape W G

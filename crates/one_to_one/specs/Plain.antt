@@ -1,10 +1,9 @@
 -- A lent group for examples: the default contexts, no LF grids, natural orders, one preset, all as the calls themselves hand them on.
-use mathlib.Core.Path.{_≡_, refl, ap, sym, _∙_}
+use mathlib.Core.Path.{_≡_, refl, ap, _∙_}
 use mathlib.Core.Bool.{true, false}
 use mathlib.Core.List.{List, [], _∷_}
 use Prim.Native.Nat.{ℕ, zero, suc, _+_, _*_, _<_}
 use native.Mathlib.Omega.{arith}
-use lib.Dec.{eqb}
 use lib.ListN.{length, getD, replicate, length-replicate}
 use borrow.Author.Tests.{eq-eqb}
 use Rattle.bits.specs.Bits.{readBits, readU32, bitsOf, valueOf}
@@ -14,7 +13,6 @@ use Rattle.natural_order.specs.Natural.{natural}
 use Rattle.hf_pass_store.specs.Store.{PLACES, stored, stretch, placesFit}
 use Rattle.hf_pass_store.specs.Naturals.{naturals}
 use Rattle.hf_pass.specs.declared.OrdersAnswer.the-variants as orderAnswer
-use Rattle.hf_pass.specs.Reading.{orders}
 use Rattle.hf_pass.specs.Call as order
 use Rattle.hf_pass.specs.Accepts.{orders-unused}
 use Rattle.hf_pass.specs.Stretch.{store-length, stretch-list}

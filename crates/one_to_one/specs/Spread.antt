@@ -1,23 +1,23 @@
 -- An order behind its first places: each cell that is not low-frequency once, and no other.
-use mathlib.Core.Path.{_≡_, refl, ap, sym, subst, _∙_}
-use mathlib.Core.Bool.{Bool, true, false, cond, _&&_}
+use mathlib.Core.Path.{_≡_, refl, ap, sym, _∙_}
+use mathlib.Core.Bool.{Bool, true, false, _&&_}
 use mathlib.Core.Logic.{_⊎_, inl, inr}
 use mathlib.Core.List.{List, [], _∷_}
-use Prim.Native.Nat.{ℕ, zero, suc, _+_, _*_, _/_, _%_, _-_, _<_, _≤_}
+use Prim.Native.Nat.{ℕ, _+_, _*_, _/_, _%_, _-_, _<_, _≤_}
 use native.Mathlib.Omega.{arith}
 use native.Mathlib.Nat.{mul-comm, mul-mul-mul-comm}
 use native.Mathlib.Decide.{decLt}
 use lib.Arith.{digits-div, digits-mod}
 use lib.Dec.{T, ltb, eqb, eqb→eq, ltb→lt}
 use lib.Ieee.Fits.{and-l, and-r}
-use lib.ListN.{length, drop, take, length-drop}
+use lib.ListN.{length, drop, length-drop}
 use Rattle.dct_select.specs.Transforms.{TRANSFORMS, wide, high, orderOf, turns}
 use Rattle.dct_select.specs.BlockSizes.{BLOCK-SIZES, widthOf, heightOf}
 use Rattle.dct_select.specs.Rules.{below-27}
 use Rattle.laws.specs.Tables.{each}
-use Rattle.natural_order.specs.Places.{Place, is, tally, count, Lists}
+use Rattle.natural_order.specs.Places.{Place, is, tally, count}
 use Rattle.natural_order.specs.Sizes.{Size, size-of, bw-eights, bh-by}
-use Rattle.natural_order.specs.Counts.{is-hit, count-append}
+use Rattle.natural_order.specs.Counts.{is-hit}
 use Rattle.natural_order.specs.Rows.{inside-no-x, inside-no-y}
 use Rattle.natural_order.specs.Listing.{hit-of, listing-length, self}
 use Rattle.natural_order.specs.Order.{Order, skip-by}

@@ -12,35 +12,27 @@ use lib.ListN.{length, drop, length-drop, length-append}
 use lib.Seq.{sets, sets-eq, drop-at}
 use Rattle.refusal.specs.declared.Refusal.{Refusal}
 use Rattle.refusal.specs.declared.Refusal.the-variants.{SymbolsEnd}
-use Rattle.bits.specs.Bits.{Read}
 use Rattle.dct_select.specs.Transforms.{wide, high, orderOf, turns}
 use Rattle.dct_select.specs.BlockSizes.{widthOf, heightOf}
 use Rattle.layout.specs.Grid.{at}
 use Rattle.layout.specs.Varblocks.{Varblock, area}
 use Rattle.layout.specs.Theorems.{layout-iff, layout-area}
 use Rattle.hf_pass_store.specs.Store.{PLACES, stretch}
-use Rattle.block_context.specs.Record.{fit}
 use Rattle.hf_coeff_walk.specs.Places.{paired}
 use Rattle.hf_coeff_walk.specs.PlaceLaws.{length-paired, length-places}
 use Rattle.hf_coeff_walk.specs.Item.{Item}
 use Rattle.hf_coeff_group.specs.Pass.{Pass, varblocks, blocksOf, placesAt, itemOf, channels, itemsOf}
-use Rattle.hf_coeff_group.specs.Group.{Reading, going, refused, group, read, readOf, group-items}
+use Rattle.hf_coeff_group.specs.Group.{Reading, going, refused, read, readOf, group-items}
 use Rattle.hf_coeff_group.specs.Sizes.{logOf, order-lt, log-blocks, Sides, swapped, straight, sides-of}
 use Rattle.hf_coeff_group.specs.Stored.{stretch-long}
-use Rattle.hf_coeff.specs.declared.CoeffAnswer.{CoeffAnswer}
-use Rattle.hf_coeff.specs.declared.CoeffAnswer.the-variants.{Accepted, Refused}
+use Rattle.hf_coeff.specs.declared.CoeffAnswer.the-variants.{Refused}
 use Rattle.hf_coeff.specs.Call.{Lent, Outcome, blocks, clustersOf, rowsOf, presetMap, reading, outcome, refuse, call}
 use Rattle.hf_coeff.specs.CallSteps.{Passed}
 use Rattle.hf_coeff.specs.Fits.{lengths-fit}
-use Rattle.one_to_one.specs.Corners.{InV, corner-of}
-use Rattle.one_to_one.specs.Items.{LaidOut}
-use Rattle.one_to_one.specs.Ways.{withLog, Way, before, work, way}
-use Rattle.one_to_one.specs.Logging.{told, loggingAll, TellsAll, LogsAll, symbolsIn, read-logs}
-
--- symbols read, as the answer tells them: a result by its number, 15 to 17 by their position; all other refusals come before the first
-abbrev pub symbolsRead : CoeffAnswer → ℕ
-symbolsRead (Accepted n) = n
-symbolsRead (Refused why) = told why
+use Rattle.one_to_one.specs.Rectangles.{known}
+use Rattle.one_to_one.specs.Filling.{InV, LaidOut, withLog, told, symbolsRead}
+use Rattle.one_to_one.specs.Ways.{Way, before, work, way}
+use Rattle.one_to_one.specs.Logging.{loggingAll, TellsAll, LogsAll, symbolsIn, read-logs}
 
 -- A varblock's symbols: at most 64 for each of its blocks in each channel.
 symbols-both : (xs ys : List Item) → symbolsIn (xs ++ ys) ≡ symbolsIn xs + symbolsIn ys
@@ -52,14 +44,6 @@ area-by turn w h bw bh (swapped e a b) = rw (a, b) (mul-mul-mul-comm 8 h 8 w ∙
 area-by turn w h bw bh (straight e a b) = rw (a, b) (mul-mul-mul-comm 8 w 8 h)
 
 module _ (P : Pass) (lay : LaidOut P) (whole : length (P .store) ≡ 2 * PLACES) where
-  known : (v : Varblock) → InV v (varblocks P) → v .type < 27
-  known v i =
-      let c = corner-of (at (P .kinds) (P .width)) (at (P .muls) (P .width)) (P .width) (P .height) v i in
-      let e : v .type ≡ at (P .kinds) (P .width) (v .x) (v .y) - 2 = ap (λ (u : Varblock). u .type) (c .is) in
-      let f = lay .valid .fits (v .x) (v .y) (c .toX) (c .toY) (c .kind) in
-      let a = f .known in let b = c .kind in
-      omega arith
-
   places-many : (v : Varblock) → v .type < 27 → (c : ℕ) → c < 3 → length (placesAt P v c) ≡ 63 * blocksOf v
   places-many v h c hc =
       let t = v .type in
@@ -85,7 +69,7 @@ module _ (P : Pass) (lay : LaidOut P) (whole : length (P .store) ≡ 2 * PLACES)
   unfolding itemsOf area
   group-symbols [] f = omega arith
   group-symbols (v ∷ vs) f =
-      let a : symbolsIn (channels P v) ≤ 192 * blocksOf v = varblock-symbols v (known v (f v (inl refl))) in
+      let a : symbolsIn (channels P v) ≤ 192 * blocksOf v = varblock-symbols v (known P lay v (f v (inl refl))) in
       let b : symbolsIn (itemsOf P vs) ≤ 192 * area vs = group-symbols vs (λ u j. f u (inr j)) in
       rw (symbols-both (channels P v) (itemsOf P vs)) (omega arith)
 

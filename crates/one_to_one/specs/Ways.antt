@@ -15,20 +15,7 @@ use Rattle.block_context.specs.Record.{fit}
 use Rattle.hf_coeff.specs.Call.{Lent, sidesFit, parametersFit, lengthsFit, layoutFits, reading, outcome, refuse, readPreset, call}
 use Rattle.hf_coeff.specs.CallLaws.{call-size, call-parameter, call-context, call-length, call-layout, call-place, call-bits, call-preset, call-reads}
 use Rattle.hf_coeff.specs.CallSteps.{Passed}
-use Rattle.one_to_one.specs.Logging.{told}
-
--- the call with another log
-abbrev pub withLog : Lent → List ℕ → Lent
-withLog L log = record {
-  pass = L .pass;
-  presets = L .presets;
-  clusterMap = L .clusterMap;
-  shift = L .shift;
-  bytes = L .bytes;
-  symbols = L .symbols;
-  log = log;
-  grids = L .grids;
-}
+use Rattle.one_to_one.specs.Filling.{told, withLog}
 
 -- the same way is gone whatever the log holds
 pub data Way (L : Lent) : Type 0 where

@@ -3,10 +3,9 @@
 use mathlib.Core.Path.{_≡_, refl, ap, sym, _∙_}
 use mathlib.Core.Bool.{true}
 use mathlib.Core.Logic.{inl, inr}
-use mathlib.Core.List.{List, [], _∷_}
+use mathlib.Core.List.{[], _∷_}
 use Prim.Native.Nat.{ℕ, zero, suc, _+_, _*_, _^_, _-_, _/_, _%_, _<_}
 use native.Mathlib.Omega.{arith}
-use lib.Dec.{eqb}
 use lib.ListN.{length, getD, set, replicate}
 use lib.Ieee.{le, lt, eq}
 use borrow.Author.Tests.{eq-eqb}
@@ -16,8 +15,9 @@ use Rattle.dct_select.specs.Transforms.{TRANSFORMS, wide, high, orderOf, turns}
 use Rattle.natural_order.specs.Natural.{natural}
 use Rattle.layout.specs.Walk.{cells, rows}
 use Rattle.layout.specs.Varblocks.{Varblock, cornersRow, cornersFrom}
-use Rattle.layout.specs.Grid.{rowOf, gridFrom}
-use Rattle.layout.specs.Cut.{cut, groupX, groupY, groupWide, groupHigh}
+use Rattle.layout.specs.Grid.{rowOf, gridFrom, paint}
+use Rattle.layout.specs.Cut.{cut, groupX, groupY}
+use Rattle.layout.specs.Check.{clear, fitting, visitCell, checkRun}
 use Rattle.lf_group.specs.Blocks.{wideIn, highIn}
 use Rattle.filter_strength.specs.declared.Filter.the-variants.{Off}
 use Rattle.filter_strength.specs.Strength.{zero32, scaledFilter, dividedFilter}
@@ -30,17 +30,18 @@ use Rattle.hf_block_context.specs.Call.{stored as contextsOf}
 use Rattle.hf_coeff_walk.specs.Places.{paired, placesOf}
 use Rattle.hf_coeff_group.specs.Pass.{varblocks, itemOf, itemsOf}
 use Rattle.hf_coeff_group.specs.Group.{Grids}
-use Rattle.hf_coeff.specs.Call.{Lent, sidesFit, lengthsFit, readPreset}
-use Rattle.block_check.specs.Calls.{inLimits as inLimits32}
+use Rattle.hf_coeff.specs.Call.{Lent, lengthsFit, readPreset}
+use Rattle.block_check.specs.Calls.{gives, inLimits as inLimits32, lengthsFit as lengthsFit2}
+use Rattle.block_record.specs.Calls.{group, outcome, cutCheck, cutOf}
+use Rattle.block_record.specs.CutSteps.{cut-done}
 use Rattle.accepted_layout.specs.Theorems.{bwOf, bhOf}
+use Rattle.one_to_one.specs.Filling.{cell, InV, Low, LowKept, Fixed, Filling, Fills, Given}
 use Rattle.one_to_one.specs.Symbols.{symbol, pack}
-use Rattle.one_to_one.specs.Sequence.{differing, coeffs, sequence}
-use Rattle.one_to_one.specs.Premises.{cell, set-below}
-use Rattle.one_to_one.specs.Corners.{InV}
-use Rattle.one_to_one.specs.Items.{Low, LowKept}
-use Rattle.one_to_one.specs.Demand3.{Fixed, Filling, Fills, theSequence, one-sequence}
-use Rattle.one_to_one.specs.Chain.{Given, fixed-by-calls}
-use Rattle.one_to_one.specs.Plain.{store, store-long, order-0, store-wrote, defaults, defaults-read, plain}
+use Rattle.one_to_one.specs.Sequence.{differing, coeffs, sequence, theSequence}
+use Rattle.one_to_one.specs.Premises.{set-below}
+use Rattle.one_to_one.specs.Demand3.{one-sequence}
+use Rattle.one_to_one.specs.Chain.{fixed-by-calls}
+use Rattle.one_to_one.specs.Plain.{store, store-long, order-0, store-wrote, defaults-read, plain}
 
 abbrev zeros : Grids
 zeros = replicate 64 0 ∷ replicate 64 0 ∷ replicate 64 0 ∷ []
@@ -81,17 +82,14 @@ zero-cells (suc zero) p = omega (arith, all-zero 64 p)
 zero-cells (suc (suc zero)) p = omega (arith, all-zero 64 p)
 zero-cells (suc (suc (suc c))) p = omega arith
 
-sides-are : (_≡_ {A = ℕ} 1 (groupWide (bwOf columns) 0)) × (_≡_ {A = ℕ} 1 (groupHigh (bwOf columns) (bhOf columns) 0))
-unfolding wideIn highIn groupX groupY
-sides-are = (refl, refl)
+-- the cut call writes the one group there is
+cut-checked : cutCheck (bwOf columns) (bhOf columns) (2 ∷ []) (1 ∷ []) 0 1 1 ≡ gives tt
+unfolding cutCheck inLimits32 lengthsFit2 wideIn highIn groupX groupY checkRun rows cells visitCell fitting clear wide high TRANSFORMS paint
+cut-checked = refl
 
-cut-whole : (n : ℕ) → cut (bwOf columns) (bhOf columns) 0 (n ∷ []) ≡ n ∷ []
-unfolding cut wideIn highIn groupX groupY gridFrom rowOf
-cut-whole n = refl
-
-one-sided : sidesFit (one .pass) ≡ true
-unfolding inLimits32
-one-sided = refl
+cut-accepted : cutOf (bwOf columns) (bhOf columns) (2 ∷ []) (1 ∷ []) 0 (0 ∷ []) (0 ∷ []) ≡ outcome (gives (group 1 1)) (2 ∷ []) (1 ∷ [])
+unfolding wideIn highIn groupX groupY cut gridFrom rowOf
+cut-accepted = cut-done (bwOf columns) (bhOf columns) (2 ∷ []) (1 ∷ []) 0 (0 ∷ []) (0 ∷ []) cut-checked
 
 no-bits : readPreset one ≡ Value 0 0
 unfolding readBits bitsOf valueOf exponentFrom
@@ -111,10 +109,9 @@ given = record {
   used = 1;
   layout = ap (λ o. o .answer) layout-accepted;
   g = 0;
-  isWide = sides-are .0;
-  isHigh = sides-are .1;
-  kindsAre = sym (ap (λ o. cut (bwOf columns) (bhOf columns) 0 (o .kinds)) layout-accepted ∙ cut-whole 2);
-  mulsAre = sym (ap (λ o. cut (bwOf columns) (bhOf columns) 0 (o .hfMul)) layout-accepted ∙ cut-whole 1);
+  outKinds = 0 ∷ [];
+  outMuls = 0 ∷ [];
+  cutting = ap (λ o. cutOf (bwOf columns) (bhOf columns) (o .kinds) (o .hfMul) 0 (0 ∷ []) (0 ∷ [])) layout-accepted ∙ cut-accepted;
   bytes = 1 ∷ [];
   areBytes = a-byte;
   count = 0;
@@ -122,17 +119,18 @@ given = record {
   bitsRead = 1;
   contexts = ap (λ r. r .answer) defaults-read;
   record-is = sym (ap (λ r. r .contexts) defaults-read);
-  orders = store-wrote;
-  sides = one-sided;
-  few = omega arith;
-  preset = 0;
-  bits = 0;
-  readWhole = no-bits;
-  below = omega arith;
-  lengths = lengths-fit;
-  three = refl;
-  start = zero-cells;
-  shift = refl;
+  wrote = store-wrote;
+  rest = record {
+    few = omega arith;
+    preset = 0;
+    bits = 0;
+    readWhole = no-bits;
+    below = omega arith;
+    lengths = lengths-fit;
+    three = refl;
+    start = zero-cells;
+    shift = refl;
+  };
 }
 
 -- all premises of demand 3

@@ -6,7 +6,7 @@ use Prim.Native.Nat.{ℕ, zero, suc, _+_, _*_, _-_, _<_, _≤_, min}
 use native.Mathlib.Nat.{not-suc-le-zero, le-of-suc-le-suc, suc-mul, zero-mul}
 use native.Mathlib.Numerals.{add-one}
 use native.Mathlib.Omega.{arith}
-use lib.ListN.{length, getD, take, drop, set, length-append, length-drop, length-take, take-append-drop, drop-of-length-le, List·getD-append}
+use lib.ListN.{length, getD, take, drop, set, length-append, length-drop, take-append-drop, drop-of-length-le, List·getD-append}
 use lib.Seq.{sets, paste, paste-zero, paste-suc, take-paste, drop-paste, length-paste, drop-drop, take-add, drop-at, take-append-le, take-take, take-nil, length-take-le, getD-take, getD-drop, getD-append-add}
 use Rattle.laws.specs.Cases.{le-or-lt}
 use Rattle.permutation.specs.Digits.{without}

@@ -2,7 +2,6 @@
 pub mod Digits
 pub mod Permuted
 pub mod Chosen
-pub mod Inverse
 pub mod Numbers
 pub mod Leading
 pub mod Flat

@@ -1,7 +1,7 @@
--- What permuting a lent list of places answers and leaves.
+-- What permuting a lent list of places answers and leaves (document 01, Orders).
 use mathlib.Core.Bool.{Bool, true, cond, _&&_}
 use mathlib.Core.List.{List, [], _∷_}
-use Prim.Native.Nat.{ℕ, suc, _*_, _-_, _/_, _%_}
+use Prim.Native.Nat.{ℕ, suc, _-_, _/_, _%_}
 use lib.Dec.{ltb, leb, eqb}
 use lib.ListN.{length}
 use Rattle.natural_order.specs.Places.{Place, flat}
