@@ -1,9 +1,9 @@
 -- The coefficient call (document 01, Coefficients and Refused).
-use mathlib.Core.Bool.{Bool, true, false, cond, _&&_, not}
+use mathlib.Core.Bool.{Bool, true, cond, _&&_, not}
 use mathlib.Core.List.{List, [], _∷_}
-use Prim.Native.Nat.{ℕ, _+_, _*_}
+use Prim.Native.Nat.{ℕ, _*_}
 use lib.Dec.{ltb, leb, eqb}
-use lib.ListN.{length, getD, take, drop, replicate}
+use lib.ListN.{length, getD, take, drop}
 use Rattle.refusal.specs.declared.Refusal.{Refusal}
 use Rattle.refusal.specs.declared.Refusal.the-variants.{Size, Parameter, Context, Length, Layout, StoredPlace, BitsEnd, Preset}
 use Rattle.bits.specs.Bits.{Read, Value, Ended, readBits}
@@ -11,12 +11,13 @@ use Rattle.bits.specs.Exponent.{exponent}
 use Rattle.layout.specs.Check.{isLayout}
 use Rattle.block_check.specs.Calls.{inLimits}
 use Rattle.hf_pass_store.specs.Store.{PLACES, placesFit}
-use Rattle.block_context.specs.declared.HfBlockContext.{HfBlockContext}
 use Rattle.block_context.specs.Record.{fit}
 use Rattle.hf_coeff.specs.declared.CoeffAnswer.{CoeffAnswer}
 use Rattle.hf_coeff.specs.declared.CoeffAnswer.the-variants.{Accepted, Refused}
 use Rattle.hf_coeff_group.specs.Pass.{Pass, varblocks}
 use Rattle.hf_coeff_group.specs.Group.{Grids, Reading, going, refused, group, leftOf}
+pub use Rattle.hf_coeff_checks.specs.Checks.{parametersFit}
+pub use Rattle.hf_coeff_work.specs.Work.{passWith, clustersOf, rowsOf}
 
 -- what is lent
 pub record Lent : Type 0 where
@@ -29,21 +30,6 @@ pub record Lent : Type 0 where
   pub symbols : List ℕ
   pub log : List ℕ
   pub grids : Grids
-
-abbrev pub passWith : (width height : ℕ) (kinds muls : List ℕ) (contexts : HfBlockContext) (lfThere : Bool) (lf0 lf1 lf2 store : List ℕ) → Pass
-passWith width height kinds muls contexts lfThere lf0 lf1 lf2 store =
-    record {
-      width = width;
-      height = height;
-      kinds = kinds;
-      muls = muls;
-      contexts = contexts;
-      lfThere = lfThere;
-      lf0 = lf0;
-      lf1 = lf1;
-      lf2 = lf2;
-      store = store;
-    }
 
 abbrev pub lent : Pass → (presets : ℕ) (clusterMap : List ℕ) (shift : ℕ) (bytes symbols log g0 g1 g2 : List ℕ) → Lent
 lent pass presets clusterMap shift bytes symbols log g0 g1 g2 =
@@ -70,15 +56,9 @@ leaves r log g0 g1 g2 = record { answer = r; log = log; grids = g0 ∷ g1 ∷ g2
 abbrev pub blocks : Pass → ℕ
 blocks P = P .height * P .width
 
-abbrev pub clustersOf : Pass → ℕ
-clustersOf P = P .contexts .«num_block_clusters»
-
 -- Checks before work.
 abbrev pub sidesFit : Pass → Bool
 sidesFit P = inLimits 32 (P .width) (P .height)
-
-abbrev pub parametersFit : ℕ → ℕ → Bool
-parametersFit shift presets = leb shift 3 && leb presets 256
 
 -- the LF grids, if there are any
 abbrev pub lfFits : Pass → Bool
@@ -109,10 +89,6 @@ abbrev pub layoutFits : Pass → Bool
 layoutFits P = isLayout (P .width) (P .height) (P .kinds) (P .muls)
 
 -- The work.
--- three rows of counts, each as wide as the group
-abbrev pub rowsOf : Pass → Grids
-rowsOf P = replicate (P .width) 0 ∷ replicate (P .width) 0 ∷ replicate (P .width) 0 ∷ []
-
 -- the stretch of a preset in the cluster map
 abbrev pub presetMap : Lent → ℕ → List ℕ
 presetMap L preset = take (495 * clustersOf (L .pass)) (drop (495 * clustersOf (L .pass) * preset) (L .clusterMap))

@@ -2,20 +2,16 @@
 use block_check::Group;
 use block_context::HfBlockContext;
 use block_context::fit::is_fit;
-use hf_coeff_group::group::read_group;
+use hf_coeff_checks::checks;
+use hf_coeff_checks::preset;
+use hf_coeff_checks::preset::PresetAnswer;
 use hf_coeff_walk::Walk;
+use hf_coeff_work::read_with;
 use hf_pass_store::places_fit;
-use preset::PresetAnswer;
 use refusal::Refusal;
-
-mod checks;
-mod preset;
-
 ghost use mathlib.Core.Path.{_≡_};
-ghost use mathlib.Core.List.{[], _∷_};
-ghost use lib.ListN.{length};
-ghost use Rattle.hf_coeff.specs.Call.{passWith, lent, leaves, outcome, call};
-ghost use Rattle.hf_coeff.specs.CallSteps.{WorkReady, readingBy};
+ghost use Rattle.hf_coeff.specs.Call.{passWith, lent, leaves, call};
+ghost use Rattle.hf_coeff.specs.CallSteps.{answerBy};
 
 // Symbols read, or a refusal.
 pub enum CoeffAnswer {
@@ -23,58 +19,10 @@ pub enum CoeffAnswer {
     Refused(Refusal),
 }
 
-// The work, with the stretch of a preset.
-fn read_with<'a>(
-    wide: usize,
-    high: usize,
-    kinds: &'a [u8],
-    hf_mul: &'a [u32],
-    contexts: HfBlockContext,
-    lf_there: bool,
-    lf0: &'a [u32],
-    lf1: &'a [u32],
-    lf2: &'a [u32],
-    store: &'a [u16],
-    cluster_map: &'a [u8],
-    preset: usize,
-    shift: u32,
-    symbols: &'a [u32],
-    log: &mut [u8],
-    g0: &mut [u32],
-    g1: &mut [u32],
-    g2: &mut [u32],
-) -> CoeffAnswer
-    requires { ⌜ WorkReady (passWith wide high (now kinds) (now «hf_mul») contexts «lf_there» (now lf0) (now lf1) (now lf2) (now store)) (length (now «cluster_map»)) shift (length (now log)) (length (now g0)) (length (now g1)) (length (now g2)) preset ⌝ }
-    ensures { λ r. ⌜ leaves r (now (log .exit)) (now (g0 .exit)) (now (g1 .exit)) (now (g2 .exit)) ≡ outcome (readingBy (passWith wide high (now (kinds .entry)) (now («hf_mul» .entry)) contexts «lf_there» (now (lf0 .entry)) (now (lf1 .entry)) (now (lf2 .entry)) (now (store .entry))) (now («cluster_map» .entry)) shift (now (symbols .entry)) (now (log .entry)) (now (g0 .entry) ∷ now (g1 .entry) ∷ now (g2 .entry) ∷ []) preset) ⌝ }
+// What a reading of the group gives.
+fn answer(walk: Walk) -> CoeffAnswer
+    ensures { λ r. ⌜ r ≡ answerBy walk ⌝ }
 {
-    let clusters = contexts.num_block_clusters as usize;
-    let lengths = contexts.lengths;
-    let size = 495 * clusters;
-    let a = size * preset;
-    let e = a + size;
-    let walk = read_group(
-        wide,
-        high,
-        kinds,
-        hf_mul,
-        clusters,
-        lengths,
-        &contexts.lf_thresholds,
-        &contexts.qf_thresholds,
-        &contexts.block_ctx_map,
-        lf_there,
-        lf0,
-        lf1,
-        lf2,
-        store,
-        &cluster_map[a..e],
-        shift,
-        symbols,
-        log,
-        g0,
-        g1,
-        g2,
-    );
     match walk {
         Walk::Ended(at) => CoeffAnswer::Accepted(at),
         Walk::Stopped(why) => CoeffAnswer::Refused(why),
@@ -149,7 +97,7 @@ pub fn write_hf_coeff<'a>(
     let chosen = preset::read_preset(bytes, presets);
     match chosen {
         PresetAnswer::Refused(why) => CoeffAnswer::Refused(why),
-        PresetAnswer::Number(preset) => read_with(
+        PresetAnswer::Number(preset) => answer(read_with(
             wide,
             high,
             kinds,
@@ -168,6 +116,6 @@ pub fn write_hf_coeff<'a>(
             g0,
             g1,
             g2,
-        ),
+        )),
     }
 }

@@ -1,53 +1,76 @@
 use borrow.Author.Tests.{not-true, not-false}
-use Rattle.hf_coeff.specs.Call.{lent, passWith, outcome}
+use mathlib.Core.Bool.{true}
+use Rattle.block_context.specs.Record.{fit}
+use Rattle.hf_coeff_work.specs.Work.{passWith}
+use Rattle.hf_coeff.specs.Call.{Lent, lent, sidesFit, parametersFit, lengthsFit, layoutFits}
 use Rattle.hf_coeff.specs.CallLaws.{call-size, call-parameter, call-context, call-length, call-layout, call-place}
-use Rattle.hf_coeff.specs.CallSteps.{Passed, lengths-are, most-blocks, few-clusters, below, work-ready, reading-by, call-refused, call-read}
+use Rattle.hf_coeff.specs.CallSteps.{Passed, lengths-are, most-blocks, few-clusters, below, work-ready, call-refused, call-done}
 use Rattle.hf_coeff.specs.Fits.{parameters-fit, lengths-fit}
 use borrow.Author.Needs.{needs}
 use native.Mathlib.Omega.{arith}
-use mathlib.Core.Path.{_∙_, ap, sym}
+use mathlib.Core.Path.{_≡_, _∙_, sym}
 use Rattle.hf_coeff.proofs.write_hf_coeff.Statement.{statement}
 use Rattle.hf_coeff.proofs.write_hf_coeff.Tie as tie
+
+abbrev lentAt : tie.Start → Lent
+lentAt c =
+    let a = c .args in
+    lent (passWith (a .group .wide) (a .group .high) (a .kinds .now) (a .hf-mul .now) (a .contexts) (a .lf-there) (a .lf0 .now) (a .lf1 .now) (a .lf2 .now) (a .store .now)) (a .presets) (a .cluster-map .now) (a .shift) (a .bytes .now) (a .symbols .now) (a .log .now) (a .g0 .now) (a .g1 .now) (a .g2 .now)
+
+-- What each test leaves.
+sides : (c : tie.Else1) → sidesFit (lentAt (c .before .before .before .before .before .before .before .before .before .before .before .before .before .before .before) .pass) ≡ true
+sides c = sym (c .before .sides-fit .ensures) ∙ not-false (c .before .sides-fit .result) (c .if1 .left)
+
+parameters : (c : tie.Else2) → parametersFit (lentAt (c .before .before .before .before .before .before .before .before .before .before .before .before .before .before .before .before .before) .shift) (lentAt (c .before .before .before .before .before .before .before .before .before .before .before .before .before .before .before .before .before) .presets) ≡ true
+parameters c = sym (c .before .parameters-fit .ensures) ∙ not-false (c .before .parameters-fit .result) (c .if2 .left)
+
+contexts : (c : tie.Else3) → fit (lentAt (c .before .before .before .before .before .before .before .before .before .before .before .before .before .before .before .before .before .before .before) .pass .contexts) ≡ true
+contexts c = sym (c .before .is-fit .ensures) ∙ not-false (c .before .is-fit .result) (c .if3 .left)
+
+lengths : (c : tie.Else4) → lengthsFit (lentAt (c .before .before .before .before .before .before .before .before .before .before .before .before .before .before .before .before .before .before .before .before .before .before .before)) ≡ true
+lengths c =
+    lengths-are (lentAt (c .before .before .before .before .before .before .before .before .before .before .before .before .before .before .before .before .before .before .before .before .before .before .before)) (c .before .before .read-fit .result) (c .before .written-fit .result) (c .before .before .read-fit .ensures) (c .before .written-fit .ensures)
+    ∙ not-false (c .before .written-fit .result) (c .if4 .left)
+
+layout : (c : tie.Else5) → layoutFits (lentAt (c .before .before .before .before .before .before .before .before .before .before .before .before .before .before .before .before .before .before .before .before .before .before .before .before .before) .pass) ≡ true
+layout c = sym (c .before .layout-fits .ensures) ∙ not-false (c .before .layout-fits .result) (c .if5 .left)
+
+passed : (c : tie.Else6) → Passed (lentAt (c .before .before .before .before .before .before .before .before .before .before .before .before .before .before .before .before .before .before .before .before .before .before .before .before .before .before .before))
+passed c = record {
+  sides = sides (c .before .before .before .before .before .before .before .before .before .before .before .before);
+  parameters = parameters (c .before .before .before .before .before .before .before .before .before .before);
+  contexts = contexts (c .before .before .before .before .before .before .before .before);
+  lengths = lengths (c .before .before .before .before);
+  layout = layout (c .before .before);
+  places = sym (c .before .places-fit .ensures) ∙ not-false (c .before .places-fit .result) (c .if6 .left);
+}
 
 sides-fit-requires : tie.Need-sides-fit-requires
 sides-fit-requires c κs = search needs
 
 returns : tie.Need-returns
 returns c =
-    let a = c .before .before .before .before .before .before .before .before .before .before .before .before .before .before .before .args in
-    let L = lent (passWith (a .group .wide) (a .group .high) (a .kinds .now) (a .hf-mul .now) (a .contexts) (a .lf-there) (a .lf0 .now) (a .lf1 .now) (a .lf2 .now) (a .store .now)) (a .presets) (a .cluster-map .now) (a .shift) (a .bytes .now) (a .symbols .now) (a .log .now) (a .g0 .now) (a .g1 .now) (a .g2 .now) in
     let s = sym (c .before .sides-fit .ensures) ∙ not-true (c .before .sides-fit .result) (c .if1 .taken) in
-    sym (call-size L s)
+    sym (call-size (lentAt (c .before .before .before .before .before .before .before .before .before .before .before .before .before .before .before)) s)
 
 parameters-fit-requires : tie.Need-parameters-fit-requires
 parameters-fit-requires c κs = search needs
 
 returns-2 : tie.Need-returns-2
 returns-2 c =
-    let a = c .before .before .before .before .before .before .before .before .before .before .before .before .before .before .before .before .before .args in
-    let L = lent (passWith (a .group .wide) (a .group .high) (a .kinds .now) (a .hf-mul .now) (a .contexts) (a .lf-there) (a .lf0 .now) (a .lf1 .now) (a .lf2 .now) (a .store .now)) (a .presets) (a .cluster-map .now) (a .shift) (a .bytes .now) (a .symbols .now) (a .log .now) (a .g0 .now) (a .g1 .now) (a .g2 .now) in
-    let s = sym (c .before .before .before .sides-fit .ensures) ∙ not-false (c .before .before .before .sides-fit .result) (c .before .before .if1 .left) in
     let p = sym (c .before .parameters-fit .ensures) ∙ not-true (c .before .parameters-fit .result) (c .if2 .taken) in
-    sym (call-parameter L s p)
+    sym (call-parameter (lentAt (c .before .before .before .before .before .before .before .before .before .before .before .before .before .before .before .before .before)) (sides (c .before .before)) p)
 
 is-fit-requires : tie.Need-is-fit-requires
 is-fit-requires c κs = search needs
 
 returns-3 : tie.Need-returns-3
 returns-3 c =
-    let a = c .before .before .before .before .before .before .before .before .before .before .before .before .before .before .before .before .before .before .before .args in
-    let L = lent (passWith (a .group .wide) (a .group .high) (a .kinds .now) (a .hf-mul .now) (a .contexts) (a .lf-there) (a .lf0 .now) (a .lf1 .now) (a .lf2 .now) (a .store .now)) (a .presets) (a .cluster-map .now) (a .shift) (a .bytes .now) (a .symbols .now) (a .log .now) (a .g0 .now) (a .g1 .now) (a .g2 .now) in
-    let s = sym (c .before .before .before .before .before .sides-fit .ensures) ∙ not-false (c .before .before .before .before .before .sides-fit .result) (c .before .before .before .before .if1 .left) in
-    let p = sym (c .before .before .before .parameters-fit .ensures) ∙ not-false (c .before .before .before .parameters-fit .result) (c .before .before .if2 .left) in
     let k = sym (c .before .is-fit .ensures) ∙ not-true (c .before .is-fit .result) (c .if3 .taken) in
-    sym (call-context L s p k)
+    sym (call-context (lentAt (c .before .before .before .before .before .before .before .before .before .before .before .before .before .before .before .before .before .before .before)) (sides (c .before .before .before .before)) (parameters (c .before .before)) k)
 
 mul-n : tie.Need-mul-n
-mul-n c =
-    let a = c .before .before .before .before .before .before .before .before .before .before .before .before .before .before .before .before .before .before .before .args in
-    let L = lent (passWith (a .group .wide) (a .group .high) (a .kinds .now) (a .hf-mul .now) (a .contexts) (a .lf-there) (a .lf0 .now) (a .lf1 .now) (a .lf2 .now) (a .store .now)) (a .presets) (a .cluster-map .now) (a .shift) (a .bytes .now) (a .symbols .now) (a .log .now) (a .g0 .now) (a .g1 .now) (a .g2 .now) in
-    let s = sym (c .before .before .before .before .before .sides-fit .ensures) ∙ not-false (c .before .before .before .before .before .sides-fit .result) (c .before .before .before .before .if1 .left) in
-    omega (arith, most-blocks (L .pass) s)
+mul-n c = omega (arith, most-blocks (lentAt (c .before .before .before .before .before .before .before .before .before .before .before .before .before .before .before .before .before .before .before) .pass) (sides (c .before .before .before .before)))
 
 cast-clusters : tie.Need-cast-clusters
 cast-clusters c = search needs
@@ -57,59 +80,31 @@ read-fit-requires c κs = search needs
 
 written-fit-requires : tie.Need-written-fit-requires
 written-fit-requires c κs =
-    let a = c .before .before .before .before .before .before .before .before .before .before .before .before .before .before .before .before .before .before .before .before .before .args in
-    let L = lent (passWith (a .group .wide) (a .group .high) (a .kinds .now) (a .hf-mul .now) (a .contexts) (a .lf-there) (a .lf0 .now) (a .lf1 .now) (a .lf2 .now) (a .store .now)) (a .presets) (a .cluster-map .now) (a .shift) (a .bytes .now) (a .symbols .now) (a .log .now) (a .g0 .now) (a .g1 .now) (a .g2 .now) in
-    let s = sym (c .before .before .before .before .before .before .before .sides-fit .ensures) ∙ not-false (c .before .before .before .before .before .before .before .sides-fit .result) (c .before .before .before .before .before .before .if1 .left) in
-    let p = sym (c .before .before .before .before .before .parameters-fit .ensures) ∙ not-false (c .before .before .before .before .before .parameters-fit .result) (c .before .before .before .before .if2 .left) in
-    let k = sym (c .before .before .before .is-fit .ensures) ∙ not-false (c .before .before .before .is-fit .result) (c .before .before .if3 .left) in
-    (few-clusters (a .contexts) k, parameters-fit (a .shift) (a .presets) p .1, most-blocks (L .pass) s)
+    let L = lentAt (c .before .before .before .before .before .before .before .before .before .before .before .before .before .before .before .before .before .before .before .before .before) in
+    (few-clusters (L .pass .contexts) (contexts (c .before .before)), parameters-fit (L .shift) (L .presets) (parameters (c .before .before .before .before)) .1, most-blocks (L .pass) (sides (c .before .before .before .before .before .before)))
 
 returns-4 : tie.Need-returns-4
 returns-4 c =
-    let a = c .before .before .before .before .before .before .before .before .before .before .before .before .before .before .before .before .before .before .before .before .before .before .before .args in
-    let L = lent (passWith (a .group .wide) (a .group .high) (a .kinds .now) (a .hf-mul .now) (a .contexts) (a .lf-there) (a .lf0 .now) (a .lf1 .now) (a .lf2 .now) (a .store .now)) (a .presets) (a .cluster-map .now) (a .shift) (a .bytes .now) (a .symbols .now) (a .log .now) (a .g0 .now) (a .g1 .now) (a .g2 .now) in
-    let s = sym (c .before .before .before .before .before .before .before .before .before .sides-fit .ensures) ∙ not-false (c .before .before .before .before .before .before .before .before .before .sides-fit .result) (c .before .before .before .before .before .before .before .before .if1 .left) in
-    let p = sym (c .before .before .before .before .before .before .before .parameters-fit .ensures) ∙ not-false (c .before .before .before .before .before .before .before .parameters-fit .result) (c .before .before .before .before .before .before .if2 .left) in
-    let k = sym (c .before .before .before .before .before .is-fit .ensures) ∙ not-false (c .before .before .before .before .before .is-fit .result) (c .before .before .before .before .if3 .left) in
+    let L = lentAt (c .before .before .before .before .before .before .before .before .before .before .before .before .before .before .before .before .before .before .before .before .before .before .before) in
     let l = lengths-are L (c .before .before .read-fit .result) (c .before .written-fit .result) (c .before .before .read-fit .ensures) (c .before .written-fit .ensures) ∙ not-true (c .before .written-fit .result) (c .if4 .taken) in
-    sym (call-length L s p k l)
+    sym (call-length L (sides (c .before .before .before .before .before .before .before .before)) (parameters (c .before .before .before .before .before .before)) (contexts (c .before .before .before .before)) l)
 
 layout-fits-requires : tie.Need-layout-fits-requires
 layout-fits-requires c κs =
-    let a = c .before .before .before .before .before .before .before .before .before .before .before .before .before .before .before .before .before .before .before .before .before .before .before .args in
-    let L = lent (passWith (a .group .wide) (a .group .high) (a .kinds .now) (a .hf-mul .now) (a .contexts) (a .lf-there) (a .lf0 .now) (a .lf1 .now) (a .lf2 .now) (a .store .now)) (a .presets) (a .cluster-map .now) (a .shift) (a .bytes .now) (a .symbols .now) (a .log .now) (a .g0 .now) (a .g1 .now) (a .g2 .now) in
-    let s = sym (c .before .before .before .before .before .before .before .before .before .sides-fit .ensures) ∙ not-false (c .before .before .before .before .before .before .before .before .before .sides-fit .result) (c .before .before .before .before .before .before .before .before .if1 .left) in
-    let p = sym (c .before .before .before .before .before .before .before .parameters-fit .ensures) ∙ not-false (c .before .before .before .before .before .before .before .parameters-fit .result) (c .before .before .before .before .before .before .if2 .left) in
-    let k = sym (c .before .before .before .before .before .is-fit .ensures) ∙ not-false (c .before .before .before .before .before .is-fit .result) (c .before .before .before .before .if3 .left) in
-    let l = lengths-are L (c .before .before .read-fit .result) (c .before .written-fit .result) (c .before .before .read-fit .ensures) (c .before .written-fit .ensures) ∙ not-false (c .before .written-fit .result) (c .if4 .left) in
-    let t = lengths-fit L l in
-    (s, t .kinds, t .muls)
+    let t = lengths-fit (lentAt (c .before .before .before .before .before .before .before .before .before .before .before .before .before .before .before .before .before .before .before .before .before .before .before)) (lengths c) in (sides (c .before .before .before .before .before .before .before .before), t .kinds, t .muls)
 
 returns-5 : tie.Need-returns-5
 returns-5 c =
-    let a = c .before .before .before .before .before .before .before .before .before .before .before .before .before .before .before .before .before .before .before .before .before .before .before .before .before .args in
-    let L = lent (passWith (a .group .wide) (a .group .high) (a .kinds .now) (a .hf-mul .now) (a .contexts) (a .lf-there) (a .lf0 .now) (a .lf1 .now) (a .lf2 .now) (a .store .now)) (a .presets) (a .cluster-map .now) (a .shift) (a .bytes .now) (a .symbols .now) (a .log .now) (a .g0 .now) (a .g1 .now) (a .g2 .now) in
-    let s = sym (c .before .before .before .before .before .before .before .before .before .before .before .sides-fit .ensures) ∙ not-false (c .before .before .before .before .before .before .before .before .before .before .before .sides-fit .result) (c .before .before .before .before .before .before .before .before .before .before .if1 .left) in
-    let p = sym (c .before .before .before .before .before .before .before .before .before .parameters-fit .ensures) ∙ not-false (c .before .before .before .before .before .before .before .before .before .parameters-fit .result) (c .before .before .before .before .before .before .before .before .if2 .left) in
-    let k = sym (c .before .before .before .before .before .before .before .is-fit .ensures) ∙ not-false (c .before .before .before .before .before .before .before .is-fit .result) (c .before .before .before .before .before .before .if3 .left) in
-    let l = lengths-are L (c .before .before .before .before .read-fit .result) (c .before .before .before .written-fit .result) (c .before .before .before .before .read-fit .ensures) (c .before .before .before .written-fit .ensures) ∙ not-false (c .before .before .before .written-fit .result) (c .before .before .if4 .left) in
     let y = sym (c .before .layout-fits .ensures) ∙ not-true (c .before .layout-fits .result) (c .if5 .taken) in
-    sym (call-layout L s p k l y)
+    sym (call-layout (lentAt (c .before .before .before .before .before .before .before .before .before .before .before .before .before .before .before .before .before .before .before .before .before .before .before .before .before)) (sides (c .before .before .before .before .before .before .before .before .before .before)) (parameters (c .before .before .before .before .before .before .before .before)) (contexts (c .before .before .before .before .before .before)) (lengths (c .before .before)) y)
 
 places-fit-requires : tie.Need-places-fit-requires
 places-fit-requires c κs = search needs
 
 returns-6 : tie.Need-returns-6
 returns-6 c =
-    let a = c .before .before .before .before .before .before .before .before .before .before .before .before .before .before .before .before .before .before .before .before .before .before .before .before .before .before .before .args in
-    let L = lent (passWith (a .group .wide) (a .group .high) (a .kinds .now) (a .hf-mul .now) (a .contexts) (a .lf-there) (a .lf0 .now) (a .lf1 .now) (a .lf2 .now) (a .store .now)) (a .presets) (a .cluster-map .now) (a .shift) (a .bytes .now) (a .symbols .now) (a .log .now) (a .g0 .now) (a .g1 .now) (a .g2 .now) in
-    let s = sym (c .before .before .before .before .before .before .before .before .before .before .before .before .before .sides-fit .ensures) ∙ not-false (c .before .before .before .before .before .before .before .before .before .before .before .before .before .sides-fit .result) (c .before .before .before .before .before .before .before .before .before .before .before .before .if1 .left) in
-    let p = sym (c .before .before .before .before .before .before .before .before .before .before .before .parameters-fit .ensures) ∙ not-false (c .before .before .before .before .before .before .before .before .before .before .before .parameters-fit .result) (c .before .before .before .before .before .before .before .before .before .before .if2 .left) in
-    let k = sym (c .before .before .before .before .before .before .before .before .before .is-fit .ensures) ∙ not-false (c .before .before .before .before .before .before .before .before .before .is-fit .result) (c .before .before .before .before .before .before .before .before .if3 .left) in
-    let l = lengths-are L (c .before .before .before .before .before .before .read-fit .result) (c .before .before .before .before .before .written-fit .result) (c .before .before .before .before .before .before .read-fit .ensures) (c .before .before .before .before .before .written-fit .ensures) ∙ not-false (c .before .before .before .before .before .written-fit .result) (c .before .before .before .before .if4 .left) in
-    let y = sym (c .before .before .before .layout-fits .ensures) ∙ not-false (c .before .before .before .layout-fits .result) (c .before .before .if5 .left) in
     let z = sym (c .before .places-fit .ensures) ∙ not-true (c .before .places-fit .result) (c .if6 .taken) in
-    sym (call-place L s p k l y z)
+    sym (call-place (lentAt (c .before .before .before .before .before .before .before .before .before .before .before .before .before .before .before .before .before .before .before .before .before .before .before .before .before .before .before)) (sides (c .before .before .before .before .before .before .before .before .before .before .before .before)) (parameters (c .before .before .before .before .before .before .before .before .before .before)) (contexts (c .before .before .before .before .before .before .before .before)) (lengths (c .before .before .before .before)) (layout (c .before .before)) z)
 
 read-preset-requires : tie.Need-read-preset-requires
 read-preset-requires c κs = search needs
@@ -125,31 +120,20 @@ cast-read-with c = search needs
 
 read-with-requires : tie.Need-read-with-requires
 read-with-requires c κs =
-    let a = c .before .before .before .before .before .before .before .before .before .before .before .before .before .before .before .before .before .before .before .before .before .before .before .before .before .before .before .before .before .before .before .before .before .before .before .args in
-    let L = lent (passWith (a .group .wide) (a .group .high) (a .kinds .now) (a .hf-mul .now) (a .contexts) (a .lf-there) (a .lf0 .now) (a .lf1 .now) (a .lf2 .now) (a .store .now)) (a .presets) (a .cluster-map .now) (a .shift) (a .bytes .now) (a .symbols .now) (a .log .now) (a .g0 .now) (a .g1 .now) (a .g2 .now) in
-    let s = sym (c .before .before .before .before .before .before .before .before .before .before .before .before .before .before .before .before .before .before .before .before .before .sides-fit .ensures) ∙ not-false (c .before .before .before .before .before .before .before .before .before .before .before .before .before .before .before .before .before .before .before .before .before .sides-fit .result) (c .before .before .before .before .before .before .before .before .before .before .before .before .before .before .before .before .before .before .before .before .if1 .left) in
-    let p = sym (c .before .before .before .before .before .before .before .before .before .before .before .before .before .before .before .before .before .before .before .parameters-fit .ensures) ∙ not-false (c .before .before .before .before .before .before .before .before .before .before .before .before .before .before .before .before .before .before .before .parameters-fit .result) (c .before .before .before .before .before .before .before .before .before .before .before .before .before .before .before .before .before .before .if2 .left) in
-    let k = sym (c .before .before .before .before .before .before .before .before .before .before .before .before .before .before .before .before .before .is-fit .ensures) ∙ not-false (c .before .before .before .before .before .before .before .before .before .before .before .before .before .before .before .before .before .is-fit .result) (c .before .before .before .before .before .before .before .before .before .before .before .before .before .before .before .before .if3 .left) in
-    let l = lengths-are L (c .before .before .before .before .before .before .before .before .before .before .before .before .before .before .read-fit .result) (c .before .before .before .before .before .before .before .before .before .before .before .before .before .written-fit .result) (c .before .before .before .before .before .before .before .before .before .before .before .before .before .before .read-fit .ensures) (c .before .before .before .before .before .before .before .before .before .before .before .before .before .written-fit .ensures) ∙ not-false (c .before .before .before .before .before .before .before .before .before .before .before .before .before .written-fit .result) (c .before .before .before .before .before .before .before .before .before .before .before .before .if4 .left) in
-    let y = sym (c .before .before .before .before .before .before .before .before .before .before .before .layout-fits .ensures) ∙ not-false (c .before .before .before .before .before .before .before .before .before .before .before .layout-fits .result) (c .before .before .before .before .before .before .before .before .before .before .if5 .left) in
-    let z = sym (c .before .before .before .before .before .before .before .before .before .places-fit .ensures) ∙ not-false (c .before .before .before .before .before .before .before .before .before .places-fit .result) (c .before .before .before .before .before .before .before .before .if6 .left) in
-    let passed : Passed L = record { sides = s; parameters = p; contexts = k; lengths = l; layout = y; places = z } in
+    let L = lentAt (c .before .before .before .before .before .before .before .before .before .before .before .before .before .before .before .before .before .before .before .before .before .before .before .before .before .before .before .before .before .before .before .before .before .before .before) in
+    let p = passed (c .before .before .before .before .before .before .before .before) in
     let r = c .before .before .before .before .before .before .before .read-preset in
-    work-ready L passed _ (below L passed (r .result) _ (r .ensures) (c .before .before .before .before .before .chosen2 .given .1))
+    let n = c .before .before .before .before .before .chosen2 .given in
+    work-ready L p (n .0 .0) (below L p (r .result) (n .0 .0) (r .ensures) (n .1))
+
+answer-requires : tie.Need-answer-requires
+answer-requires c κs = search needs
 
 returns-7 : tie.Need-returns-7
 returns-7 c =
-    let a = c .before .before .before .before .before .before .before .before .before .before .before .before .before .before .before .before .before .before .before .before .before .before .before .before .before .before .before .before .before .before .before .args in
-    let L = lent (passWith (a .group .wide) (a .group .high) (a .kinds .now) (a .hf-mul .now) (a .contexts) (a .lf-there) (a .lf0 .now) (a .lf1 .now) (a .lf2 .now) (a .store .now)) (a .presets) (a .cluster-map .now) (a .shift) (a .bytes .now) (a .symbols .now) (a .log .now) (a .g0 .now) (a .g1 .now) (a .g2 .now) in
-    let s = sym (c .before .before .before .before .before .before .before .before .before .before .before .before .before .before .before .before .before .sides-fit .ensures) ∙ not-false (c .before .before .before .before .before .before .before .before .before .before .before .before .before .before .before .before .before .sides-fit .result) (c .before .before .before .before .before .before .before .before .before .before .before .before .before .before .before .before .if1 .left) in
-    let p = sym (c .before .before .before .before .before .before .before .before .before .before .before .before .before .before .before .parameters-fit .ensures) ∙ not-false (c .before .before .before .before .before .before .before .before .before .before .before .before .before .before .before .parameters-fit .result) (c .before .before .before .before .before .before .before .before .before .before .before .before .before .before .if2 .left) in
-    let k = sym (c .before .before .before .before .before .before .before .before .before .before .before .before .before .is-fit .ensures) ∙ not-false (c .before .before .before .before .before .before .before .before .before .before .before .before .before .is-fit .result) (c .before .before .before .before .before .before .before .before .before .before .before .before .if3 .left) in
-    let l = lengths-are L (c .before .before .before .before .before .before .before .before .before .before .read-fit .result) (c .before .before .before .before .before .before .before .before .before .written-fit .result) (c .before .before .before .before .before .before .before .before .before .before .read-fit .ensures) (c .before .before .before .before .before .before .before .before .before .written-fit .ensures) ∙ not-false (c .before .before .before .before .before .before .before .before .before .written-fit .result) (c .before .before .before .before .before .before .before .before .if4 .left) in
-    let y = sym (c .before .before .before .before .before .before .before .layout-fits .ensures) ∙ not-false (c .before .before .before .before .before .before .before .layout-fits .result) (c .before .before .before .before .before .before .if5 .left) in
-    let z = sym (c .before .before .before .before .before .places-fit .ensures) ∙ not-false (c .before .before .before .before .before .places-fit .result) (c .before .before .before .before .if6 .left) in
-    let passed : Passed L = record { sides = s; parameters = p; contexts = k; lengths = l; layout = y; places = z } in
     let r = c .before .before .before .read-preset in
-    call-refused L passed (r .result) _ (r .ensures) (c .before .chosen .given .1)
+    let w = c .before .chosen .given in
+    call-refused (lentAt (c .before .before .before .before .before .before .before .before .before .before .before .before .before .before .before .before .before .before .before .before .before .before .before .before .before .before .before .before .before .before .before)) (passed (c .before .before .before .before)) (r .result) (w .0 .0) (r .ensures) (w .1)
 
 same-length : tie.Need-same-length
 same-length c = search needs
@@ -165,18 +149,12 @@ same-length-4 c = search needs
 
 returns-8 : tie.Need-returns-8
 returns-8 c =
-    let a = c .before .before .before .before .before .before .before .before .before .before .before .before .before .before .before .before .before .before .before .before .before .before .before .before .before .before .before .before .before .before .before .before .before .before .before .before .before .before .before .before .before .before .before .before .args in
-    let L = lent (passWith (a .group .wide) (a .group .high) (a .kinds .now) (a .hf-mul .now) (a .contexts) (a .lf-there) (a .lf0 .now) (a .lf1 .now) (a .lf2 .now) (a .store .now)) (a .presets) (a .cluster-map .now) (a .shift) (a .bytes .now) (a .symbols .now) (a .log .now) (a .g0 .now) (a .g1 .now) (a .g2 .now) in
-    let s = sym (c .before .before .before .before .before .before .before .before .before .before .before .before .before .before .before .before .before .before .before .before .before .before .before .before .before .before .before .before .before .before .sides-fit .ensures) ∙ not-false (c .before .before .before .before .before .before .before .before .before .before .before .before .before .before .before .before .before .before .before .before .before .before .before .before .before .before .before .before .before .before .sides-fit .result) (c .before .before .before .before .before .before .before .before .before .before .before .before .before .before .before .before .before .before .before .before .before .before .before .before .before .before .before .before .before .if1 .left) in
-    let p = sym (c .before .before .before .before .before .before .before .before .before .before .before .before .before .before .before .before .before .before .before .before .before .before .before .before .before .before .before .before .parameters-fit .ensures) ∙ not-false (c .before .before .before .before .before .before .before .before .before .before .before .before .before .before .before .before .before .before .before .before .before .before .before .before .before .before .before .before .parameters-fit .result) (c .before .before .before .before .before .before .before .before .before .before .before .before .before .before .before .before .before .before .before .before .before .before .before .before .before .before .before .if2 .left) in
-    let k = sym (c .before .before .before .before .before .before .before .before .before .before .before .before .before .before .before .before .before .before .before .before .before .before .before .before .before .before .is-fit .ensures) ∙ not-false (c .before .before .before .before .before .before .before .before .before .before .before .before .before .before .before .before .before .before .before .before .before .before .before .before .before .before .is-fit .result) (c .before .before .before .before .before .before .before .before .before .before .before .before .before .before .before .before .before .before .before .before .before .before .before .before .before .if3 .left) in
-    let l = lengths-are L (c .before .before .before .before .before .before .before .before .before .before .before .before .before .before .before .before .before .before .before .before .before .before .before .read-fit .result) (c .before .before .before .before .before .before .before .before .before .before .before .before .before .before .before .before .before .before .before .before .before .before .written-fit .result) (c .before .before .before .before .before .before .before .before .before .before .before .before .before .before .before .before .before .before .before .before .before .before .before .read-fit .ensures) (c .before .before .before .before .before .before .before .before .before .before .before .before .before .before .before .before .before .before .before .before .before .before .written-fit .ensures) ∙ not-false (c .before .before .before .before .before .before .before .before .before .before .before .before .before .before .before .before .before .before .before .before .before .before .written-fit .result) (c .before .before .before .before .before .before .before .before .before .before .before .before .before .before .before .before .before .before .before .before .before .if4 .left) in
-    let y = sym (c .before .before .before .before .before .before .before .before .before .before .before .before .before .before .before .before .before .before .before .before .layout-fits .ensures) ∙ not-false (c .before .before .before .before .before .before .before .before .before .before .before .before .before .before .before .before .before .before .before .before .layout-fits .result) (c .before .before .before .before .before .before .before .before .before .before .before .before .before .before .before .before .before .before .before .if5 .left) in
-    let z = sym (c .before .before .before .before .before .before .before .before .before .before .before .before .before .before .before .before .before .before .places-fit .ensures) ∙ not-false (c .before .before .before .before .before .before .before .before .before .before .before .before .before .before .before .before .before .before .places-fit .result) (c .before .before .before .before .before .before .before .before .before .before .before .before .before .before .before .before .before .if6 .left) in
-    let passed : Passed L = record { sides = s; parameters = p; contexts = k; lengths = l; layout = y; places = z } in
-    let r = c .before .before .before .before .before .before .before .before .before .before .before .before .before .before .before .before .read-preset in
-    let n = c .before .before .before .before .before .before .before .before .before .before .before .before .before .before .chosen2 .given in
-    c .before .before .before .before .before .before .before .before .read-with .ensures ∙ ap outcome (sym (reading-by L (n .0 .0))) ∙ call-read L passed (r .result) (n .0 .0) (r .ensures) (n .1)
+    let L = lentAt (c .before .before .before .before .before .before .before .before .before .before .before .before .before .before .before .before .before .before .before .before .before .before .before .before .before .before .before .before .before .before .before .before .before .before .before .before .before .before .before .before .before .before .before .before .before) in
+    let r = c .before .before .before .before .before .before .before .before .before .before .before .before .before .before .before .before .before .read-preset in
+    let n = c .before .before .before .before .before .before .before .before .before .before .before .before .before .before .before .chosen2 .given in
+    let g = c .before .before .before .before .before .before .before .before .before .read-with in
+    let l = g .last .1 .1 .1 .1 .1 .1 .1 .1 .1 .1 .1 .1 .1 .1 in
+    call-done L (passed (c .before .before .before .before .before .before .before .before .before .before .before .before .before .before .before .before .before .before)) (r .result) (n .0 .0) (r .ensures) (n .1) (g .result) (c .answer .result) (l .0) (l .1 .0) (l .1 .1 .0) (l .1 .1 .1 .0) (c .answer .ensures) (g .ensures)
 
 pub write-hf-coeff-spec : {M : Type 1} → statement M
 write-hf-coeff-spec =
@@ -202,6 +180,7 @@ write-hf-coeff-spec =
     enum-known-chosen-2
     cast-read-with
     read-with-requires
+    answer-requires
     returns-7
     same-length
     same-length-2

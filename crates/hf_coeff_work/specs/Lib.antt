@@ -1,0 +1,3 @@
+-- the work of the coefficient call
+pub mod Work
+pub mod WorkLaws
