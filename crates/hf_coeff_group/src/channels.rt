@@ -4,7 +4,7 @@ use crate::plan::Plan;
 use crate::symbols_read;
 use hf_coeff_walk::Walk;
 use hf_coeff_walk::count::count_over;
-use hf_coeff_walk::count::rewritten;
+use hf_coeff_walk::count::rewrite;
 use hf_coeff_walk::item::Varblock;
 use hf_coeff_walk::item::read_channel;
 use hf_pass_store::order;
@@ -27,7 +27,7 @@ fn walk_channel<'a>(
     clusters: usize,
     map: &'a [u8],
     order: &'a [u16],
-    row: [u32; 32],
+    row: &'a [u32; 32],
     symbols: &'a [u32],
     at: usize,
     shift: u32,
@@ -36,8 +36,8 @@ fn walk_channel<'a>(
     g1: &mut [u32],
     g2: &mut [u32],
 ) -> Walk
-    requires { ⌜ (c < 3) × ItemReady v width context clusters (now map) (now order) row (length (now symbols)) at shift (length (now log)) (length (now g0)) × (length (now g1) ≡ length (now g0)) × (length (now g2) ≡ length (now g0)) ⌝ }
-    ensures { λ r. ⌜ InGrid c (now (g0 .entry) ∷ now (g1 .entry) ∷ now (g2 .entry) ∷ []) r (now (log .exit)) (now (g0 .exit) ∷ now (g1 .exit) ∷ now (g2 .exit) ∷ []) (λ g. counted shift clusters (now (map .entry)) (itemAt v width context (now (order .entry))) row (drop at (now (symbols .entry))) at (now (log .entry)) g) ⌝ }
+    requires { ⌜ (c < 3) × ItemReady v width context clusters (now map) (now order) (now row) (length (now symbols)) at shift (length (now log)) (length (now g0)) × (length (now g1) ≡ length (now g0)) × (length (now g2) ≡ length (now g0)) ⌝ }
+    ensures { λ r. ⌜ InGrid c (now (g0 .entry) ∷ now (g1 .entry) ∷ now (g2 .entry) ∷ []) r (now (log .exit)) (now (g0 .exit) ∷ now (g1 .exit) ∷ now (g2 .exit) ∷ []) (λ g. counted shift clusters (now (map .entry)) (itemAt v width context (now (order .entry))) (now (row .entry)) (drop at (now (symbols .entry))) at (now (log .entry)) g) ⌝ }
 {
     if c == 0 {
         return read_channel(
@@ -108,7 +108,7 @@ fn read_item<'a>(
     clusters: usize,
     map: &'a [u8],
     order: &'a [u16],
-    row: [u32; 32],
+    row: &'a [u32; 32],
     symbols: &'a [u32],
     at: usize,
     shift: u32,
@@ -117,8 +117,8 @@ fn read_item<'a>(
     g1: &mut [u32],
     g2: &mut [u32],
 ) -> ChannelRead
-    requires { ⌜ (c < 3) × (v .x < width) × ItemReady v width context clusters (now map) (now order) row (length (now symbols)) at shift (length (now log)) (length (now g0)) × (length (now g1) ≡ length (now g0)) × (length (now g2) ≡ length (now g0)) ⌝ }
-    ensures { λ r. ⌜ ((rows : Grids) → Rows rows → getD rows c [] ≡ row → (left : ℕ) → Shown width (now (symbols .entry)) (at + 64 * 2 ^ (v .log)) (r .walk) (rowBy rows c (v .x) (v .wide) (r .count)) (now (log .exit)) (now (g0 .exit) ∷ now (g1 .exit) ∷ now (g2 .exit) ∷ []) (item shift clusters (now (map .entry)) (inChannel c (itemAt v width context (now (order .entry)))) (going (drop at (now (symbols .entry))) at (now (log .entry)) (now (g0 .entry) ∷ now (g1 .entry) ∷ now (g2 .entry) ∷ []) (cut width rows) left))) ⌝ }
+    requires { ⌜ (c < 3) × (v .x < width) × ItemReady v width context clusters (now map) (now order) (now row) (length (now symbols)) at shift (length (now log)) (length (now g0)) × (length (now g1) ≡ length (now g0)) × (length (now g2) ≡ length (now g0)) ⌝ }
+    ensures { λ r. ⌜ ((rows : Grids) → Rows rows → getD rows c [] ≡ now (row .entry) → (left : ℕ) → Shown width (now (symbols .entry)) (at + 64 * 2 ^ (v .log)) (r .walk) (rowBy rows c (v .x) (v .wide) (r .count)) (now (log .exit)) (now (g0 .exit) ∷ now (g1 .exit) ∷ now (g2 .exit) ∷ []) (item shift clusters (now (map .entry)) (inChannel c (itemAt v width context (now (order .entry)))) (going (drop at (now (symbols .entry))) at (now (log .entry)) (now (g0 .entry) ∷ now (g1 .entry) ∷ now (g2 .entry) ∷ []) (cut width rows) left))) ⌝ }
 {
     let walk = walk_channel(
         c,
@@ -160,9 +160,11 @@ pub fn rewritten_all(
     requires { ⌜ x + wide ≤ 32 ⌝ }
     ensures { λ r. ⌜ r ≡ rowsBy rows x wide counts ⌝ }
 {
-    let y = rewritten(rows, 1, x, wide, counts[0]);
-    let xy = rewritten(y, 0, x, wide, counts[1]);
-    rewritten(xy, 2, x, wide, counts[2])
+    let mut out = rows;
+    rewrite(&mut out[1], x, wide, counts[0]);
+    rewrite(&mut out[0], x, wide, counts[1]);
+    rewrite(&mut out[2], x, wide, counts[2]);
+    out
 }
 
 // The three channels of a varblock: 1, 0, 2.
@@ -174,15 +176,15 @@ pub fn read_varblock<'a>(
     store: &'a [u16],
     symbols: &'a [u32],
     at: usize,
-    rows: [[u32; 32]; 3],
+    rows: &'a [[u32; 32]; 3],
     shift: u32,
     log: &mut [u8],
     g0: &mut [u32],
     g1: &mut [u32],
     g2: &mut [u32],
 ) -> VarblockRead
-    requires { ⌜ PlanReady plan width clusters (now map) (now store) (length (now symbols)) at shift (length (now log)) (length (now g0)) × Rows rows × (length (now g1) ≡ length (now g0)) × (length (now g2) ≡ length (now g0)) ⌝ }
-    ensures { λ r. ⌜ ((left : ℕ) → Shown width (now (symbols .entry)) (at + 192 * 2 ^ (plan .at .log)) (r .walk) (rowsBy rows (plan .at .x) (plan .at .wide) (r .counts)) (now (log .exit)) (now (g0 .exit) ∷ now (g1 .exit) ∷ now (g2 .exit) ∷ []) (read shift clusters (now (map .entry)) (itemsBy plan width (now (store .entry))) (going (drop at (now (symbols .entry))) at (now (log .entry)) (now (g0 .entry) ∷ now (g1 .entry) ∷ now (g2 .entry) ∷ []) (cut width rows) left))) ⌝ }
+    requires { ⌜ PlanReady plan width clusters (now map) (now store) (length (now symbols)) at shift (length (now log)) (length (now g0)) × Rows (now rows) × (length (now g1) ≡ length (now g0)) × (length (now g2) ≡ length (now g0)) ⌝ }
+    ensures { λ r. ⌜ ((left : ℕ) → Shown width (now (symbols .entry)) (at + 192 * 2 ^ (plan .at .log)) (r .walk) (rowsBy (now (rows .entry)) (plan .at .x) (plan .at .wide) (r .counts)) (now (log .exit)) (now (g0 .exit) ∷ now (g1 .exit) ∷ now (g2 .exit) ∷ []) (read shift clusters (now (map .entry)) (itemsBy plan width (now (store .entry))) (going (drop at (now (symbols .entry))) at (now (log .entry)) (now (g0 .entry) ∷ now (g1 .entry) ∷ now (g2 .entry) ∷ []) (cut width (now (rows .entry))) left))) ⌝ }
 {
     let v = plan.at;
     let contexts = plan.contexts;
@@ -195,7 +197,7 @@ pub fn read_varblock<'a>(
         clusters,
         map,
         order(store, number, 1),
-        rows[1],
+        &rows[1],
         symbols,
         at,
         shift,
@@ -220,7 +222,7 @@ pub fn read_varblock<'a>(
         clusters,
         map,
         order(store, number, 0),
-        rows[0],
+        &rows[0],
         symbols,
         at,
         shift,
@@ -245,7 +247,7 @@ pub fn read_varblock<'a>(
         clusters,
         map,
         order(store, number, 2),
-        rows[2],
+        &rows[2],
         symbols,
         at,
         shift,

@@ -75,7 +75,7 @@ pub fn read_group<'a>(
                 store,
                 symbols,
                 at,
-                rows,
+                &rows,
                 shift,
                 log,
                 g0,

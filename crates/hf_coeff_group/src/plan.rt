@@ -18,7 +18,7 @@ pub struct Plan {
 }
 
 // The exponent of each transform's number of blocks.
-const LOG_BLOCKS: [usize; 27] = [
+const LOG_BLOCKS: [u8; 27] = [
     0,
     0,
     0,
@@ -63,7 +63,7 @@ fn log_blocks(kind: u8) -> usize
     if 27 <= t {
         return 0;
     }
-    LOG_BLOCKS[t]
+    wide(LOG_BLOCKS[t])
 }
 
 // The varblock of a corner's kind.

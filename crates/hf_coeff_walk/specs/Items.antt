@@ -11,11 +11,11 @@ use lib.ListN.{length, getD, set, take, drop, length-drop, drop-of-length-le}
 use lib.Pow.{pow-pos}
 use lib.Seq.{drop-cons, length-take-le, take-all}
 use Rattle.refusal.specs.declared.Refusal.the-variants.{SymbolsEnd, Count}
-use Rattle.hf_coeff_walk.specs.Walk.{Walked, stopped, walk}
+use Rattle.hf_coeff_walk.specs.Walk.{Walked, ended, stopped, walk}
 use Rattle.hf_coeff_walk.specs.Places.{paired, placesOf}
 use Rattle.hf_coeff_walk.specs.Item.{Item, predicted, countIndex, countCluster, coeffPart, counted}
 use Rattle.hf_coeff_walk.specs.Counts.{Counts, part-entry}
-use Rattle.hf_coeff_walk.specs.Outcome.{Ready, Handed}
+use Rattle.hf_coeff_walk.specs.Outcome.{Ready, Handed, walk-used}
 use Rattle.hf_coeff_walk.specs.PlaceLaws.{paired-drop}
 use Rattle.hf_coeff_walk.specs.declared.Walk.{Walk}
 use Rattle.hf_coeff_walk.specs.declared.item.Varblock.{Varblock}
@@ -65,6 +65,13 @@ module _ (shift clusters : ℕ) (stretch : List ℕ) (it : Item) (row symbols : 
         (drop (at + 1) symbols) (at + 1) (set log at (countCluster clusters stretch it row)) g
     unfolding counted
     counted-goes l = rw (drop-cons symbols at 0 h, le-leb (getD symbols at 0) (63 * it .blocks) l, add-one at)
+
+    pub counted-none : getD symbols at 0 ≡ 0
+        → counted shift clusters stretch it row (drop at symbols) at log g ≡ ended (drop (at + 1) symbols) (at + 1) (set log at (countCluster clusters stretch it row)) g 0
+    counted-none e =
+        let n = getD symbols at 0 in
+        let log₁ = set log at (countCluster clusters stretch it row) in
+        counted-goes (omega (arith, e)) ∙ walk-used shift (it .blocks) (coeffPart clusters stretch it) (it .places) symbols 0 (cond (leb n (4 * it .blocks)) 1 0) n (at + 1) log₁ g e
 
 whole-rest : (l : List ℕ) (k : ℕ) → take (length l - k) (drop k l) ≡ drop k l
 whole-rest l k = take-all (length l - k) (drop k l) (rw (length-drop k l) (omega arith))

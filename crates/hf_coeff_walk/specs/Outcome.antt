@@ -61,13 +61,13 @@ less-of : (u n : ℕ) → less u n ≡ lessOf u (suc n)
 less-of zero n = refl
 less-of (suc u) n = omega arith
 
-pub less-le : (u n : ℕ) → lessOf u n ≤ n
-less-le zero n = omega arith
-less-le (suc u) n = omega arith
+flag-one : (u : ℕ) → (u ≡ 0 → ⊥) → flag u ≡ 1
+flag-one zero n = absurd (n refl)
+flag-one (suc u) n = refl
 
-pub flag-le : (u : ℕ) → flag u ≤ 1
-flag-le zero = omega arith
-flag-le (suc u) = omega arith
+less-one : (u left : ℕ) → (u ≡ 0 → ⊥) → lessOf u left ≡ left - 1
+less-one zero left n = absurd (n refl)
+less-one (suc u) left n = refl
 
 module _ (shift blocks : ℕ) (part : List ℕ) where
   pub walk-next : (p : ℕ) (ps : List ℕ) (i prev n u : ℕ) (us : List ℕ) (at : ℕ) (log g : List ℕ) → coeffContext blocks n i prev < 458
@@ -109,7 +109,7 @@ module _ (shift blocks : ℕ) (part places symbols : List ℕ) (k prev left at :
       go zero l c = absurd (omega arith)
       go (suc m) l c = let e : suc m - 1 ≡ m = omega arith in rw (lt-ltb (coeffContext blocks m k prev) 458 (rw e at c))
 
-  pub walk-turn : k < length places → 0 < left → coeffContext blocks (left - 1) k prev < 458 → at < length symbols
+  walk-turn : k < length places → 0 < left → coeffContext blocks (left - 1) k prev < 458 → at < length symbols
       → walk shift blocks part (drop k places) k prev left (drop at symbols) at log g
       ≡ walk shift blocks part (drop (k + 1) places) (k + 1) (flag (getD symbols at 0)) (lessOf (getD symbols at 0) left) (drop (at + 1) symbols) (at + 1)
       (set log at (getD part (coeffContext blocks (left - 1) k prev) 0)) (gain shift g (getD places k 0) (getD symbols at 0))
@@ -131,28 +131,26 @@ module _ (shift blocks : ℕ) (part places symbols : List ℕ) (k prev left at :
           let c₁ : coeffContext blocks m k prev < 458 = rw e at c in
           walk-next shift blocks part p (drop (suc k) places) k prev m u (drop (suc at) symbols) at log g c₁ ∙ rw (add-one k, add-one at, less-of u m, e)
 
+  -- a symbol that is 0, and one that is not
+  module _ (h : k < length places) (l : 0 < left) (c : coeffContext blocks (left - 1) k prev < 458) (s : at < length symbols) where
+    pub walk-zero : getD symbols at 0 ≡ 0
+        → walk shift blocks part (drop k places) k prev left (drop at symbols) at log g
+        ≡ walk shift blocks part (drop (k + 1) places) (k + 1) 0 left (drop (at + 1) symbols) (at + 1) (set log at (getD part (coeffContext blocks (left - 1) k prev) 0)) g
+    walk-zero e = walk-turn h l c s ∙ rw e
+
+    pub walk-more : (getD symbols at 0 ≡ 0 → ⊥)
+        → walk shift blocks part (drop k places) k prev left (drop at symbols) at log g
+        ≡ walk shift blocks part (drop (k + 1) places) (k + 1) 1 (left - 1) (drop (at + 1) symbols) (at + 1)
+        (set log at (getD part (coeffContext blocks (left - 1) k prev) 0)) (gain shift g (getD places k 0) (getD symbols at 0))
+    walk-more n = walk-turn h l c s ∙ rw (flag-one (getD symbols at 0) n, less-one (getD symbols at 0) left n)
+
 -- from what is left to do to what the whole gives
 pub ends : (w v x : Walked) → w ≡ x → w ≡ v → Handed (answerOf x) (logOf x) (gridOf x) v
 ends w v x e i = record { answer = ap answerOf (sym e ∙ i); logged = ap logOf (sym e ∙ i); cells = ap gridOf (sym e ∙ i) }
 
 -- a symbol that is 0, and one that is not
-module _ (u : ℕ) (e : u ≡ 0) where
-  pub flag-none : 0 ≡ flag u
-  flag-none = rw e
-
-  pub less-none : (left : ℕ) → lessOf u left ≡ left
-  less-none left = rw e
-
-  pub gain-none : (shift : ℕ) (g : List ℕ) (p : ℕ) → gain shift g p u ≡ g
-  gain-none shift g p = rw e
-
-pub flag-one : (u : ℕ) → (u ≡ 0 → ⊥) → 1 ≡ flag u
-flag-one zero n = absurd (n refl)
-flag-one (suc u) n = refl
-
-pub less-one : (u left : ℕ) → (u ≡ 0 → ⊥) → lessOf u left ≡ left - 1
-less-one zero left n = absurd (n refl)
-less-one (suc u) left n = refl
+pub gain-none : (u : ℕ) → u ≡ 0 → (shift : ℕ) (g : List ℕ) (p : ℕ) → gain shift g p u ≡ g
+gain-none u e shift g p = rw e
 
 pub gain-more : (shift : ℕ) (g : List ℕ) (p u : ℕ) → (u ≡ 0 → ⊥) → gain shift g p u ≡ set g p ((getD g p 0 + unpackSigned u * 2 ^ shift % 2 ^ 32) % 2 ^ 32)
 gain-more shift g p zero n = absurd (n refl)

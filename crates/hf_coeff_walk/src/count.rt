@@ -3,8 +3,6 @@ ghost use mathlib.Core.Path.{_≡_};
 ghost use mathlib.Core.Bool.{cond};
 ghost use Prim.Native.Nat.{_+_, _*_, _^_, _≤_, _<_};
 ghost use lib.Dec.{leb};
-ghost use mathlib.Core.List.{[]};
-ghost use lib.ListN.{getD, set};
 ghost use Rattle.hf_coeff_walk.specs.Item.{predicted, countIndex, countOver, rowOf};
 ghost use Rattle.hf_coeff_walk.specs.Counts.{Counts};
 
@@ -62,18 +60,14 @@ pub fn count_over(n: usize, log: usize) -> u32
     ((n + blocks - 1) >> log) as u32
 }
 
-// Row c of three with v from x on, n times.
-pub fn rewritten(rows: [[u32; 32]; 3], c: usize, x: usize, n: usize, v: u32) -> [[u32; 32]; 3]
-    requires { ⌜ (c < 3) × (x + n ≤ 32) ⌝ }
-    ensures { λ r. ⌜ r ≡ set rows c (rowOf (getD rows c []) x n v) ⌝ }
+// A row gets v from x on, n times.
+pub fn rewrite(row: &mut [u32; 32], x: usize, n: usize, v: u32)
+    requires { ⌜ x + n ≤ 32 ⌝ }
+    ensures { λ r. ⌜ now (row .exit) ≡ rowOf (now (row .entry)) x n v ⌝ }
 {
-    let mut out = rows;
-    let mut row = out[c];
     let mut k = 0;
     while k < n {
         row[x + k] = v;
         k += 1;
     }
-    out[c] = row;
-    out
 }

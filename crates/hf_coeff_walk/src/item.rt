@@ -37,25 +37,28 @@ pub fn read_channel<'a>(
     clusters: usize,
     map: &'a [u8],
     order: &'a [u16],
-    row: [u32; 32],
+    row: &'a [u32; 32],
     symbols: &'a [u32],
     at: usize,
     shift: u32,
     log: &mut [u8],
     grid: &mut [u32],
 ) -> Walk
-    requires { ⌜ ItemReady v width context clusters (now map) (now order) row (length (now symbols)) at shift (length (now log)) (length (now grid)) ⌝ }
-    ensures { λ r. ⌜ Handed r (now (log .exit)) (now (grid .exit)) (counted shift clusters (now (map .entry)) (itemAt v width context (now (order .entry))) row (drop at (now (symbols .entry))) at (now (log .entry)) (now (grid .entry))) ⌝ }
+    requires { ⌜ ItemReady v width context clusters (now map) (now order) (now row) (length (now symbols)) at shift (length (now log)) (length (now grid)) ⌝ }
+    ensures { λ r. ⌜ Handed r (now (log .exit)) (now (grid .exit)) (counted shift clusters (now (map .entry)) (itemAt v width context (now (order .entry))) (now (row .entry)) (drop at (now (symbols .entry))) at (now (log .entry)) (now (grid .entry))) ⌝ }
 {
     if symbols.len() <= at {
         return Walk::Stopped(Refusal::SymbolsEnd(at));
     }
     let n = wide(symbols[at]);
-    let entry = context + count_index(predict(&row, v.x, v.y)) * clusters;
+    let entry = context + count_index(predict(row, v.x, v.y)) * clusters;
     log[at] = map[entry];
     let next = at + 1;
     if 63 << v.log < n {
         return Walk::Stopped(Refusal::Count(next));
+    }
+    if n == 0 {
+        return Walk::Ended(next);
     }
     let first = is_few(n, v.log);
     let spot = Spot {

@@ -15,37 +15,15 @@ pub mod place;
 ghost use mathlib.Core.Path.{_≡_};
 ghost use Prim.Native.Nat.{_/_, _*_, _%_, _^_, _≤_, _<_};
 ghost use lib.ListN.{length, getD, drop};
-ghost use Rattle.hf_coeff_walk.specs.Walk.{FREQ, NUM-NONZERO, flag, gain, walk};
+ghost use Rattle.hf_coeff_walk.specs.Walk.{FREQ, NUM-NONZERO, gain, walk};
 ghost use Rattle.hf_coeff_walk.specs.Places.{paired, placesOf};
-ghost use Rattle.hf_coeff_walk.specs.Outcome.{Ready, Handed, spotPlaces, lessOf};
+ghost use Rattle.hf_coeff_walk.specs.Outcome.{Ready, Handed, spotPlaces};
 
 // How a reading ended.
 pub enum Walk {
     // Symbols read so far.
     Ended(usize),
     Stopped(Refusal),
-}
-
-// What a symbol leaves of a count.
-fn less(left: usize, u: u32) -> usize
-    ensures { λ r. ⌜ r ≡ lessOf u left ⌝ }
-{
-    if u == 0 {
-        return left;
-    }
-    if left == 0 {
-        return 0;
-    }
-    left - 1
-}
-
-fn flagged(u: u32) -> usize
-    ensures { λ r. ⌜ r ≡ flag u ⌝ }
-{
-    if u == 0 {
-        return 0;
-    }
-    1
 }
 
 fn shifted(x: u32, shift: u32) -> u32
@@ -104,9 +82,15 @@ fn walk_places(
         }
         let u = symbols[at];
         log[at] = part[context];
+        if u == 0 {
+            prev = 0;
+            at += 1;
+            k += 1;
+            continue;
+        }
         gain_at(order, k, spot, u, shift, grid);
-        left = less(left, u);
-        prev = flagged(u);
+        left -= 1;
+        prev = 1;
         at += 1;
         k += 1;
     }

@@ -3,16 +3,14 @@ use Prim.Native.Nat.{_^_, _≤_, _-_, _+_, _*_}
 use Rattle.hf_coeff_walk.specs.Walk.{walk}
 use Rattle.hf_coeff_walk.specs.Places.{paired, placesOf}
 use Rattle.hf_coeff_walk.specs.PlaceLaws.{places-count}
-use Rattle.hf_coeff_walk.specs.Outcome.{walk-used, walk-done, walk-17, walk-15, walk-turn, ends, less-le, flag-le}
+use Rattle.hf_coeff_walk.specs.Outcome.{walk-used, walk-done, walk-17, walk-15, walk-zero, walk-more, ends}
 use borrow.Author.Needs.{needs}
 use native.Mathlib.Omega.{arith}
 use lib.ListN.{length, getD, take, drop, set, length-set}
 use Rattle.hf_coeff_walk.proofs.walk_places.Statement.{statement}
 use Rattle.hf_coeff_walk.proofs.walk_places.Tie as tie
 use Rattle.hf_coeff_walk.proofs.context.coeff_context.Reads as coeff-context-reads
-use Rattle.hf_coeff_walk.proofs.flagged.Reads as flagged-reads
 use Rattle.hf_coeff_walk.proofs.gain_at.Reads as gain-at-reads
-use Rattle.hf_coeff_walk.proofs.less.Reads as less-reads
 
 abbrev Inv-loop : tie.InvT-loop
 Inv-loop nonzeros frequencies order spot symbols start count first part shift log₀ grid₀ at₀ left₀ prev₀ k₀ end log grid at left prev k =
@@ -85,18 +83,6 @@ shared-slice-read-log c = search needs
 slice-write-log : tie.Need-slice-write-log Inv-loop μ-loop
 slice-write-log c = search needs
 
-gain-at-requires : tie.Need-gain-at-requires Inv-loop μ-loop
-gain-at-requires c κs =
-    let r = c .before .before .before .before .before .before .before .before .before .before .before .before .before .before .pre .2 in
-    let l = c .before .before .before .before .before .before .before .before .loop in
-    (omega arith, r .row, r .left, r .top, r .shifts, omega (arith, r .inside (l .k) (omega arith)))
-
-less-requires : tie.Need-less-requires Inv-loop μ-loop
-less-requires c κs = search needs
-
-flagged-requires : tie.Need-flagged-requires Inv-loop μ-loop
-flagged-requires c κs = search needs
-
 add-at : tie.Need-add-at Inv-loop μ-loop
 add-at c = search needs
 
@@ -108,16 +94,48 @@ loop-less c = search needs
 
 loop-again : tie.Need-loop-again Inv-loop μ-loop
 loop-again c =
-    let l = c .before .before .before .before .before .before .before .before .before .before .before .before .before .loop in
-    let a = c .before .before .before .before .before .before .before .before .before .before .before .before .before .before .before .before .before .before .before .args in (
+    let l = c .before .before .before .before .before .before .before .before .loop in
+    let a = c .before .before .before .before .before .before .before .before .before .before .before .before .before .before .args in (
       omega arith,
-      omega (arith, less-le (getD (a .symbols .now) (l .at) 0) (l .left)),
-      rw (c .flagged .ensures) (flag-le (getD (a .symbols .now) (l .at) 0)),
+      omega arith,
+      omega arith,
       simp length-set (omega arith),
       omega arith,
       l .inv .5,
-      rw (c .flagged .ensures, c .before .less .ensures, c .before .before .before .before .gain-at .ensures, c .before .before .before .before .before .before .before .before .before .before .coeff-context .ensures)
-          (sym (walk-turn (a .shift) (2 ^ (a .spot .log)) (a .part .now) (placesOf (a .spot .turn) (a .spot .row) (a .spot .x) (a .spot .y) (paired (a .order .now))) (a .symbols .now) (l .k) (l .prev) (l .left) (l .at) (l .log) (l .grid) (omega arith) (omega arith) (omega arith) (omega arith)) ∙ l .inv .6),
+      rw (c .before .before .before .before .before .coeff-context .ensures)
+          (sym (walk-zero (a .shift) (2 ^ (a .spot .log)) (a .part .now) (placesOf (a .spot .turn) (a .spot .row) (a .spot .x) (a .spot .y) (paired (a .order .now))) (a .symbols .now) (l .k) (l .prev) (l .left) (l .at) (l .log) (l .grid) (omega arith) (omega arith) (omega arith) (omega arith) (c .if4 .taken)) ∙ l .inv .6),
+    )
+
+gain-at-requires : tie.Need-gain-at-requires Inv-loop μ-loop
+gain-at-requires c κs =
+    let r = c .before .before .before .before .before .before .before .before .before .before .before .before .before .before .before .pre .2 in
+    let l = c .before .before .before .before .before .before .before .before .before .loop in
+    (omega arith, r .row, r .left, r .top, r .shifts, omega (arith, r .inside (l .k) (omega arith)))
+
+sub-left : tie.Need-sub-left Inv-loop μ-loop
+sub-left c = search needs
+
+add-at-2 : tie.Need-add-at-2 Inv-loop μ-loop
+add-at-2 c = search needs
+
+add-k-2 : tie.Need-add-k-2 Inv-loop μ-loop
+add-k-2 c = search needs
+
+loop-less-2 : tie.Need-loop-less-2 Inv-loop μ-loop
+loop-less-2 c = search needs
+
+loop-again-2 : tie.Need-loop-again-2 Inv-loop μ-loop
+loop-again-2 c =
+    let l = c .before .before .before .before .before .before .before .before .before .before .before .before .loop in
+    let a = c .before .before .before .before .before .before .before .before .before .before .before .before .before .before .before .before .before .before .args in (
+      omega arith,
+      omega arith,
+      omega arith,
+      simp length-set (omega arith),
+      omega arith,
+      l .inv .5,
+      rw (c .before .before .gain-at .ensures, c .before .before .before .before .before .before .before .before .before .coeff-context .ensures)
+          (sym (walk-more (a .shift) (2 ^ (a .spot .log)) (a .part .now) (placesOf (a .spot .turn) (a .spot .row) (a .spot .x) (a .spot .y) (paired (a .order .now))) (a .symbols .now) (l .k) (l .prev) (l .left) (l .at) (l .log) (l .grid) (omega arith) (omega arith) (omega arith) (omega arith) (c .before .before .before .before .if4 .left)) ∙ l .inv .6),
     )
 
 same-length-7 : tie.Need-same-length-7 Inv-loop μ-loop
@@ -154,13 +172,16 @@ walk-places-spec =
     shared-slice-read-u
     shared-slice-read-log
     slice-write-log
-    gain-at-requires
-    less-requires
-    flagged-requires
     add-at
     add-k
     loop-less
     loop-again
+    gain-at-requires
+    sub-left
+    add-at-2
+    add-k-2
+    loop-less-2
+    loop-again-2
     same-length-7
     same-length-8
     returns-4)

@@ -31,18 +31,18 @@ returns : tie.Need-returns
 returns c =
     let a = c .before .before .before .before .before .before .before .before .before .before .before .before .before .before .before .before .before .before .before .before .before .before .args in
     let p = c .before .before .before .before .before .before .before .before .before .before .before .before .before .before .before .before .before .before .before .before .before .before .pre in
-    λ rows fine er. row-stopped (a .shift) (a .clusters) (a .map .now) (a .c) (a .width) (itemAt (a .v) (a .width) (a .context) (a .order .now)) (a .row) (a .symbols .now) (a .at) (a .log .now) (a .g0 .now ∷ a .g1 .now ∷ a .g2 .now ∷ []) (p .0) (p .1) (a .at + 64 * 2 ^ (a .v .log)) _ _ _ (c .before .before .before .before .before .before .before .before .before .before .walk-channel .ensures) rows fine er (sym (c .before .is-stopped .ensures) ∙ c .if1 .taken) _
+    λ rows fine er. row-stopped (a .shift) (a .clusters) (a .map .now) (a .c) (a .width) (itemAt (a .v) (a .width) (a .context) (a .order .now)) (a .row .now) (a .symbols .now) (a .at) (a .log .now) (a .g0 .now ∷ a .g1 .now ∷ a .g2 .now ∷ []) (p .0) (p .1) (a .at + 64 * 2 ^ (a .v .log)) _ _ _ (c .before .before .before .before .before .before .before .before .before .before .walk-channel .ensures) rows fine er (sym (c .before .is-stopped .ensures) ∙ c .if1 .taken) _
 
 mul-wide : tie.Need-mul-wide
 mul-wide c =
     let a = c .before .before .before .before .before .before .before .before .before .before .before .before .before .before .before .before .before .before .before .before .before .before .args in
-    let k = read-count (a .shift) (a .clusters) (a .map .now) (a .c) (itemAt (a .v) (a .width) (a .context) (a .order .now)) (a .row) (a .symbols .now) (a .at) (a .log .now) (a .g0 .now ∷ a .g1 .now ∷ a .g2 .now ∷ []) _ _ _ (c .before .before .before .before .before .before .before .before .before .before .walk-channel .ensures) (sym (c .before .is-stopped .ensures) ∙ c .if1 .left) in
+    let k = read-count (a .shift) (a .clusters) (a .map .now) (a .c) (itemAt (a .v) (a .width) (a .context) (a .order .now)) (a .row .now) (a .symbols .now) (a .at) (a .log .now) (a .g0 .now ∷ a .g1 .now ∷ a .g2 .now ∷ []) _ _ _ (c .before .before .before .before .before .before .before .before .before .before .walk-channel .ensures) (sym (c .before .is-stopped .ensures) ∙ c .if1 .left) in
     omega (arith, k .0, c .before .before .before .before .before .before .before .before .before .before .before .before .before .before .before .before .before .before .before .before .before .before .good, c .before .before .before .before .before .before .before .before .before .before .before .before .before .before .before .before .before .before .before .before .before .before .fits)
 
 shared-slice-read-wide : tie.Need-shared-slice-read-wide
 shared-slice-read-wide c =
     let a = c .before .before .before .before .before .before .before .before .before .before .before .before .before .before .before .before .before .before .before .before .before .before .before .args in
-    let k = read-count (a .shift) (a .clusters) (a .map .now) (a .c) (itemAt (a .v) (a .width) (a .context) (a .order .now)) (a .row) (a .symbols .now) (a .at) (a .log .now) (a .g0 .now ∷ a .g1 .now ∷ a .g2 .now ∷ []) _ _ _ (c .before .before .before .before .before .before .before .before .before .before .before .walk-channel .ensures) (sym (c .before .before .is-stopped .ensures) ∙ c .before .if1 .left) in
+    let k = read-count (a .shift) (a .clusters) (a .map .now) (a .c) (itemAt (a .v) (a .width) (a .context) (a .order .now)) (a .row .now) (a .symbols .now) (a .at) (a .log .now) (a .g0 .now ∷ a .g1 .now ∷ a .g2 .now ∷ []) _ _ _ (c .before .before .before .before .before .before .before .before .before .before .before .walk-channel .ensures) (sym (c .before .before .is-stopped .ensures) ∙ c .before .if1 .left) in
     omega (arith, k .0)
 
 wide-requires : tie.Need-wide-requires
@@ -52,7 +52,7 @@ count-over-requires : tie.Need-count-over-requires
 count-over-requires c κs =
     let a = c .before .before .before .before .before .before .before .before .before .before .before .before .before .before .before .before .before .before .before .before .before .before .before .before .args in
     let p = c .before .before .before .before .before .before .before .before .before .before .before .before .before .before .before .before .before .before .before .before .before .before .before .before .pre in
-    let k = read-count (a .shift) (a .clusters) (a .map .now) (a .c) (itemAt (a .v) (a .width) (a .context) (a .order .now)) (a .row) (a .symbols .now) (a .at) (a .log .now) (a .g0 .now ∷ a .g1 .now ∷ a .g2 .now ∷ []) _ _ _ (c .before .before .before .before .before .before .before .before .before .before .before .before .walk-channel .ensures) (sym (c .before .before .before .is-stopped .ensures) ∙ c .before .before .if1 .left) in
+    let k = read-count (a .shift) (a .clusters) (a .map .now) (a .c) (itemAt (a .v) (a .width) (a .context) (a .order .now)) (a .row .now) (a .symbols .now) (a .at) (a .log .now) (a .g0 .now ∷ a .g1 .now ∷ a .g2 .now ∷ []) _ _ _ (c .before .before .before .before .before .before .before .before .before .before .before .before .walk-channel .ensures) (sym (c .before .before .before .is-stopped .ensures) ∙ c .before .before .if1 .left) in
     (p .2 .power, rw (c .wide .ensures) (k .1))
 
 same-length-5 : tie.Need-same-length-5
@@ -72,7 +72,7 @@ returns-2 c =
     let a = c .before .before .before .before .before .before .before .before .before .before .before .before .before .before .before .before .before .before .before .before .before .before .before .before .before .args in
     let p = c .before .before .before .before .before .before .before .before .before .before .before .before .before .before .before .before .before .before .before .before .before .before .before .before .before .pre in
     let q = item-size (a .v) (a .width) (a .context) (a .order .now) (p .2 .places) in
-    λ rows fine er. rw (c .count-over .ensures, c .before .wide .ensures) (row-goes (a .shift) (a .clusters) (a .map .now) (a .c) (a .width) (itemAt (a .v) (a .width) (a .context) (a .order .now)) (a .row) (a .symbols .now) (a .at) (a .log .now) (a .g0 .now ∷ a .g1 .now ∷ a .g2 .now ∷ []) (p .0) (p .1) (a .at + 64 * 2 ^ (a .v .log)) _ _ _ (c .before .before .before .before .before .before .before .before .before .before .before .before .before .walk-channel .ensures) rows fine er (sym (c .before .before .before .before .is-stopped .ensures) ∙ c .before .before .before .if1 .left) (pow-pos (a .v .log)) (omega (arith, pow-pos (a .v .log))) (omega arith))
+    λ rows fine er. rw (c .count-over .ensures, c .before .wide .ensures) (row-goes (a .shift) (a .clusters) (a .map .now) (a .c) (a .width) (itemAt (a .v) (a .width) (a .context) (a .order .now)) (a .row .now) (a .symbols .now) (a .at) (a .log .now) (a .g0 .now ∷ a .g1 .now ∷ a .g2 .now ∷ []) (p .0) (p .1) (a .at + 64 * 2 ^ (a .v .log)) _ _ _ (c .before .before .before .before .before .before .before .before .before .before .before .before .before .walk-channel .ensures) rows fine er (sym (c .before .before .before .before .is-stopped .ensures) ∙ c .before .before .before .if1 .left) (pow-pos (a .v .log)) (omega (arith, pow-pos (a .v .log))) (omega arith))
 
 pub read-item-spec : {M : Type 1} → statement M
 read-item-spec =

@@ -17,13 +17,13 @@ array-read-read-item c = search needs
 order-requires : tie.Need-order-requires
 order-requires c κs = search needs
 
-array-copy-out-read-item : tie.Need-array-copy-out-read-item
-array-copy-out-read-item c = search needs
+index-1-read-item : tie.Need-index-1-read-item
+index-1-read-item c = search needs
 
 read-item-requires : tie.Need-read-item-requires
 read-item-requires c κs =
     let a = c .before .before .before .before .before .before .before .before .before .before .before .before .before .before .before .args in
-    item-asks (a .plan) (a .width) (a .clusters) (a .map .now) (a .store .now) (length (a .symbols .now)) (a .at) (a .shift) (length (a .log .now)) (length (a .g0 .now)) (c .before .before .before .before .before .before .before .before .before .before .before .before .before .before .before .pre .0) 0 1 (a .at) (getD (a .t8) 1 []) _ _ _ _ _ (omega arith) (omega arith) (c .before .before .before .before .before .before .before .before .before .before .before .before .before .before .before .pre .0 .begins) (omega arith) (c .before .before .before .before .before .before .before .before .before .before .before .before .before .before .before .pre .1 .counts 1) (c .before .before .before .before .before .order .ensures) refl refl (c .before .before .before .before .before .before .before .before .before .before .before .before .before .before .before .pre .2) (c .before .before .before .before .before .before .before .before .before .before .before .before .before .before .before .pre .3)
+    item-asks (a .plan) (a .width) (a .clusters) (a .map .now) (a .store .now) (length (a .symbols .now)) (a .at) (a .shift) (length (a .log .now)) (length (a .g0 .now)) (c .before .before .before .before .before .before .before .before .before .before .before .before .before .before .before .pre .0) 0 1 (a .at) (getD (a .rows .now) 1 []) _ _ _ _ _ (omega arith) (omega arith) (c .before .before .before .before .before .before .before .before .before .before .before .before .before .before .before .pre .0 .begins) (omega arith) (c .before .before .before .before .before .before .before .before .before .before .before .before .before .before .before .pre .1 .counts 1) (c .before .before .before .before .before .order .ensures) refl refl (c .before .before .before .before .before .before .before .before .before .before .before .before .before .before .before .pre .2) (c .before .before .before .before .before .before .before .before .before .before .before .before .before .before .before .pre .3)
 
 is-stopped-requires : tie.Need-is-stopped-requires
 is-stopped-requires c κs = search needs
@@ -43,7 +43,7 @@ same-length-4 c = search needs
 returns : tie.Need-returns
 returns c =
     let a = c .before .before .before .before .before .before .before .before .before .before .before .before .before .before .before .before .before .before .before .before .before .before .before .before .before .before .args in
-    λ left. first-stop (a .width) (a .symbols .now) (a .shift) (a .clusters) (a .map .now) _ (itemBy (a .plan) (a .width) (a .store .now) 0 1) (ap (λ (o : List ℕ). inChannel 1 (itemAt (a .plan .at) (a .width) (getD (a .plan .contexts) 0 0) o)) (c .before .before .before .before .before .before .before .before .before .before .before .before .before .before .before .before .order .ensures)) _ _ (a .at + 192 * 2 ^ (a .plan .at .log)) _ _ _ _ (c .before .before .before .before .before .before .before .before .before .before .read-item .ensures (a .t8) (c .before .before .before .before .before .before .before .before .before .before .before .before .before .before .before .before .before .before .before .before .before .before .before .before .before .before .pre .1) refl left) (itemBy (a .plan) (a .width) (a .store .now) 1 0 ∷ itemBy (a .plan) (a .width) (a .store .now) 2 2 ∷ []) _ (sym (c .before .is-stopped .ensures) ∙ c .if1 .taken)
+    λ left. first-stop (a .width) (a .symbols .now) (a .shift) (a .clusters) (a .map .now) _ (itemBy (a .plan) (a .width) (a .store .now) 0 1) (ap (λ (o : List ℕ). inChannel 1 (itemAt (a .plan .at) (a .width) (getD (a .plan .contexts) 0 0) o)) (c .before .before .before .before .before .before .before .before .before .before .before .before .before .before .before .before .order .ensures)) _ _ (a .at + 192 * 2 ^ (a .plan .at .log)) _ _ _ _ (c .before .before .before .before .before .before .before .before .before .before .read-item .ensures (a .rows .now) (c .before .before .before .before .before .before .before .before .before .before .before .before .before .before .before .before .before .before .before .before .before .before .before .before .before .before .pre .1) refl left) (itemBy (a .plan) (a .width) (a .store .now) 1 0 ∷ itemBy (a .plan) (a .width) (a .store .now) 2 2 ∷ []) _ (sym (c .before .is-stopped .ensures) ∙ c .if1 .taken)
 
 symbols-read-requires : tie.Need-symbols-read-requires
 symbols-read-requires c κs = search needs
@@ -54,17 +54,17 @@ array-read-read-item-2 c = search needs
 order-requires-2 : tie.Need-order-requires-2
 order-requires-2 c κs = search needs
 
-array-copy-out-read-item-2 : tie.Need-array-copy-out-read-item-2
-array-copy-out-read-item-2 c = search needs
+index-1-read-item-2 : tie.Need-index-1-read-item-2
+index-1-read-item-2 c = search needs
 
 read-item-requires-2 : tie.Need-read-item-requires-2
 read-item-requires-2 c κs =
     let a = c .before .before .before .before .before .before .before .before .before .before .before .before .before .before .before .before .before .before .before .before .before .before .before .before .before .before .before .before .before .before .before .before .before .args in
-    let o1 = shown-on (a .width) (a .symbols .now) (a .at + 64 * 2 ^ (a .plan .at .log)) _ _ _ _ _ (c .before .before .before .before .before .before .before .before .before .before .before .before .before .before .before .before .before .read-item .ensures (a .t8) (c .before .before .before .before .before .before .before .before .before .before .before .before .before .before .before .before .before .before .before .before .before .before .before .before .before .before .before .before .before .before .before .before .before .pre .1) refl 0) (sym (c .before .before .before .before .before .before .before .before .is-stopped .ensures) ∙ c .before .before .before .before .before .before .before .if1 .left) in
+    let o1 = shown-on (a .width) (a .symbols .now) (a .at + 64 * 2 ^ (a .plan .at .log)) _ _ _ _ _ (c .before .before .before .before .before .before .before .before .before .before .before .before .before .before .before .before .before .read-item .ensures (a .rows .now) (c .before .before .before .before .before .before .before .before .before .before .before .before .before .before .before .before .before .before .before .before .before .before .before .before .before .before .before .before .before .before .before .before .before .pre .1) refl 0) (sym (c .before .before .before .before .before .before .before .before .is-stopped .ensures) ∙ c .before .before .before .before .before .before .before .if1 .left) in
     let q : c .before .before .before .before .before .before .symbols-read .result ≡ readBy (c .before .before .before .before .before .before .before .before .before .before .before .before .before .before .before .before .before .read-item .result .walk) = c .before .before .before .before .before .before .symbols-read .ensures in
     let b : readBy (c .before .before .before .before .before .before .before .before .before .before .before .before .before .before .before .before .before .read-item .result .walk) ≤ length (a .symbols .now) = o1 .begins in
     let m : readBy (c .before .before .before .before .before .before .before .before .before .before .before .before .before .before .before .before .before .read-item .result .walk) ≤ a .at + 64 * 2 ^ (a .plan .at .log) = o1 .few in
-    item-asks (a .plan) (a .width) (a .clusters) (a .map .now) (a .store .now) (length (a .symbols .now)) (a .at) (a .shift) (length (a .log .now)) (length (a .g0 .now)) (c .before .before .before .before .before .before .before .before .before .before .before .before .before .before .before .before .before .before .before .before .before .before .before .before .before .before .before .before .before .before .before .before .before .pre .0) 1 0 (c .before .before .before .before .before .before .symbols-read .result) (getD (a .t8) 0 []) _ _ _ _ _ (omega arith) (omega arith) (omega arith) (omega arith) (c .before .before .before .before .before .before .before .before .before .before .before .before .before .before .before .before .before .before .before .before .before .before .before .before .before .before .before .before .before .before .before .before .before .pre .1 .counts 0) (c .before .before .before .before .before .order2 .ensures)
+    item-asks (a .plan) (a .width) (a .clusters) (a .map .now) (a .store .now) (length (a .symbols .now)) (a .at) (a .shift) (length (a .log .now)) (length (a .g0 .now)) (c .before .before .before .before .before .before .before .before .before .before .before .before .before .before .before .before .before .before .before .before .before .before .before .before .before .before .before .before .before .before .before .before .before .pre .0) 1 0 (c .before .before .before .before .before .before .symbols-read .result) (getD (a .rows .now) 0 []) _ _ _ _ _ (omega arith) (omega arith) (omega arith) (omega arith) (c .before .before .before .before .before .before .before .before .before .before .before .before .before .before .before .before .before .before .before .before .before .before .before .before .before .before .before .before .before .before .before .before .before .pre .1 .counts 0) (c .before .before .before .before .before .order2 .ensures)
     (c .before .before .before .before .before .before .before .before .before .before .before .before .before .before .before .before .log .given) (c .before .before .before .before .before .before .before .before .before .before .before .before .before .before .g0 .given) (c .before .before .before .before .before .before .before .before .before .before .before .before .g1 .given ∙ c .before .before .before .before .before .before .before .before .before .before .before .before .before .before .before .before .before .before .before .before .before .before .before .before .before .before .before .before .before .before .before .before .before .pre .2) (c .before .before .before .before .before .before .before .before .before .before .g2 .given ∙ c .before .before .before .before .before .before .before .before .before .before .before .before .before .before .before .before .before .before .before .before .before .before .before .before .before .before .before .before .before .before .before .before .before .pre .3)
 
 is-stopped-requires-2 : tie.Need-is-stopped-requires-2
@@ -85,11 +85,11 @@ same-length-8 c = c .before .before .before .g22 .given ∙ c .before .before .b
 returns-2 : tie.Need-returns-2
 returns-2 c =
     let a = c .before .before .before .before .before .before .before .before .before .before .before .before .before .before .before .before .before .before .before .before .before .before .before .before .before .before .before .before .before .before .before .before .before .before .before .before .before .before .before .before .before .before .before .before .args in
-    let s1 = c .before .before .before .before .before .before .before .before .before .before .before .before .before .before .before .before .before .before .before .before .before .before .before .before .before .before .before .before .read-item .ensures (a .t8) (c .before .before .before .before .before .before .before .before .before .before .before .before .before .before .before .before .before .before .before .before .before .before .before .before .before .before .before .before .before .before .before .before .before .before .before .before .before .before .before .before .before .before .before .before .pre .1) refl in
+    let s1 = c .before .before .before .before .before .before .before .before .before .before .before .before .before .before .before .before .before .before .before .before .before .before .before .before .before .before .before .before .read-item .ensures (a .rows .now) (c .before .before .before .before .before .before .before .before .before .before .before .before .before .before .before .before .before .before .before .before .before .before .before .before .before .before .before .before .before .before .before .before .before .before .before .before .before .before .before .before .before .before .before .before .pre .1) refl in
     let go = sym (c .before .before .before .before .before .before .before .before .before .before .before .before .before .before .before .before .before .before .before .is-stopped .ensures) ∙ c .before .before .before .before .before .before .before .before .before .before .before .before .before .before .before .before .before .before .if1 .left in
     let o1 = shown-on (a .width) (a .symbols .now) (a .at + 64 * 2 ^ (a .plan .at .log)) _ _ _ _ _ (s1 0) go in
     λ left. first-then (a .width) (a .symbols .now) (a .shift) (a .clusters) (a .map .now) _ (itemBy (a .plan) (a .width) (a .store .now) 0 1) (ap (λ (o : List ℕ). inChannel 1 (itemAt (a .plan .at) (a .width) (getD (a .plan .contexts) 0 0) o)) (c .before .before .before .before .before .before .before .before .before .before .before .before .before .before .before .before .before .before .before .before .before .before .before .before .before .before .before .before .before .before .before .before .before .before .order .ensures)) _ _ (a .at + 192 * 2 ^ (a .plan .at .log)) _ _ _ _ (s1 left) (itemBy (a .plan) (a .width) (a .store .now) 1 0 ∷ itemBy (a .plan) (a .width) (a .store .now) 2 2 ∷ []) _ _ _ _ go
-    (λ l. rw (← (c .before .before .before .before .before .before .before .before .before .before .before .before .before .before .before .before .before .symbols-read .ensures)) (first-stop (a .width) (a .symbols .now) (a .shift) (a .clusters) (a .map .now) _ (itemBy (a .plan) (a .width) (a .store .now) 1 0) (ap (λ (o : List ℕ). inChannel 0 (itemAt (a .plan .at) (a .width) (getD (a .plan .contexts) 1 0) o)) (c .before .before .before .before .before .before .before .before .before .before .before .before .before .before .before .before .order2 .ensures)) _ _ (a .at + 192 * 2 ^ (a .plan .at .log)) _ _ _ _ (c .before .before .before .before .before .before .before .before .before .before .read-item2 .ensures (rowBy (a .t8) 1 (a .plan .at .x) (a .plan .at .wide) (c .before .before .before .before .before .before .before .before .before .before .before .before .before .before .before .before .before .before .before .before .before .before .before .before .before .before .before .before .read-item .result .count)) (o1 .fine) (row-kept (a .t8) 1 0 (a .plan .at .x) (a .plan .at .wide) (c .before .before .before .before .before .before .before .before .before .before .before .before .before .before .before .before .before .before .before .before .before .before .before .before .before .before .before .before .read-item .result .count) (omega arith)) l) (itemBy (a .plan) (a .width) (a .store .now) 2 2 ∷ []) _ (sym (c .before .is-stopped2 .ensures) ∙ c .if2 .taken)))
+    (λ l. rw (← (c .before .before .before .before .before .before .before .before .before .before .before .before .before .before .before .before .before .symbols-read .ensures)) (first-stop (a .width) (a .symbols .now) (a .shift) (a .clusters) (a .map .now) _ (itemBy (a .plan) (a .width) (a .store .now) 1 0) (ap (λ (o : List ℕ). inChannel 0 (itemAt (a .plan .at) (a .width) (getD (a .plan .contexts) 1 0) o)) (c .before .before .before .before .before .before .before .before .before .before .before .before .before .before .before .before .order2 .ensures)) _ _ (a .at + 192 * 2 ^ (a .plan .at .log)) _ _ _ _ (c .before .before .before .before .before .before .before .before .before .before .read-item2 .ensures (rowBy (a .rows .now) 1 (a .plan .at .x) (a .plan .at .wide) (c .before .before .before .before .before .before .before .before .before .before .before .before .before .before .before .before .before .before .before .before .before .before .before .before .before .before .before .before .read-item .result .count)) (o1 .fine) (row-kept (a .rows .now) 1 0 (a .plan .at .x) (a .plan .at .wide) (c .before .before .before .before .before .before .before .before .before .before .before .before .before .before .before .before .before .before .before .before .before .before .before .before .before .before .before .before .read-item .result .count) (omega arith)) l) (itemBy (a .plan) (a .width) (a .store .now) 2 2 ∷ []) _ (sym (c .before .is-stopped2 .ensures) ∙ c .if2 .taken)))
 
 symbols-read-requires-2 : tie.Need-symbols-read-requires-2
 symbols-read-requires-2 c κs = search needs
@@ -100,20 +100,20 @@ array-read-read-item-3 c = search needs
 order-requires-3 : tie.Need-order-requires-3
 order-requires-3 c κs = search needs
 
-array-copy-out-read-item-3 : tie.Need-array-copy-out-read-item-3
-array-copy-out-read-item-3 c = search needs
+index-1-read-item-3 : tie.Need-index-1-read-item-3
+index-1-read-item-3 c = search needs
 
 read-item-requires-3 : tie.Need-read-item-requires-3
 read-item-requires-3 c κs =
     let a = c .before .before .before .before .before .before .before .before .before .before .before .before .before .before .before .before .before .before .before .before .before .before .before .before .before .before .before .before .before .before .before .before .before .before .before .before .before .before .before .before .before .before .before .before .before .before .before .before .before .before .before .args in
-    let o1 = shown-on (a .width) (a .symbols .now) (a .at + 64 * 2 ^ (a .plan .at .log)) _ _ _ _ _ (c .before .before .before .before .before .before .before .before .before .before .before .before .before .before .before .before .before .before .before .before .before .before .before .before .before .before .before .before .before .before .before .before .before .before .before .read-item .ensures (a .t8) (c .before .before .before .before .before .before .before .before .before .before .before .before .before .before .before .before .before .before .before .before .before .before .before .before .before .before .before .before .before .before .before .before .before .before .before .before .before .before .before .before .before .before .before .before .before .before .before .before .before .before .before .pre .1) refl 0) (sym (c .before .before .before .before .before .before .before .before .before .before .before .before .before .before .before .before .before .before .before .before .before .before .before .before .before .before .is-stopped .ensures) ∙ c .before .before .before .before .before .before .before .before .before .before .before .before .before .before .before .before .before .before .before .before .before .before .before .before .before .if1 .left) in
-    let o2 = shown-on (a .width) (a .symbols .now) (c .before .before .before .before .before .before .before .before .before .before .before .before .before .before .before .before .before .before .before .before .before .before .before .before .symbols-read .result + 64 * 2 ^ (a .plan .at .log)) _ _ _ _ _ (c .before .before .before .before .before .before .before .before .before .before .before .before .before .before .before .before .before .read-item2 .ensures (rowBy (a .t8) 1 (a .plan .at .x) (a .plan .at .wide) (c .before .before .before .before .before .before .before .before .before .before .before .before .before .before .before .before .before .before .before .before .before .before .before .before .before .before .before .before .before .before .before .before .before .before .before .read-item .result .count)) (o1 .fine) (row-kept (a .t8) 1 0 (a .plan .at .x) (a .plan .at .wide) (c .before .before .before .before .before .before .before .before .before .before .before .before .before .before .before .before .before .before .before .before .before .before .before .before .before .before .before .before .before .before .before .before .before .before .before .read-item .result .count) (omega arith)) 0) (sym (c .before .before .before .before .before .before .before .before .is-stopped2 .ensures) ∙ c .before .before .before .before .before .before .before .if2 .left) in
+    let o1 = shown-on (a .width) (a .symbols .now) (a .at + 64 * 2 ^ (a .plan .at .log)) _ _ _ _ _ (c .before .before .before .before .before .before .before .before .before .before .before .before .before .before .before .before .before .before .before .before .before .before .before .before .before .before .before .before .before .before .before .before .before .before .before .read-item .ensures (a .rows .now) (c .before .before .before .before .before .before .before .before .before .before .before .before .before .before .before .before .before .before .before .before .before .before .before .before .before .before .before .before .before .before .before .before .before .before .before .before .before .before .before .before .before .before .before .before .before .before .before .before .before .before .before .pre .1) refl 0) (sym (c .before .before .before .before .before .before .before .before .before .before .before .before .before .before .before .before .before .before .before .before .before .before .before .before .before .before .is-stopped .ensures) ∙ c .before .before .before .before .before .before .before .before .before .before .before .before .before .before .before .before .before .before .before .before .before .before .before .before .before .if1 .left) in
+    let o2 = shown-on (a .width) (a .symbols .now) (c .before .before .before .before .before .before .before .before .before .before .before .before .before .before .before .before .before .before .before .before .before .before .before .before .symbols-read .result + 64 * 2 ^ (a .plan .at .log)) _ _ _ _ _ (c .before .before .before .before .before .before .before .before .before .before .before .before .before .before .before .before .before .read-item2 .ensures (rowBy (a .rows .now) 1 (a .plan .at .x) (a .plan .at .wide) (c .before .before .before .before .before .before .before .before .before .before .before .before .before .before .before .before .before .before .before .before .before .before .before .before .before .before .before .before .before .before .before .before .before .before .before .read-item .result .count)) (o1 .fine) (row-kept (a .rows .now) 1 0 (a .plan .at .x) (a .plan .at .wide) (c .before .before .before .before .before .before .before .before .before .before .before .before .before .before .before .before .before .before .before .before .before .before .before .before .before .before .before .before .before .before .before .before .before .before .before .read-item .result .count) (omega arith)) 0) (sym (c .before .before .before .before .before .before .before .before .is-stopped2 .ensures) ∙ c .before .before .before .before .before .before .before .if2 .left) in
     let q : c .before .before .before .before .before .before .before .before .before .before .before .before .before .before .before .before .before .before .before .before .before .before .before .before .symbols-read .result ≡ readBy (c .before .before .before .before .before .before .before .before .before .before .before .before .before .before .before .before .before .before .before .before .before .before .before .before .before .before .before .before .before .before .before .before .before .before .before .read-item .result .walk) = c .before .before .before .before .before .before .before .before .before .before .before .before .before .before .before .before .before .before .before .before .before .before .before .before .symbols-read .ensures in
     let q2 : c .before .before .before .before .before .before .symbols-read2 .result ≡ readBy (c .before .before .before .before .before .before .before .before .before .before .before .before .before .before .before .before .before .read-item2 .result .walk) = c .before .before .before .before .before .before .symbols-read2 .ensures in
     let b : readBy (c .before .before .before .before .before .before .before .before .before .before .before .before .before .before .before .before .before .read-item2 .result .walk) ≤ length (a .symbols .now) = o2 .begins in
     let m : readBy (c .before .before .before .before .before .before .before .before .before .before .before .before .before .before .before .before .before .before .before .before .before .before .before .before .before .before .before .before .before .before .before .before .before .before .before .read-item .result .walk) ≤ a .at + 64 * 2 ^ (a .plan .at .log) = o1 .few in
     let m2 : readBy (c .before .before .before .before .before .before .before .before .before .before .before .before .before .before .before .before .before .read-item2 .result .walk) ≤ c .before .before .before .before .before .before .before .before .before .before .before .before .before .before .before .before .before .before .before .before .before .before .before .before .symbols-read .result + 64 * 2 ^ (a .plan .at .log) = o2 .few in
-    item-asks (a .plan) (a .width) (a .clusters) (a .map .now) (a .store .now) (length (a .symbols .now)) (a .at) (a .shift) (length (a .log .now)) (length (a .g0 .now)) (c .before .before .before .before .before .before .before .before .before .before .before .before .before .before .before .before .before .before .before .before .before .before .before .before .before .before .before .before .before .before .before .before .before .before .before .before .before .before .before .before .before .before .before .before .before .before .before .before .before .before .before .pre .0) 2 2 (c .before .before .before .before .before .before .symbols-read2 .result) (getD (a .t8) 2 []) _ _ _ _ _ (omega arith) (omega arith) (omega arith) (omega arith) (c .before .before .before .before .before .before .before .before .before .before .before .before .before .before .before .before .before .before .before .before .before .before .before .before .before .before .before .before .before .before .before .before .before .before .before .before .before .before .before .before .before .before .before .before .before .before .before .before .before .before .before .pre .1 .counts 2) (c .before .before .before .before .before .order3 .ensures)
+    item-asks (a .plan) (a .width) (a .clusters) (a .map .now) (a .store .now) (length (a .symbols .now)) (a .at) (a .shift) (length (a .log .now)) (length (a .g0 .now)) (c .before .before .before .before .before .before .before .before .before .before .before .before .before .before .before .before .before .before .before .before .before .before .before .before .before .before .before .before .before .before .before .before .before .before .before .before .before .before .before .before .before .before .before .before .before .before .before .before .before .before .before .pre .0) 2 2 (c .before .before .before .before .before .before .symbols-read2 .result) (getD (a .rows .now) 2 []) _ _ _ _ _ (omega arith) (omega arith) (omega arith) (omega arith) (c .before .before .before .before .before .before .before .before .before .before .before .before .before .before .before .before .before .before .before .before .before .before .before .before .before .before .before .before .before .before .before .before .before .before .before .before .before .before .before .before .before .before .before .before .before .before .before .before .before .before .before .pre .1 .counts 2) (c .before .before .before .before .before .order3 .ensures)
     (c .before .before .before .before .before .before .before .before .before .before .before .before .before .before .before .before .log2 .given ∙ c .before .before .before .before .before .before .before .before .before .before .before .before .before .before .before .before .before .before .before .before .before .before .before .before .before .before .before .before .before .before .before .before .before .before .log .given) (c .before .before .before .before .before .before .before .before .before .before .before .before .before .before .g02 .given ∙ c .before .before .before .before .before .before .before .before .before .before .before .before .before .before .before .before .before .before .before .before .before .before .before .before .before .before .before .before .before .before .before .before .g0 .given) (c .before .before .before .before .before .before .before .before .before .before .before .before .g12 .given ∙ c .before .before .before .before .before .before .before .before .before .before .before .before .before .before .before .before .before .before .before .before .before .before .before .before .before .before .before .before .before .before .g1 .given ∙ c .before .before .before .before .before .before .before .before .before .before .before .before .before .before .before .before .before .before .before .before .before .before .before .before .before .before .before .before .before .before .before .before .before .before .before .before .before .before .before .before .before .before .before .before .before .before .before .before .before .before .before .pre .2) (c .before .before .before .before .before .before .before .before .before .before .g22 .given ∙ c .before .before .before .before .before .before .before .before .before .before .before .before .before .before .before .before .before .before .before .before .before .before .before .before .before .before .before .before .g2 .given ∙ c .before .before .before .before .before .before .before .before .before .before .before .before .before .before .before .before .before .before .before .before .before .before .before .before .before .before .before .before .before .before .before .before .before .before .before .before .before .before .before .before .before .before .before .before .before .before .before .before .before .before .before .pre .3)
 
 same-length-9 : tie.Need-same-length-9
@@ -131,13 +131,13 @@ same-length-12 c = c .before .g23 .given ∙ c .before .before .before .before .
 returns-3 : tie.Need-returns-3
 returns-3 c =
     let a = c .before .before .before .before .before .before .before .before .before .before .before .before .before .before .before .before .before .before .before .before .before .before .before .before .before .before .before .before .before .before .before .before .before .before .before .before .before .before .before .before .before .before .before .before .before .before .before .before .before .before .before .before .before .before .before .before .before .before .before .before .args in
-    let s1 = c .before .before .before .before .before .before .before .before .before .before .before .before .before .before .before .before .before .before .before .before .before .before .before .before .before .before .before .before .before .before .before .before .before .before .before .before .before .before .before .before .before .before .before .before .read-item .ensures (a .t8) (c .before .before .before .before .before .before .before .before .before .before .before .before .before .before .before .before .before .before .before .before .before .before .before .before .before .before .before .before .before .before .before .before .before .before .before .before .before .before .before .before .before .before .before .before .before .before .before .before .before .before .before .before .before .before .before .before .before .before .before .before .pre .1) refl in
+    let s1 = c .before .before .before .before .before .before .before .before .before .before .before .before .before .before .before .before .before .before .before .before .before .before .before .before .before .before .before .before .before .before .before .before .before .before .before .before .before .before .before .before .before .before .before .before .read-item .ensures (a .rows .now) (c .before .before .before .before .before .before .before .before .before .before .before .before .before .before .before .before .before .before .before .before .before .before .before .before .before .before .before .before .before .before .before .before .before .before .before .before .before .before .before .before .before .before .before .before .before .before .before .before .before .before .before .before .before .before .before .before .before .before .before .before .pre .1) refl in
     let go1 = sym (c .before .before .before .before .before .before .before .before .before .before .before .before .before .before .before .before .before .before .before .before .before .before .before .before .before .before .before .before .before .before .before .before .before .before .before .is-stopped .ensures) ∙ c .before .before .before .before .before .before .before .before .before .before .before .before .before .before .before .before .before .before .before .before .before .before .before .before .before .before .before .before .before .before .before .before .before .before .if1 .left in
     let o1 = shown-on (a .width) (a .symbols .now) (a .at + 64 * 2 ^ (a .plan .at .log)) _ _ _ _ _ (s1 0) go1 in
-    let s2 = c .before .before .before .before .before .before .before .before .before .before .before .before .before .before .before .before .before .before .before .before .before .before .before .before .before .before .read-item2 .ensures (rowBy (a .t8) 1 (a .plan .at .x) (a .plan .at .wide) (c .before .before .before .before .before .before .before .before .before .before .before .before .before .before .before .before .before .before .before .before .before .before .before .before .before .before .before .before .before .before .before .before .before .before .before .before .before .before .before .before .before .before .before .before .read-item .result .count)) (o1 .fine) (row-kept (a .t8) 1 0 (a .plan .at .x) (a .plan .at .wide) (c .before .before .before .before .before .before .before .before .before .before .before .before .before .before .before .before .before .before .before .before .before .before .before .before .before .before .before .before .before .before .before .before .before .before .before .before .before .before .before .before .before .before .before .before .read-item .result .count) (omega arith)) in
+    let s2 = c .before .before .before .before .before .before .before .before .before .before .before .before .before .before .before .before .before .before .before .before .before .before .before .before .before .before .read-item2 .ensures (rowBy (a .rows .now) 1 (a .plan .at .x) (a .plan .at .wide) (c .before .before .before .before .before .before .before .before .before .before .before .before .before .before .before .before .before .before .before .before .before .before .before .before .before .before .before .before .before .before .before .before .before .before .before .before .before .before .before .before .before .before .before .before .read-item .result .count)) (o1 .fine) (row-kept (a .rows .now) 1 0 (a .plan .at .x) (a .plan .at .wide) (c .before .before .before .before .before .before .before .before .before .before .before .before .before .before .before .before .before .before .before .before .before .before .before .before .before .before .before .before .before .before .before .before .before .before .before .before .before .before .before .before .before .before .before .before .read-item .result .count) (omega arith)) in
     let go2 = sym (c .before .before .before .before .before .before .before .before .before .before .before .before .before .before .before .before .before .is-stopped2 .ensures) ∙ c .before .before .before .before .before .before .before .before .before .before .before .before .before .before .before .before .if2 .left in
     let o2 = shown-on (a .width) (a .symbols .now) (c .before .before .before .before .before .before .before .before .before .before .before .before .before .before .before .before .before .before .before .before .before .before .before .before .before .before .before .before .before .before .before .before .before .symbols-read .result + 64 * 2 ^ (a .plan .at .log)) _ _ _ _ _ (s2 0) go2 in
-    let s3 = c .before .before .before .before .before .before .before .before .read-item3 .ensures (rowBy (rowBy (a .t8) 1 (a .plan .at .x) (a .plan .at .wide) (c .before .before .before .before .before .before .before .before .before .before .before .before .before .before .before .before .before .before .before .before .before .before .before .before .before .before .before .before .before .before .before .before .before .before .before .before .before .before .before .before .before .before .before .before .read-item .result .count)) 0 (a .plan .at .x) (a .plan .at .wide) (c .before .before .before .before .before .before .before .before .before .before .before .before .before .before .before .before .before .before .before .before .before .before .before .before .before .before .read-item2 .result .count)) (o2 .fine) (row-kept (rowBy (a .t8) 1 (a .plan .at .x) (a .plan .at .wide) (c .before .before .before .before .before .before .before .before .before .before .before .before .before .before .before .before .before .before .before .before .before .before .before .before .before .before .before .before .before .before .before .before .before .before .before .before .before .before .before .before .before .before .before .before .read-item .result .count)) 0 2 (a .plan .at .x) (a .plan .at .wide) (c .before .before .before .before .before .before .before .before .before .before .before .before .before .before .before .before .before .before .before .before .before .before .before .before .before .before .read-item2 .result .count) (omega arith) ∙ row-kept (a .t8) 1 2 (a .plan .at .x) (a .plan .at .wide) (c .before .before .before .before .before .before .before .before .before .before .before .before .before .before .before .before .before .before .before .before .before .before .before .before .before .before .before .before .before .before .before .before .before .before .before .before .before .before .before .before .before .before .before .before .read-item .result .count) (omega arith)) in
+    let s3 = c .before .before .before .before .before .before .before .before .read-item3 .ensures (rowBy (rowBy (a .rows .now) 1 (a .plan .at .x) (a .plan .at .wide) (c .before .before .before .before .before .before .before .before .before .before .before .before .before .before .before .before .before .before .before .before .before .before .before .before .before .before .before .before .before .before .before .before .before .before .before .before .before .before .before .before .before .before .before .before .read-item .result .count)) 0 (a .plan .at .x) (a .plan .at .wide) (c .before .before .before .before .before .before .before .before .before .before .before .before .before .before .before .before .before .before .before .before .before .before .before .before .before .before .read-item2 .result .count)) (o2 .fine) (row-kept (rowBy (a .rows .now) 1 (a .plan .at .x) (a .plan .at .wide) (c .before .before .before .before .before .before .before .before .before .before .before .before .before .before .before .before .before .before .before .before .before .before .before .before .before .before .before .before .before .before .before .before .before .before .before .before .before .before .before .before .before .before .before .before .read-item .result .count)) 0 2 (a .plan .at .x) (a .plan .at .wide) (c .before .before .before .before .before .before .before .before .before .before .before .before .before .before .before .before .before .before .before .before .before .before .before .before .before .before .read-item2 .result .count) (omega arith) ∙ row-kept (a .rows .now) 1 2 (a .plan .at .x) (a .plan .at .wide) (c .before .before .before .before .before .before .before .before .before .before .before .before .before .before .before .before .before .before .before .before .before .before .before .before .before .before .before .before .before .before .before .before .before .before .before .before .before .before .before .before .before .before .before .before .read-item .result .count) (omega arith)) in
     let q : c .before .before .before .before .before .before .before .before .before .before .before .before .before .before .before .before .before .before .before .before .before .before .before .before .before .before .before .before .before .before .before .before .before .symbols-read .result ≡ readBy (c .before .before .before .before .before .before .before .before .before .before .before .before .before .before .before .before .before .before .before .before .before .before .before .before .before .before .before .before .before .before .before .before .before .before .before .before .before .before .before .before .before .before .before .before .read-item .result .walk) = c .before .before .before .before .before .before .before .before .before .before .before .before .before .before .before .before .before .before .before .before .before .before .before .before .before .before .before .before .before .before .before .before .before .symbols-read .ensures in
     let q2 : c .before .before .before .before .before .before .before .before .before .before .before .before .before .before .before .symbols-read2 .result ≡ readBy (c .before .before .before .before .before .before .before .before .before .before .before .before .before .before .before .before .before .before .before .before .before .before .before .before .before .before .read-item2 .result .walk) = c .before .before .before .before .before .before .before .before .before .before .before .before .before .before .before .symbols-read2 .ensures in
     let m : readBy (c .before .before .before .before .before .before .before .before .before .before .before .before .before .before .before .before .before .before .before .before .before .before .before .before .before .before .before .before .before .before .before .before .before .before .before .before .before .before .before .before .before .before .before .before .read-item .result .walk) ≤ a .at + 64 * 2 ^ (a .plan .at .log) = o1 .few in
@@ -154,7 +154,7 @@ read-varblock-spec =
     (tie.spec
     array-read-read-item
     order-requires
-    array-copy-out-read-item
+    index-1-read-item
     read-item-requires
     is-stopped-requires
     same-length
@@ -165,7 +165,7 @@ read-varblock-spec =
     symbols-read-requires
     array-read-read-item-2
     order-requires-2
-    array-copy-out-read-item-2
+    index-1-read-item-2
     read-item-requires-2
     is-stopped-requires-2
     same-length-5
@@ -176,7 +176,7 @@ read-varblock-spec =
     symbols-read-requires-2
     array-read-read-item-3
     order-requires-3
-    array-copy-out-read-item-3
+    index-1-read-item-3
     read-item-requires-3
     same-length-9
     same-length-10

@@ -1,37 +1,49 @@
 use borrow.Author.Needs.{needs}
-use mathlib.Core.Path.{_∙_}
+use mathlib.Core.Path.{refl}
 use Rattle.hf_coeff_group.proofs.channels.rewritten_all.Statement.{statement}
 use Rattle.hf_coeff_group.proofs.channels.rewritten_all.Tie as tie
 
-array-read-rewritten : tie.Need-array-read-rewritten
-array-read-rewritten c = search needs
+index-1-rewrite : tie.Need-index-1-rewrite
+index-1-rewrite c = search needs
 
-rewritten-requires : tie.Need-rewritten-requires
-rewritten-requires c κs = search needs
+array-read-rewrite : tie.Need-array-read-rewrite
+array-read-rewrite c = search needs
 
-array-read-rewritten-2 : tie.Need-array-read-rewritten-2
-array-read-rewritten-2 c = search needs
+rewrite-requires : tie.Need-rewrite-requires
+rewrite-requires c κs = search needs
 
-rewritten-requires-2 : tie.Need-rewritten-requires-2
-rewritten-requires-2 c κs = search needs
+index-1-rewrite-2 : tie.Need-index-1-rewrite-2
+index-1-rewrite-2 c = search needs
 
-array-read-rewritten-3 : tie.Need-array-read-rewritten-3
-array-read-rewritten-3 c = search needs
+array-read-rewrite-2 : tie.Need-array-read-rewrite-2
+array-read-rewrite-2 c = search needs
 
-rewritten-requires-3 : tie.Need-rewritten-requires-3
-rewritten-requires-3 c κs = search needs
+rewrite-requires-2 : tie.Need-rewrite-requires-2
+rewrite-requires-2 c κs = search needs
+
+index-1-rewrite-3 : tie.Need-index-1-rewrite-3
+index-1-rewrite-3 c = search needs
+
+array-read-rewrite-3 : tie.Need-array-read-rewrite-3
+array-read-rewrite-3 c = search needs
+
+rewrite-requires-3 : tie.Need-rewrite-requires-3
+rewrite-requires-3 c κs = search needs
 
 returns : tie.Need-returns
-returns c = c .rewritten3 .ensures ∙ rw (c .before .rewritten2 .ensures, c .before .before .rewritten .ensures)
+returns c = rw (c .rewrite3 .ensures, c .before .before .rewrite2 .ensures, c .before .before .before .before .rewrite .ensures)
 
 pub rewritten-all-spec : {M : Type 1} → statement M
 rewritten-all-spec =
     tie.close
     (tie.spec
-    array-read-rewritten
-    rewritten-requires
-    array-read-rewritten-2
-    rewritten-requires-2
-    array-read-rewritten-3
-    rewritten-requires-3
+    index-1-rewrite
+    array-read-rewrite
+    rewrite-requires
+    index-1-rewrite-2
+    array-read-rewrite-2
+    rewrite-requires-2
+    index-1-rewrite-3
+    array-read-rewrite-3
+    rewrite-requires-3
     returns)

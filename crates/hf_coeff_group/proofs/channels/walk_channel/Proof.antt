@@ -19,7 +19,7 @@ same-length-2 c = search needs
 returns : tie.Need-returns
 returns c =
     let a = c .before .before .before .before .before .before .before .before .before .before .before .before .before .before .before .args in
-    in-first (a .c) _ _ (λ g. counted (a .shift) (a .clusters) (a .map .now) (itemAt (a .v) (a .width) (a .context) (a .order .now)) (a .row) (drop (a .at) (a .symbols .now)) (a .at) (a .log .now) g) (a .g0 .now) (a .g1 .now) (a .g2 .now) _ (omega arith) (c .before .before .before .before .read-channel .ensures)
+    in-first (a .c) _ _ (λ g. counted (a .shift) (a .clusters) (a .map .now) (itemAt (a .v) (a .width) (a .context) (a .order .now)) (a .row .now) (drop (a .at) (a .symbols .now)) (a .at) (a .log .now) g) (a .g0 .now) (a .g1 .now) (a .g2 .now) _ (omega arith) (c .before .before .before .before .read-channel .ensures)
 
 read-channel-requires-2 : tie.Need-read-channel-requires-2
 read-channel-requires-2 c κs = rw (c .before .before .before .before .before .before .before .before .before .before .before .pre .2) (c .before .before .before .before .before .before .before .before .before .before .before .pre .1)
@@ -33,7 +33,7 @@ same-length-4 c = search needs
 returns-2 : tie.Need-returns-2
 returns-2 c =
     let a = c .before .before .before .before .before .before .before .before .before .before .before .before .before .before .before .before .args in
-    in-second (a .c) _ _ (λ g. counted (a .shift) (a .clusters) (a .map .now) (itemAt (a .v) (a .width) (a .context) (a .order .now)) (a .row) (drop (a .at) (a .symbols .now)) (a .at) (a .log .now) g) (a .g0 .now) (a .g1 .now) (a .g2 .now) _ (omega arith) (c .before .before .before .before .read-channel2 .ensures)
+    in-second (a .c) _ _ (λ g. counted (a .shift) (a .clusters) (a .map .now) (itemAt (a .v) (a .width) (a .context) (a .order .now)) (a .row .now) (drop (a .at) (a .symbols .now)) (a .at) (a .log .now) g) (a .g0 .now) (a .g1 .now) (a .g2 .now) _ (omega arith) (c .before .before .before .before .read-channel2 .ensures)
 
 read-channel-requires-3 : tie.Need-read-channel-requires-3
 read-channel-requires-3 c κs = rw (c .before .before .before .before .before .before .before .before .before .before .before .pre .3) (c .before .before .before .before .before .before .before .before .before .before .before .pre .1)
@@ -47,7 +47,7 @@ same-length-6 c = search needs
 returns-3 : tie.Need-returns-3
 returns-3 c =
     let a = c .before .before .before .before .before .before .before .before .before .before .before .before .before .before .before .before .args in
-    in-third (a .c) _ _ (λ g. counted (a .shift) (a .clusters) (a .map .now) (itemAt (a .v) (a .width) (a .context) (a .order .now)) (a .row) (drop (a .at) (a .symbols .now)) (a .at) (a .log .now) g) (a .g0 .now) (a .g1 .now) (a .g2 .now) _ (omega arith) (c .before .before .before .before .read-channel3 .ensures)
+    in-third (a .c) _ _ (λ g. counted (a .shift) (a .clusters) (a .map .now) (itemAt (a .v) (a .width) (a .context) (a .order .now)) (a .row .now) (drop (a .at) (a .symbols .now)) (a .at) (a .log .now) g) (a .g0 .now) (a .g1 .now) (a .g2 .now) _ (omega arith) (c .before .before .before .before .read-channel3 .ensures)
 
 pub walk-channel-spec : {M : Type 1} → statement M
 walk-channel-spec =

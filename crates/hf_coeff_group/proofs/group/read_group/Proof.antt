@@ -102,19 +102,19 @@ plan-of-requires c κs =
 
 read-varblock-requires : tie.Need-read-varblock-requires Inv-loop2 μ-loop2 Inv-loop μ-loop
 read-varblock-requires c κs =
-    let a = c .before .before .before .before .before .before .before .before .before .before .before .before .before .before .before .before .before .before .before .before .before .before .before .before .before .args in
-    let o = c .before .before .before .before .before .before .before .before .before .before .before .before .loop in
-    let l = c .before .before .before .before .before .before .before .before .before .before .loop2 in
-    let hx : l .x < a .width = omega (arith, c .before .before .before .before .before .before .before .before .before .loop2-test) in
-    let hy : o .y < a .height = omega (arith, c .before .before .before .before .before .before .before .before .before .before .before .loop-test) in
-    let k : 2 ≤ K (passOf (a .width) (a .height) (a .kinds .now) (a .muls .now) (a .clusters) (a .lengths) (a .lf-thresholds .now) (a .qf-thresholds .now) (a .block-ctx-map .now) (a .lf-there) (a .lf0 .now) (a .lf1 .now) (a .lf2 .now) (a .store .now)) (l .x) (o .y) = omega (arith, c .before .before .before .before .before .before .before .if1 .left) in
+    let a = c .before .before .before .before .before .before .before .before .before .before .before .before .before .before .before .before .before .before .before .before .before .before .before .before .before .before .args in
+    let o = c .before .before .before .before .before .before .before .before .before .before .before .before .before .loop in
+    let l = c .before .before .before .before .before .before .before .before .before .before .before .loop2 in
+    let hx : l .x < a .width = omega (arith, c .before .before .before .before .before .before .before .before .before .before .loop2-test) in
+    let hy : o .y < a .height = omega (arith, c .before .before .before .before .before .before .before .before .before .before .before .before .loop-test) in
+    let k : 2 ≤ K (passOf (a .width) (a .height) (a .kinds .now) (a .muls .now) (a .clusters) (a .lengths) (a .lf-thresholds .now) (a .qf-thresholds .now) (a .block-ctx-map .now) (a .lf-there) (a .lf0 .now) (a .lf1 .now) (a .lf2 .now) (a .store .now)) (l .x) (o .y) = omega (arith, c .before .before .before .before .before .before .before .before .if1 .left) in
     let W = (wholeOf (a .shift) (a .clusters) (a .map .now) (passOf (a .width) (a .height) (a .kinds .now) (a .muls .now) (a .clusters) (a .lengths) (a .lf-thresholds .now) (a .qf-thresholds .now) (a .block-ctx-map .now) (a .lf-there) (a .lf0 .now) (a .lf1 .now) (a .lf2 .now) (a .store .now)) (a .symbols .now) (a .log .now) (a .g0 .now ∷ a .g1 .now ∷ a .g2 .now ∷ [])) in
     let d = due-corner (a .shift) (a .clusters) (a .map .now) (passOf (a .width) (a .height) (a .kinds .now) (a .muls .now) (a .clusters) (a .lengths) (a .lf-thresholds .now) (a .qf-thresholds .now) (a .block-ctx-map .now) (a .lf-there) (a .lf0 .now) (a .lf1 .now) (a .lf2 .now) (a .store .now)) (a .symbols .now) (192 * (a .width * a .height)) W (l .at) (l .rows) (l .log) (l .g0 ∷ l .g1 ∷ l .g2 ∷ []) (l .x) (o .y) (rowsFrom (passOf (a .width) (a .height) (a .kinds .now) (a .muls .now) (a .clusters) (a .lengths) (a .lf-thresholds .now) (a .qf-thresholds .now) (a .block-ctx-map .now) (a .lf-there) (a .lf0 .now) (a .lf1 .now) (a .lf2 .now) (a .store .now)) (o .y + 1)) (omega arith) k (l .inv .5 W (due-row (a .shift) (a .clusters) (a .map .now) (passOf (a .width) (a .height) (a .kinds .now) (a .muls .now) (a .clusters) (a .lengths) (a .lf-thresholds .now) (a .qf-thresholds .now) (a .block-ctx-map .now) (a .lf-there) (a .lf0 .now) (a .lf1 .now) (a .lf2 .now) (a .store .now)) (a .symbols .now) (192 * (a .width * a .height)) (wholeOf (a .shift) (a .clusters) (a .map .now) (passOf (a .width) (a .height) (a .kinds .now) (a .muls .now) (a .clusters) (a .lengths) (a .lf-thresholds .now) (a .qf-thresholds .now) (a .block-ctx-map .now) (a .lf-there) (a .lf0 .now) (a .lf1 .now) (a .lf2 .now) (a .store .now)) (a .symbols .now) (a .log .now) (a .g0 .now ∷ a .g1 .now ∷ a .g2 .now ∷ [])) (o .at) (o .rows) (o .log) (o .g0 ∷ o .g1 ∷ o .g2 ∷ []) (o .y) (omega arith) (o .inv .5))) in
-    rw (c .before .before .before .before .before .plan-of .ensures, l .inv .0 ∙ o .inv .0, l .inv .1 ∙ o .inv .1) (
-      plan-ready (passOf (a .width) (a .height) (a .kinds .now) (a .muls .now) (a .clusters) (a .lengths) (a .lf-thresholds .now) (a .qf-thresholds .now) (a .block-ctx-map .now) (a .lf-there) (a .lf0 .now) (a .lf1 .now) (a .lf2 .now) (a .store .now)) (a .clusters) (length (a .map .now)) (a .shift) (length (a .log .now)) (length (a .g0 .now)) (c .before .before .before .before .before .before .before .before .before .before .before .before .before .before .before .before .before .before .before .before .before .before .before .before .before .pre .0) (l .x) (o .y) (omega arith) (omega arith) k (a .map .now) refl (length (a .symbols .now)) (l .at) (d .begins) (let z = c .before .before .before .before .before .before .before .before .before .before .before .before .before .before .before .before .before .before .before .before .before .before .before .before .before .pre .0 .room in omega (arith, room-of (a .shift) (a .clusters) (a .map .now) (passOf (a .width) (a .height) (a .kinds .now) (a .muls .now) (a .clusters) (a .lengths) (a .lf-thresholds .now) (a .qf-thresholds .now) (a .block-ctx-map .now) (a .lf-there) (a .lf0 .now) (a .lf1 .now) (a .lf2 .now) (a .store .now)) (a .symbols .now) (192 * (a .width * a .height)) W (l .at) (l .rows) (l .log) (l .g0 ∷ l .g1 ∷ l .g2 ∷ []) _ _ d)),
+    rw (c .before .before .before .before .before .before .plan-of .ensures, l .inv .0 ∙ o .inv .0, l .inv .1 ∙ o .inv .1) (
+      plan-ready (passOf (a .width) (a .height) (a .kinds .now) (a .muls .now) (a .clusters) (a .lengths) (a .lf-thresholds .now) (a .qf-thresholds .now) (a .block-ctx-map .now) (a .lf-there) (a .lf0 .now) (a .lf1 .now) (a .lf2 .now) (a .store .now)) (a .clusters) (length (a .map .now)) (a .shift) (length (a .log .now)) (length (a .g0 .now)) (c .before .before .before .before .before .before .before .before .before .before .before .before .before .before .before .before .before .before .before .before .before .before .before .before .before .before .pre .0) (l .x) (o .y) (omega arith) (omega arith) k (a .map .now) refl (length (a .symbols .now)) (l .at) (d .begins) (let z = c .before .before .before .before .before .before .before .before .before .before .before .before .before .before .before .before .before .before .before .before .before .before .before .before .before .before .pre .0 .room in omega (arith, room-of (a .shift) (a .clusters) (a .map .now) (passOf (a .width) (a .height) (a .kinds .now) (a .muls .now) (a .clusters) (a .lengths) (a .lf-thresholds .now) (a .qf-thresholds .now) (a .block-ctx-map .now) (a .lf-there) (a .lf0 .now) (a .lf1 .now) (a .lf2 .now) (a .store .now)) (a .symbols .now) (192 * (a .width * a .height)) W (l .at) (l .rows) (l .log) (l .g0 ∷ l .g1 ∷ l .g2 ∷ []) _ _ d)),
       d .fine,
-      l .inv .2 ∙ o .inv .2 ∙ c .before .before .before .before .before .before .before .before .before .before .before .before .before .before .before .before .before .before .before .before .before .before .before .before .before .pre .1,
-      l .inv .3 ∙ o .inv .3 ∙ c .before .before .before .before .before .before .before .before .before .before .before .before .before .before .before .before .before .before .before .before .before .before .before .before .before .pre .2,
+      l .inv .2 ∙ o .inv .2 ∙ c .before .before .before .before .before .before .before .before .before .before .before .before .before .before .before .before .before .before .before .before .before .before .before .before .before .before .pre .1,
+      l .inv .3 ∙ o .inv .3 ∙ c .before .before .before .before .before .before .before .before .before .before .before .before .before .before .before .before .before .before .before .before .before .before .before .before .before .before .pre .2,
     )
 
 is-stopped-requires : tie.Need-is-stopped-requires Inv-loop2 μ-loop2 Inv-loop μ-loop
@@ -122,76 +122,76 @@ is-stopped-requires c κs = search needs
 
 same-length : tie.Need-same-length Inv-loop2 μ-loop2 Inv-loop μ-loop
 same-length c =
-    let a = c .before .before .before .before .before .before .before .before .before .before .before .before .before .before .before .before .before .before .before .before .before .before .before .before .before .before .before .before .before .before .before .before .before .before .before .before .before .args in
-    let o = c .before .before .before .before .before .before .before .before .before .before .before .before .before .before .before .before .before .before .before .before .before .before .before .before .loop in
-    let l = c .before .before .before .before .before .before .before .before .before .before .before .before .before .before .before .before .before .before .before .before .before .before .loop2 in
+    let a = c .before .before .before .before .before .before .before .before .before .before .before .before .before .before .before .before .before .before .before .before .before .before .before .before .before .before .before .before .before .before .before .before .before .before .before .before .before .before .args in
+    let o = c .before .before .before .before .before .before .before .before .before .before .before .before .before .before .before .before .before .before .before .before .before .before .before .before .before .loop in
+    let l = c .before .before .before .before .before .before .before .before .before .before .before .before .before .before .before .before .before .before .before .before .before .before .before .loop2 in
     c .before .before .before .before .before .before .before .before .before .before .log .given ∙ l .inv .0 ∙ o .inv .0
 
 same-length-2 : tie.Need-same-length-2 Inv-loop2 μ-loop2 Inv-loop μ-loop
 same-length-2 c =
-    let a = c .before .before .before .before .before .before .before .before .before .before .before .before .before .before .before .before .before .before .before .before .before .before .before .before .before .before .before .before .before .before .before .before .before .before .before .before .before .args in
-    let o = c .before .before .before .before .before .before .before .before .before .before .before .before .before .before .before .before .before .before .before .before .before .before .before .before .loop in
-    let l = c .before .before .before .before .before .before .before .before .before .before .before .before .before .before .before .before .before .before .before .before .before .before .loop2 in
+    let a = c .before .before .before .before .before .before .before .before .before .before .before .before .before .before .before .before .before .before .before .before .before .before .before .before .before .before .before .before .before .before .before .before .before .before .before .before .before .before .args in
+    let o = c .before .before .before .before .before .before .before .before .before .before .before .before .before .before .before .before .before .before .before .before .before .before .before .before .before .loop in
+    let l = c .before .before .before .before .before .before .before .before .before .before .before .before .before .before .before .before .before .before .before .before .before .before .before .loop2 in
     c .before .before .before .before .before .before .before .before .g0 .given ∙ l .inv .1 ∙ o .inv .1
 
 same-length-3 : tie.Need-same-length-3 Inv-loop2 μ-loop2 Inv-loop μ-loop
 same-length-3 c =
-    let a = c .before .before .before .before .before .before .before .before .before .before .before .before .before .before .before .before .before .before .before .before .before .before .before .before .before .before .before .before .before .before .before .before .before .before .before .before .before .args in
-    let o = c .before .before .before .before .before .before .before .before .before .before .before .before .before .before .before .before .before .before .before .before .before .before .before .before .loop in
-    let l = c .before .before .before .before .before .before .before .before .before .before .before .before .before .before .before .before .before .before .before .before .before .before .loop2 in
+    let a = c .before .before .before .before .before .before .before .before .before .before .before .before .before .before .before .before .before .before .before .before .before .before .before .before .before .before .before .before .before .before .before .before .before .before .before .before .before .before .args in
+    let o = c .before .before .before .before .before .before .before .before .before .before .before .before .before .before .before .before .before .before .before .before .before .before .before .before .before .loop in
+    let l = c .before .before .before .before .before .before .before .before .before .before .before .before .before .before .before .before .before .before .before .before .before .before .before .loop2 in
     c .before .before .before .before .before .before .g1 .given ∙ l .inv .2 ∙ o .inv .2
 
 same-length-4 : tie.Need-same-length-4 Inv-loop2 μ-loop2 Inv-loop μ-loop
 same-length-4 c =
-    let a = c .before .before .before .before .before .before .before .before .before .before .before .before .before .before .before .before .before .before .before .before .before .before .before .before .before .before .before .before .before .before .before .before .before .before .before .before .before .args in
-    let o = c .before .before .before .before .before .before .before .before .before .before .before .before .before .before .before .before .before .before .before .before .before .before .before .before .loop in
-    let l = c .before .before .before .before .before .before .before .before .before .before .before .before .before .before .before .before .before .before .before .before .before .before .loop2 in
+    let a = c .before .before .before .before .before .before .before .before .before .before .before .before .before .before .before .before .before .before .before .before .before .before .before .before .before .before .before .before .before .before .before .before .before .before .before .before .before .before .args in
+    let o = c .before .before .before .before .before .before .before .before .before .before .before .before .before .before .before .before .before .before .before .before .before .before .before .before .before .loop in
+    let l = c .before .before .before .before .before .before .before .before .before .before .before .before .before .before .before .before .before .before .before .before .before .before .before .loop2 in
     c .before .before .before .before .g2 .given ∙ l .inv .3 ∙ o .inv .3
 
 returns : tie.Need-returns Inv-loop2 μ-loop2 Inv-loop μ-loop
 returns c =
-    let a = c .before .before .before .before .before .before .before .before .before .before .before .before .before .before .before .before .before .before .before .before .before .before .before .before .before .before .before .before .before .before .before .before .before .before .before .before .before .args in
-    let o = c .before .before .before .before .before .before .before .before .before .before .before .before .before .before .before .before .before .before .before .before .before .before .before .before .loop in
-    let l = c .before .before .before .before .before .before .before .before .before .before .before .before .before .before .before .before .before .before .before .before .before .before .loop2 in
-    let hx : l .x < a .width = omega (arith, c .before .before .before .before .before .before .before .before .before .before .before .before .before .before .before .before .before .before .before .before .before .loop2-test) in
-    let hy : o .y < a .height = omega (arith, c .before .before .before .before .before .before .before .before .before .before .before .before .before .before .before .before .before .before .before .before .before .before .before .loop-test) in
-    let k : 2 ≤ K (passOf (a .width) (a .height) (a .kinds .now) (a .muls .now) (a .clusters) (a .lengths) (a .lf-thresholds .now) (a .qf-thresholds .now) (a .block-ctx-map .now) (a .lf-there) (a .lf0 .now) (a .lf1 .now) (a .lf2 .now) (a .store .now)) (l .x) (o .y) = omega (arith, c .before .before .before .before .before .before .before .before .before .before .before .before .before .before .before .before .before .before .before .if1 .left) in
-    let W = (wholeOf (a .shift) (a .clusters) (a .map .now) (passOf (a .width) (a .height) (a .kinds .now) (a .muls .now) (a .clusters) (a .lengths) (a .lf-thresholds .now) (a .qf-thresholds .now) (a .block-ctx-map .now) (a .lf-there) (a .lf0 .now) (a .lf1 .now) (a .lf2 .now) (a .store .now)) (a .symbols .now) (a .log .now) (a .g0 .now ∷ a .g1 .now ∷ a .g2 .now ∷ [])) in
-    due-stop (a .shift) (a .clusters) (a .map .now) (passOf (a .width) (a .height) (a .kinds .now) (a .muls .now) (a .clusters) (a .lengths) (a .lf-thresholds .now) (a .qf-thresholds .now) (a .block-ctx-map .now) (a .lf-there) (a .lf0 .now) (a .lf1 .now) (a .lf2 .now) (a .store .now)) (a .symbols .now) (192 * (a .width * a .height)) W (l .at) (l .rows) (l .log) (l .g0 ∷ l .g1 ∷ l .g2 ∷ []) (l .x) (o .y) (cornersRow (K (passOf (a .width) (a .height) (a .kinds .now) (a .muls .now) (a .clusters) (a .lengths) (a .lf-thresholds .now) (a .qf-thresholds .now) (a .block-ctx-map .now) (a .lf-there) (a .lf0 .now) (a .lf1 .now) (a .lf2 .now) (a .store .now))) (M (passOf (a .width) (a .height) (a .kinds .now) (a .muls .now) (a .clusters) (a .lengths) (a .lf-thresholds .now) (a .qf-thresholds .now) (a .block-ctx-map .now) (a .lf-there) (a .lf0 .now) (a .lf1 .now) (a .lf2 .now) (a .store .now))) (a .width - (l .x + 1)) (l .x + 1) (o .y) (rowsFrom (passOf (a .width) (a .height) (a .kinds .now) (a .muls .now) (a .clusters) (a .lengths) (a .lf-thresholds .now) (a .qf-thresholds .now) (a .block-ctx-map .now) (a .lf-there) (a .lf0 .now) (a .lf1 .now) (a .lf2 .now) (a .store .now)) (o .y + 1))) (due-corner (a .shift) (a .clusters) (a .map .now) (passOf (a .width) (a .height) (a .kinds .now) (a .muls .now) (a .clusters) (a .lengths) (a .lf-thresholds .now) (a .qf-thresholds .now) (a .block-ctx-map .now) (a .lf-there) (a .lf0 .now) (a .lf1 .now) (a .lf2 .now) (a .store .now)) (a .symbols .now) (192 * (a .width * a .height)) W (l .at) (l .rows) (l .log) (l .g0 ∷ l .g1 ∷ l .g2 ∷ []) (l .x) (o .y) (rowsFrom (passOf (a .width) (a .height) (a .kinds .now) (a .muls .now) (a .clusters) (a .lengths) (a .lf-thresholds .now) (a .qf-thresholds .now) (a .block-ctx-map .now) (a .lf-there) (a .lf0 .now) (a .lf1 .now) (a .lf2 .now) (a .store .now)) (o .y + 1)) (omega arith) k (l .inv .5 W (due-row (a .shift) (a .clusters) (a .map .now) (passOf (a .width) (a .height) (a .kinds .now) (a .muls .now) (a .clusters) (a .lengths) (a .lf-thresholds .now) (a .qf-thresholds .now) (a .block-ctx-map .now) (a .lf-there) (a .lf0 .now) (a .lf1 .now) (a .lf2 .now) (a .store .now)) (a .symbols .now) (192 * (a .width * a .height)) (wholeOf (a .shift) (a .clusters) (a .map .now) (passOf (a .width) (a .height) (a .kinds .now) (a .muls .now) (a .clusters) (a .lengths) (a .lf-thresholds .now) (a .qf-thresholds .now) (a .block-ctx-map .now) (a .lf-there) (a .lf0 .now) (a .lf1 .now) (a .lf2 .now) (a .store .now)) (a .symbols .now) (a .log .now) (a .g0 .now ∷ a .g1 .now ∷ a .g2 .now ∷ [])) (o .at) (o .rows) (o .log) (o .g0 ∷ o .g1 ∷ o .g2 ∷ []) (o .y) (omega arith) (o .inv .5)))) (itemsBy (c .before .before .before .before .before .before .before .before .before .before .before .before .before .before .before .before .before .plan-of .result) (a .width) (a .store .now)) (ap (λ (p : Plan). itemsBy p (a .width) (a .store .now)) (c .before .before .before .before .before .before .before .before .before .before .before .before .before .before .before .before .before .plan-of .ensures) ∙ items-are (passOf (a .width) (a .height) (a .kinds .now) (a .muls .now) (a .clusters) (a .lengths) (a .lf-thresholds .now) (a .qf-thresholds .now) (a .block-ctx-map .now) (a .lf-there) (a .lf0 .now) (a .lf1 .now) (a .lf2 .now) (a .store .now)) (a .clusters) (length (a .map .now)) (a .shift) (length (a .log .now)) (length (a .g0 .now)) (c .before .before .before .before .before .before .before .before .before .before .before .before .before .before .before .before .before .before .before .before .before .before .before .before .before .before .before .before .before .before .before .before .before .before .before .before .before .pre .0) (l .x) (o .y) (omega arith) (omega arith) k) (c .before .before .before .before .before .before .before .before .before .before .before .read-varblock .result .walk) _ _ _ _ (few-is (passOf (a .width) (a .height) (a .kinds .now) (a .muls .now) (a .clusters) (a .lengths) (a .lf-thresholds .now) (a .qf-thresholds .now) (a .block-ctx-map .now) (a .lf-there) (a .lf0 .now) (a .lf1 .now) (a .lf2 .now) (a .store .now)) (l .x) (o .y) (l .at) (c .before .before .before .before .before .before .before .before .before .before .before .before .before .before .before .before .before .plan-of .result) (c .before .before .before .before .before .before .before .before .before .before .before .before .before .before .before .before .before .plan-of .ensures) (known (passOf (a .width) (a .height) (a .kinds .now) (a .muls .now) (a .clusters) (a .lengths) (a .lf-thresholds .now) (a .qf-thresholds .now) (a .block-ctx-map .now) (a .lf-there) (a .lf0 .now) (a .lf1 .now) (a .lf2 .now) (a .store .now)) (a .clusters) (length (a .map .now)) (a .shift) (length (a .log .now)) (length (a .g0 .now)) (c .before .before .before .before .before .before .before .before .before .before .before .before .before .before .before .before .before .before .before .before .before .before .before .before .before .before .before .before .before .before .before .before .before .before .before .before .before .pre .0) (l .x) (o .y) (omega arith) (omega arith) k)) (c .before .before .before .before .before .before .before .before .before .before .before .read-varblock .ensures) (sym (c .before .is-stopped .ensures) ∙ c .if2 .taken)
-
-symbols-read-requires : tie.Need-symbols-read-requires Inv-loop2 μ-loop2 Inv-loop μ-loop
-symbols-read-requires c κs = search needs
-
-rewritten-all-requires : tie.Need-rewritten-all-requires Inv-loop2 μ-loop2 Inv-loop μ-loop
-rewritten-all-requires c κs =
     let a = c .before .before .before .before .before .before .before .before .before .before .before .before .before .before .before .before .before .before .before .before .before .before .before .before .before .before .before .before .before .before .before .before .before .before .before .before .before .before .args in
     let o = c .before .before .before .before .before .before .before .before .before .before .before .before .before .before .before .before .before .before .before .before .before .before .before .before .before .loop in
     let l = c .before .before .before .before .before .before .before .before .before .before .before .before .before .before .before .before .before .before .before .before .before .before .before .loop2 in
     let hx : l .x < a .width = omega (arith, c .before .before .before .before .before .before .before .before .before .before .before .before .before .before .before .before .before .before .before .before .before .before .loop2-test) in
     let hy : o .y < a .height = omega (arith, c .before .before .before .before .before .before .before .before .before .before .before .before .before .before .before .before .before .before .before .before .before .before .before .before .loop-test) in
     let k : 2 ≤ K (passOf (a .width) (a .height) (a .kinds .now) (a .muls .now) (a .clusters) (a .lengths) (a .lf-thresholds .now) (a .qf-thresholds .now) (a .block-ctx-map .now) (a .lf-there) (a .lf0 .now) (a .lf1 .now) (a .lf2 .now) (a .store .now)) (l .x) (o .y) = omega (arith, c .before .before .before .before .before .before .before .before .before .before .before .before .before .before .before .before .before .before .before .before .if1 .left) in
-    rw (c .before .before .before .before .before .before .before .before .before .before .before .before .before .before .before .before .before .before .plan-of .ensures) (let z = c .before .before .before .before .before .before .before .before .before .before .before .before .before .before .before .before .before .before .before .before .before .before .before .before .before .before .before .before .before .before .before .before .before .before .before .before .before .before .pre .0 .across in let p = right (passOf (a .width) (a .height) (a .kinds .now) (a .muls .now) (a .clusters) (a .lengths) (a .lf-thresholds .now) (a .qf-thresholds .now) (a .block-ctx-map .now) (a .lf-there) (a .lf0 .now) (a .lf1 .now) (a .lf2 .now) (a .store .now)) (a .clusters) (length (a .map .now)) (a .shift) (length (a .log .now)) (length (a .g0 .now)) (c .before .before .before .before .before .before .before .before .before .before .before .before .before .before .before .before .before .before .before .before .before .before .before .before .before .before .before .before .before .before .before .before .before .before .before .before .before .before .pre .0) (l .x) (o .y) (omega arith) (omega arith) k in omega arith)
+    let W = (wholeOf (a .shift) (a .clusters) (a .map .now) (passOf (a .width) (a .height) (a .kinds .now) (a .muls .now) (a .clusters) (a .lengths) (a .lf-thresholds .now) (a .qf-thresholds .now) (a .block-ctx-map .now) (a .lf-there) (a .lf0 .now) (a .lf1 .now) (a .lf2 .now) (a .store .now)) (a .symbols .now) (a .log .now) (a .g0 .now ∷ a .g1 .now ∷ a .g2 .now ∷ [])) in
+    due-stop (a .shift) (a .clusters) (a .map .now) (passOf (a .width) (a .height) (a .kinds .now) (a .muls .now) (a .clusters) (a .lengths) (a .lf-thresholds .now) (a .qf-thresholds .now) (a .block-ctx-map .now) (a .lf-there) (a .lf0 .now) (a .lf1 .now) (a .lf2 .now) (a .store .now)) (a .symbols .now) (192 * (a .width * a .height)) W (l .at) (l .rows) (l .log) (l .g0 ∷ l .g1 ∷ l .g2 ∷ []) (l .x) (o .y) (cornersRow (K (passOf (a .width) (a .height) (a .kinds .now) (a .muls .now) (a .clusters) (a .lengths) (a .lf-thresholds .now) (a .qf-thresholds .now) (a .block-ctx-map .now) (a .lf-there) (a .lf0 .now) (a .lf1 .now) (a .lf2 .now) (a .store .now))) (M (passOf (a .width) (a .height) (a .kinds .now) (a .muls .now) (a .clusters) (a .lengths) (a .lf-thresholds .now) (a .qf-thresholds .now) (a .block-ctx-map .now) (a .lf-there) (a .lf0 .now) (a .lf1 .now) (a .lf2 .now) (a .store .now))) (a .width - (l .x + 1)) (l .x + 1) (o .y) (rowsFrom (passOf (a .width) (a .height) (a .kinds .now) (a .muls .now) (a .clusters) (a .lengths) (a .lf-thresholds .now) (a .qf-thresholds .now) (a .block-ctx-map .now) (a .lf-there) (a .lf0 .now) (a .lf1 .now) (a .lf2 .now) (a .store .now)) (o .y + 1))) (due-corner (a .shift) (a .clusters) (a .map .now) (passOf (a .width) (a .height) (a .kinds .now) (a .muls .now) (a .clusters) (a .lengths) (a .lf-thresholds .now) (a .qf-thresholds .now) (a .block-ctx-map .now) (a .lf-there) (a .lf0 .now) (a .lf1 .now) (a .lf2 .now) (a .store .now)) (a .symbols .now) (192 * (a .width * a .height)) W (l .at) (l .rows) (l .log) (l .g0 ∷ l .g1 ∷ l .g2 ∷ []) (l .x) (o .y) (rowsFrom (passOf (a .width) (a .height) (a .kinds .now) (a .muls .now) (a .clusters) (a .lengths) (a .lf-thresholds .now) (a .qf-thresholds .now) (a .block-ctx-map .now) (a .lf-there) (a .lf0 .now) (a .lf1 .now) (a .lf2 .now) (a .store .now)) (o .y + 1)) (omega arith) k (l .inv .5 W (due-row (a .shift) (a .clusters) (a .map .now) (passOf (a .width) (a .height) (a .kinds .now) (a .muls .now) (a .clusters) (a .lengths) (a .lf-thresholds .now) (a .qf-thresholds .now) (a .block-ctx-map .now) (a .lf-there) (a .lf0 .now) (a .lf1 .now) (a .lf2 .now) (a .store .now)) (a .symbols .now) (192 * (a .width * a .height)) (wholeOf (a .shift) (a .clusters) (a .map .now) (passOf (a .width) (a .height) (a .kinds .now) (a .muls .now) (a .clusters) (a .lengths) (a .lf-thresholds .now) (a .qf-thresholds .now) (a .block-ctx-map .now) (a .lf-there) (a .lf0 .now) (a .lf1 .now) (a .lf2 .now) (a .store .now)) (a .symbols .now) (a .log .now) (a .g0 .now ∷ a .g1 .now ∷ a .g2 .now ∷ [])) (o .at) (o .rows) (o .log) (o .g0 ∷ o .g1 ∷ o .g2 ∷ []) (o .y) (omega arith) (o .inv .5)))) (itemsBy (c .before .before .before .before .before .before .before .before .before .before .before .before .before .before .before .before .before .before .plan-of .result) (a .width) (a .store .now)) (ap (λ (p : Plan). itemsBy p (a .width) (a .store .now)) (c .before .before .before .before .before .before .before .before .before .before .before .before .before .before .before .before .before .before .plan-of .ensures) ∙ items-are (passOf (a .width) (a .height) (a .kinds .now) (a .muls .now) (a .clusters) (a .lengths) (a .lf-thresholds .now) (a .qf-thresholds .now) (a .block-ctx-map .now) (a .lf-there) (a .lf0 .now) (a .lf1 .now) (a .lf2 .now) (a .store .now)) (a .clusters) (length (a .map .now)) (a .shift) (length (a .log .now)) (length (a .g0 .now)) (c .before .before .before .before .before .before .before .before .before .before .before .before .before .before .before .before .before .before .before .before .before .before .before .before .before .before .before .before .before .before .before .before .before .before .before .before .before .before .pre .0) (l .x) (o .y) (omega arith) (omega arith) k) (c .before .before .before .before .before .before .before .before .before .before .before .read-varblock .result .walk) _ _ _ _ (few-is (passOf (a .width) (a .height) (a .kinds .now) (a .muls .now) (a .clusters) (a .lengths) (a .lf-thresholds .now) (a .qf-thresholds .now) (a .block-ctx-map .now) (a .lf-there) (a .lf0 .now) (a .lf1 .now) (a .lf2 .now) (a .store .now)) (l .x) (o .y) (l .at) (c .before .before .before .before .before .before .before .before .before .before .before .before .before .before .before .before .before .before .plan-of .result) (c .before .before .before .before .before .before .before .before .before .before .before .before .before .before .before .before .before .before .plan-of .ensures) (known (passOf (a .width) (a .height) (a .kinds .now) (a .muls .now) (a .clusters) (a .lengths) (a .lf-thresholds .now) (a .qf-thresholds .now) (a .block-ctx-map .now) (a .lf-there) (a .lf0 .now) (a .lf1 .now) (a .lf2 .now) (a .store .now)) (a .clusters) (length (a .map .now)) (a .shift) (length (a .log .now)) (length (a .g0 .now)) (c .before .before .before .before .before .before .before .before .before .before .before .before .before .before .before .before .before .before .before .before .before .before .before .before .before .before .before .before .before .before .before .before .before .before .before .before .before .before .pre .0) (l .x) (o .y) (omega arith) (omega arith) k)) (c .before .before .before .before .before .before .before .before .before .before .before .read-varblock .ensures) (sym (c .before .is-stopped .ensures) ∙ c .if2 .taken)
+
+symbols-read-requires : tie.Need-symbols-read-requires Inv-loop2 μ-loop2 Inv-loop μ-loop
+symbols-read-requires c κs = search needs
+
+rewritten-all-requires : tie.Need-rewritten-all-requires Inv-loop2 μ-loop2 Inv-loop μ-loop
+rewritten-all-requires c κs =
+    let a = c .before .before .before .before .before .before .before .before .before .before .before .before .before .before .before .before .before .before .before .before .before .before .before .before .before .before .before .before .before .before .before .before .before .before .before .before .before .before .before .args in
+    let o = c .before .before .before .before .before .before .before .before .before .before .before .before .before .before .before .before .before .before .before .before .before .before .before .before .before .before .loop in
+    let l = c .before .before .before .before .before .before .before .before .before .before .before .before .before .before .before .before .before .before .before .before .before .before .before .before .loop2 in
+    let hx : l .x < a .width = omega (arith, c .before .before .before .before .before .before .before .before .before .before .before .before .before .before .before .before .before .before .before .before .before .before .before .loop2-test) in
+    let hy : o .y < a .height = omega (arith, c .before .before .before .before .before .before .before .before .before .before .before .before .before .before .before .before .before .before .before .before .before .before .before .before .before .loop-test) in
+    let k : 2 ≤ K (passOf (a .width) (a .height) (a .kinds .now) (a .muls .now) (a .clusters) (a .lengths) (a .lf-thresholds .now) (a .qf-thresholds .now) (a .block-ctx-map .now) (a .lf-there) (a .lf0 .now) (a .lf1 .now) (a .lf2 .now) (a .store .now)) (l .x) (o .y) = omega (arith, c .before .before .before .before .before .before .before .before .before .before .before .before .before .before .before .before .before .before .before .before .before .if1 .left) in
+    rw (c .before .before .before .before .before .before .before .before .before .before .before .before .before .before .before .before .before .before .before .plan-of .ensures) (let z = c .before .before .before .before .before .before .before .before .before .before .before .before .before .before .before .before .before .before .before .before .before .before .before .before .before .before .before .before .before .before .before .before .before .before .before .before .before .before .before .pre .0 .across in let p = right (passOf (a .width) (a .height) (a .kinds .now) (a .muls .now) (a .clusters) (a .lengths) (a .lf-thresholds .now) (a .qf-thresholds .now) (a .block-ctx-map .now) (a .lf-there) (a .lf0 .now) (a .lf1 .now) (a .lf2 .now) (a .store .now)) (a .clusters) (length (a .map .now)) (a .shift) (length (a .log .now)) (length (a .g0 .now)) (c .before .before .before .before .before .before .before .before .before .before .before .before .before .before .before .before .before .before .before .before .before .before .before .before .before .before .before .before .before .before .before .before .before .before .before .before .before .before .before .pre .0) (l .x) (o .y) (omega arith) (omega arith) k in omega arith)
 
 add-x-2 : tie.Need-add-x-2 Inv-loop2 μ-loop2 Inv-loop μ-loop
-add-x-2 c = let u = c .before .before .before .before .before .before .before .before .before .before .before .before .before .before .before .before .before .before .before .before .before .before .before .before .before .before .before .before .before .before .before .before .before .before .before .before .before .before .before .pre .0 .across in omega (arith, c .before .before .before .before .before .before .before .before .before .before .before .before .before .before .before .before .before .before .before .before .before .before .before .loop2-test)
+add-x-2 c = let u = c .before .before .before .before .before .before .before .before .before .before .before .before .before .before .before .before .before .before .before .before .before .before .before .before .before .before .before .before .before .before .before .before .before .before .before .before .before .before .before .before .pre .0 .across in omega (arith, c .before .before .before .before .before .before .before .before .before .before .before .before .before .before .before .before .before .before .before .before .before .before .before .before .loop2-test)
 
 loop2-less-2 : tie.Need-loop2-less-2 Inv-loop2 μ-loop2 Inv-loop μ-loop
 loop2-less-2 c = search needs
 
 loop2-again-2 : tie.Need-loop2-again-2 Inv-loop2 μ-loop2 Inv-loop μ-loop
 loop2-again-2 c =
-    let a = c .before .before .before .before .before .before .before .before .before .before .before .before .before .before .before .before .before .before .before .before .before .before .before .before .before .before .before .before .before .before .before .before .before .before .before .before .before .before .before .args in
-    let o = c .before .before .before .before .before .before .before .before .before .before .before .before .before .before .before .before .before .before .before .before .before .before .before .before .before .before .loop in
-    let l = c .before .before .before .before .before .before .before .before .before .before .before .before .before .before .before .before .before .before .before .before .before .before .before .before .loop2 in
-    let hx : l .x < a .width = omega (arith, c .before .before .before .before .before .before .before .before .before .before .before .before .before .before .before .before .before .before .before .before .before .before .before .loop2-test) in
-    let hy : o .y < a .height = omega (arith, c .before .before .before .before .before .before .before .before .before .before .before .before .before .before .before .before .before .before .before .before .before .before .before .before .before .loop-test) in
-    let k : 2 ≤ K (passOf (a .width) (a .height) (a .kinds .now) (a .muls .now) (a .clusters) (a .lengths) (a .lf-thresholds .now) (a .qf-thresholds .now) (a .block-ctx-map .now) (a .lf-there) (a .lf0 .now) (a .lf1 .now) (a .lf2 .now) (a .store .now)) (l .x) (o .y) = omega (arith, c .before .before .before .before .before .before .before .before .before .before .before .before .before .before .before .before .before .before .before .before .before .if1 .left) in (
+    let a = c .before .before .before .before .before .before .before .before .before .before .before .before .before .before .before .before .before .before .before .before .before .before .before .before .before .before .before .before .before .before .before .before .before .before .before .before .before .before .before .before .args in
+    let o = c .before .before .before .before .before .before .before .before .before .before .before .before .before .before .before .before .before .before .before .before .before .before .before .before .before .before .before .loop in
+    let l = c .before .before .before .before .before .before .before .before .before .before .before .before .before .before .before .before .before .before .before .before .before .before .before .before .before .loop2 in
+    let hx : l .x < a .width = omega (arith, c .before .before .before .before .before .before .before .before .before .before .before .before .before .before .before .before .before .before .before .before .before .before .before .before .loop2-test) in
+    let hy : o .y < a .height = omega (arith, c .before .before .before .before .before .before .before .before .before .before .before .before .before .before .before .before .before .before .before .before .before .before .before .before .before .before .loop-test) in
+    let k : 2 ≤ K (passOf (a .width) (a .height) (a .kinds .now) (a .muls .now) (a .clusters) (a .lengths) (a .lf-thresholds .now) (a .qf-thresholds .now) (a .block-ctx-map .now) (a .lf-there) (a .lf0 .now) (a .lf1 .now) (a .lf2 .now) (a .store .now)) (l .x) (o .y) = omega (arith, c .before .before .before .before .before .before .before .before .before .before .before .before .before .before .before .before .before .before .before .before .before .before .if1 .left) in (
       c .before .before .before .before .before .before .before .before .before .before .before .before .log .given ∙ l .inv .0,
       c .before .before .before .before .before .before .before .before .before .before .g0 .given ∙ l .inv .1,
       c .before .before .before .before .before .before .before .before .g1 .given ∙ l .inv .2,
       c .before .before .before .before .before .before .g2 .given ∙ l .inv .3,
       omega arith,
-      λ W d. rw (c .before .symbols-read .ensures, c .rewritten-all .ensures) (due-step (a .shift) (a .clusters) (a .map .now) (passOf (a .width) (a .height) (a .kinds .now) (a .muls .now) (a .clusters) (a .lengths) (a .lf-thresholds .now) (a .qf-thresholds .now) (a .block-ctx-map .now) (a .lf-there) (a .lf0 .now) (a .lf1 .now) (a .lf2 .now) (a .store .now)) (a .symbols .now) (192 * (a .width * a .height)) W (l .at) (l .rows) (l .log) (l .g0 ∷ l .g1 ∷ l .g2 ∷ []) (l .x) (o .y) (cornersRow (K (passOf (a .width) (a .height) (a .kinds .now) (a .muls .now) (a .clusters) (a .lengths) (a .lf-thresholds .now) (a .qf-thresholds .now) (a .block-ctx-map .now) (a .lf-there) (a .lf0 .now) (a .lf1 .now) (a .lf2 .now) (a .store .now))) (M (passOf (a .width) (a .height) (a .kinds .now) (a .muls .now) (a .clusters) (a .lengths) (a .lf-thresholds .now) (a .qf-thresholds .now) (a .block-ctx-map .now) (a .lf-there) (a .lf0 .now) (a .lf1 .now) (a .lf2 .now) (a .store .now))) (a .width - (l .x + 1)) (l .x + 1) (o .y) (rowsFrom (passOf (a .width) (a .height) (a .kinds .now) (a .muls .now) (a .clusters) (a .lengths) (a .lf-thresholds .now) (a .qf-thresholds .now) (a .block-ctx-map .now) (a .lf-there) (a .lf0 .now) (a .lf1 .now) (a .lf2 .now) (a .store .now)) (o .y + 1))) (due-corner (a .shift) (a .clusters) (a .map .now) (passOf (a .width) (a .height) (a .kinds .now) (a .muls .now) (a .clusters) (a .lengths) (a .lf-thresholds .now) (a .qf-thresholds .now) (a .block-ctx-map .now) (a .lf-there) (a .lf0 .now) (a .lf1 .now) (a .lf2 .now) (a .store .now)) (a .symbols .now) (192 * (a .width * a .height)) W (l .at) (l .rows) (l .log) (l .g0 ∷ l .g1 ∷ l .g2 ∷ []) (l .x) (o .y) (rowsFrom (passOf (a .width) (a .height) (a .kinds .now) (a .muls .now) (a .clusters) (a .lengths) (a .lf-thresholds .now) (a .qf-thresholds .now) (a .block-ctx-map .now) (a .lf-there) (a .lf0 .now) (a .lf1 .now) (a .lf2 .now) (a .store .now)) (o .y + 1)) (omega arith) k (l .inv .5 W d)) (itemsBy (c .before .before .before .before .before .before .before .before .before .before .before .before .before .before .before .before .before .before .before .plan-of .result) (a .width) (a .store .now)) (ap (λ (p : Plan). itemsBy p (a .width) (a .store .now)) (c .before .before .before .before .before .before .before .before .before .before .before .before .before .before .before .before .before .before .before .plan-of .ensures) ∙ items-are (passOf (a .width) (a .height) (a .kinds .now) (a .muls .now) (a .clusters) (a .lengths) (a .lf-thresholds .now) (a .qf-thresholds .now) (a .block-ctx-map .now) (a .lf-there) (a .lf0 .now) (a .lf1 .now) (a .lf2 .now) (a .store .now)) (a .clusters) (length (a .map .now)) (a .shift) (length (a .log .now)) (length (a .g0 .now)) (c .before .before .before .before .before .before .before .before .before .before .before .before .before .before .before .before .before .before .before .before .before .before .before .before .before .before .before .before .before .before .before .before .before .before .before .before .before .before .before .pre .0) (l .x) (o .y) (omega arith) (omega arith) k) (c .before .before .before .before .before .before .before .before .before .before .before .before .before .read-varblock .result .walk) _ _ _ _ (few-is (passOf (a .width) (a .height) (a .kinds .now) (a .muls .now) (a .clusters) (a .lengths) (a .lf-thresholds .now) (a .qf-thresholds .now) (a .block-ctx-map .now) (a .lf-there) (a .lf0 .now) (a .lf1 .now) (a .lf2 .now) (a .store .now)) (l .x) (o .y) (l .at) (c .before .before .before .before .before .before .before .before .before .before .before .before .before .before .before .before .before .before .before .plan-of .result) (c .before .before .before .before .before .before .before .before .before .before .before .before .before .before .before .before .before .before .before .plan-of .ensures) (known (passOf (a .width) (a .height) (a .kinds .now) (a .muls .now) (a .clusters) (a .lengths) (a .lf-thresholds .now) (a .qf-thresholds .now) (a .block-ctx-map .now) (a .lf-there) (a .lf0 .now) (a .lf1 .now) (a .lf2 .now) (a .store .now)) (a .clusters) (length (a .map .now)) (a .shift) (length (a .log .now)) (length (a .g0 .now)) (c .before .before .before .before .before .before .before .before .before .before .before .before .before .before .before .before .before .before .before .before .before .before .before .before .before .before .before .before .before .before .before .before .before .before .before .before .before .before .before .pre .0) (l .x) (o .y) (omega arith) (omega arith) k)) (c .before .before .before .before .before .before .before .before .before .before .before .before .before .read-varblock .ensures) (sym (c .before .before .before .is-stopped .ensures) ∙ c .before .before .if2 .left)),
+      λ W d. rw (c .before .symbols-read .ensures, c .rewritten-all .ensures) (due-step (a .shift) (a .clusters) (a .map .now) (passOf (a .width) (a .height) (a .kinds .now) (a .muls .now) (a .clusters) (a .lengths) (a .lf-thresholds .now) (a .qf-thresholds .now) (a .block-ctx-map .now) (a .lf-there) (a .lf0 .now) (a .lf1 .now) (a .lf2 .now) (a .store .now)) (a .symbols .now) (192 * (a .width * a .height)) W (l .at) (l .rows) (l .log) (l .g0 ∷ l .g1 ∷ l .g2 ∷ []) (l .x) (o .y) (cornersRow (K (passOf (a .width) (a .height) (a .kinds .now) (a .muls .now) (a .clusters) (a .lengths) (a .lf-thresholds .now) (a .qf-thresholds .now) (a .block-ctx-map .now) (a .lf-there) (a .lf0 .now) (a .lf1 .now) (a .lf2 .now) (a .store .now))) (M (passOf (a .width) (a .height) (a .kinds .now) (a .muls .now) (a .clusters) (a .lengths) (a .lf-thresholds .now) (a .qf-thresholds .now) (a .block-ctx-map .now) (a .lf-there) (a .lf0 .now) (a .lf1 .now) (a .lf2 .now) (a .store .now))) (a .width - (l .x + 1)) (l .x + 1) (o .y) (rowsFrom (passOf (a .width) (a .height) (a .kinds .now) (a .muls .now) (a .clusters) (a .lengths) (a .lf-thresholds .now) (a .qf-thresholds .now) (a .block-ctx-map .now) (a .lf-there) (a .lf0 .now) (a .lf1 .now) (a .lf2 .now) (a .store .now)) (o .y + 1))) (due-corner (a .shift) (a .clusters) (a .map .now) (passOf (a .width) (a .height) (a .kinds .now) (a .muls .now) (a .clusters) (a .lengths) (a .lf-thresholds .now) (a .qf-thresholds .now) (a .block-ctx-map .now) (a .lf-there) (a .lf0 .now) (a .lf1 .now) (a .lf2 .now) (a .store .now)) (a .symbols .now) (192 * (a .width * a .height)) W (l .at) (l .rows) (l .log) (l .g0 ∷ l .g1 ∷ l .g2 ∷ []) (l .x) (o .y) (rowsFrom (passOf (a .width) (a .height) (a .kinds .now) (a .muls .now) (a .clusters) (a .lengths) (a .lf-thresholds .now) (a .qf-thresholds .now) (a .block-ctx-map .now) (a .lf-there) (a .lf0 .now) (a .lf1 .now) (a .lf2 .now) (a .store .now)) (o .y + 1)) (omega arith) k (l .inv .5 W d)) (itemsBy (c .before .before .before .before .before .before .before .before .before .before .before .before .before .before .before .before .before .before .before .before .plan-of .result) (a .width) (a .store .now)) (ap (λ (p : Plan). itemsBy p (a .width) (a .store .now)) (c .before .before .before .before .before .before .before .before .before .before .before .before .before .before .before .before .before .before .before .before .plan-of .ensures) ∙ items-are (passOf (a .width) (a .height) (a .kinds .now) (a .muls .now) (a .clusters) (a .lengths) (a .lf-thresholds .now) (a .qf-thresholds .now) (a .block-ctx-map .now) (a .lf-there) (a .lf0 .now) (a .lf1 .now) (a .lf2 .now) (a .store .now)) (a .clusters) (length (a .map .now)) (a .shift) (length (a .log .now)) (length (a .g0 .now)) (c .before .before .before .before .before .before .before .before .before .before .before .before .before .before .before .before .before .before .before .before .before .before .before .before .before .before .before .before .before .before .before .before .before .before .before .before .before .before .before .before .pre .0) (l .x) (o .y) (omega arith) (omega arith) k) (c .before .before .before .before .before .before .before .before .before .before .before .before .before .read-varblock .result .walk) _ _ _ _ (few-is (passOf (a .width) (a .height) (a .kinds .now) (a .muls .now) (a .clusters) (a .lengths) (a .lf-thresholds .now) (a .qf-thresholds .now) (a .block-ctx-map .now) (a .lf-there) (a .lf0 .now) (a .lf1 .now) (a .lf2 .now) (a .store .now)) (l .x) (o .y) (l .at) (c .before .before .before .before .before .before .before .before .before .before .before .before .before .before .before .before .before .before .before .before .plan-of .result) (c .before .before .before .before .before .before .before .before .before .before .before .before .before .before .before .before .before .before .before .before .plan-of .ensures) (known (passOf (a .width) (a .height) (a .kinds .now) (a .muls .now) (a .clusters) (a .lengths) (a .lf-thresholds .now) (a .qf-thresholds .now) (a .block-ctx-map .now) (a .lf-there) (a .lf0 .now) (a .lf1 .now) (a .lf2 .now) (a .store .now)) (a .clusters) (length (a .map .now)) (a .shift) (length (a .log .now)) (length (a .g0 .now)) (c .before .before .before .before .before .before .before .before .before .before .before .before .before .before .before .before .before .before .before .before .before .before .before .before .before .before .before .before .before .before .before .before .before .before .before .before .before .before .before .before .pre .0) (l .x) (o .y) (omega arith) (omega arith) k)) (c .before .before .before .before .before .before .before .before .before .before .before .before .before .read-varblock .ensures) (sym (c .before .before .before .is-stopped .ensures) ∙ c .before .before .if2 .left)),
     )
 
 add-y : tie.Need-add-y Inv-loop2 μ-loop2 Inv-loop μ-loop

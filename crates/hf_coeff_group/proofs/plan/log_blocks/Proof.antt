@@ -16,16 +16,16 @@ wide-requires c κs = search needs
 returns : tie.Need-returns
 returns c = let e : c .before .wide .result ≡ c .before .before .args .kind - 2 = c .before .wide .ensures in let t = c .if1 .taken in sym (log-none (c .before .before .args .kind - 2) (omega arith))
 
-mul-result : tie.Need-mul-result
-mul-result c = search needs
+array-read-wide : tie.Need-array-read-wide
+array-read-wide c = search needs
 
-array-read-result : tie.Need-array-read-result
-array-read-result c = search needs
+wide-requires-2 : tie.Need-wide-requires-2
+wide-requires-2 c κs = search needs
 
 returns-2 : tie.Need-returns-2
 unfolding logOf LOG-BLOCKS
-returns-2 c = rw (c .before .wide .ensures)
+returns-2 c = rw (c .wide2 .ensures, c .before .before .wide .ensures)
 
 pub log-blocks-spec : {M : Type 1} → statement M
 log-blocks-spec =
-    tie.close (tie.spec sub-wide wide-requires returns mul-result array-read-result returns-2)
+    tie.close (tie.spec sub-wide wide-requires returns array-read-wide wide-requires-2 returns-2)

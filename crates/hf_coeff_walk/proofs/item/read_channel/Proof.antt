@@ -1,7 +1,7 @@
 use Prim.Native.Nat.{_%_, _^_, _+_, _*_}
-use Rattle.hf_coeff_walk.specs.Items.{walk-ready, channel-goes, handed-by, itemAt, counted-15, counted-16}
+use Rattle.hf_coeff_walk.specs.Items.{walk-ready, channel-goes, handed-by, itemAt, counted-15, counted-16, counted-none}
 use Rattle.hf_coeff_walk.specs.Counts.{few-le, shifted-left, power-le, count-entry, predicted-le}
-use mathlib.Core.Path.{refl, _≡_, _∙_, ap}
+use mathlib.Core.Path.{refl, _≡_, _∙_, ap, sym}
 use lib.Pow.{pow-pos}
 use Rattle.hf_coeff_walk.specs.Item.{predicted, countIndex}
 use Rattle.hf_coeff_walk.specs.Outcome.{ends}
@@ -12,7 +12,7 @@ use Rattle.hf_coeff_walk.proofs.item.read_channel.Statement.{statement}
 use Rattle.hf_coeff_walk.proofs.item.read_channel.Tie as tie
 
 returns : tie.Need-returns
-returns c = let a = c .before .before .before .before .before .before .args in ends _ _ _ (counted-15 (a .shift) (a .clusters) (a .map .now) (itemAt (a .v) (a .width) (a .context) (a .order .now)) (a .t7) (a .symbols .now) (a .at) (a .log .now) (a .grid .now) (omega arith)) refl
+returns c = let a = c .before .before .before .before .before .before .args in ends _ _ _ (counted-15 (a .shift) (a .clusters) (a .map .now) (itemAt (a .v) (a .width) (a .context) (a .order .now)) (a .row .now) (a .symbols .now) (a .at) (a .log .now) (a .grid .now) (omega arith)) refl
 
 mul-wide : tie.Need-mul-wide
 mul-wide c = search needs
@@ -31,27 +31,27 @@ count-index-requires c κs = search needs
 
 mul-entry : tie.Need-mul-entry
 mul-entry c =
-    let a = c .before .before .before .before .before .before .before .before .before .before .before .args in
-    let e : c .count-index .result ≡ countIndex (predicted (a .t7) (a .v .x) (a .v .y)) = c .count-index .ensures ∙ ap countIndex (c .before .predict .ensures) in
-    let l = c .before .before .before .before .before .before .before .before .before .before .before .pre .few in
-    rw e (omega (arith, count-entry (a .context) (a .clusters) (predicted (a .t7) (a .v .x) (a .v .y)) (c .before .before .before .before .before .before .before .before .before .before .before .pre .cluster) (predicted-le (a .t7) (a .v .x) (a .v .y) (c .before .before .before .before .before .before .before .before .before .before .before .pre .counts))))
+    let a = c .before .before .before .before .before .before .before .before .before .before .args in
+    let e : c .count-index .result ≡ countIndex (predicted (a .row .now) (a .v .x) (a .v .y)) = c .count-index .ensures ∙ ap countIndex (c .before .predict .ensures) in
+    let l = c .before .before .before .before .before .before .before .before .before .before .pre .few in
+    rw e (omega (arith, count-entry (a .context) (a .clusters) (predicted (a .row .now) (a .v .x) (a .v .y)) (c .before .before .before .before .before .before .before .before .before .before .pre .cluster) (predicted-le (a .row .now) (a .v .x) (a .v .y) (c .before .before .before .before .before .before .before .before .before .before .pre .counts))))
 
 add-entry : tie.Need-add-entry
 add-entry c =
-    let a = c .before .before .before .before .before .before .before .before .before .before .before .args in
-    let e : c .count-index .result ≡ countIndex (predicted (a .t7) (a .v .x) (a .v .y)) = c .count-index .ensures ∙ ap countIndex (c .before .predict .ensures) in
-    let l = c .before .before .before .before .before .before .before .before .before .before .before .pre .few in
-    rw e (omega (arith, count-entry (a .context) (a .clusters) (predicted (a .t7) (a .v .x) (a .v .y)) (c .before .before .before .before .before .before .before .before .before .before .before .pre .cluster) (predicted-le (a .t7) (a .v .x) (a .v .y) (c .before .before .before .before .before .before .before .before .before .before .before .pre .counts))))
+    let a = c .before .before .before .before .before .before .before .before .before .before .args in
+    let e : c .count-index .result ≡ countIndex (predicted (a .row .now) (a .v .x) (a .v .y)) = c .count-index .ensures ∙ ap countIndex (c .before .predict .ensures) in
+    let l = c .before .before .before .before .before .before .before .before .before .before .pre .few in
+    rw e (omega (arith, count-entry (a .context) (a .clusters) (predicted (a .row .now) (a .v .x) (a .v .y)) (c .before .before .before .before .before .before .before .before .before .before .pre .cluster) (predicted-le (a .row .now) (a .v .x) (a .v .y) (c .before .before .before .before .before .before .before .before .before .before .pre .counts))))
 
 shared-slice-read-log : tie.Need-shared-slice-read-log
 shared-slice-read-log c =
-    let a = c .before .before .before .before .before .before .before .before .before .before .before .before .args in
-    let e : c .before .count-index .result ≡ countIndex (predicted (a .t7) (a .v .x) (a .v .y)) = c .before .count-index .ensures ∙ ap countIndex (c .before .before .predict .ensures) in
-    let l = c .before .before .before .before .before .before .before .before .before .before .before .before .pre .entries in
-    rw e (omega (arith, count-entry (a .context) (a .clusters) (predicted (a .t7) (a .v .x) (a .v .y)) (c .before .before .before .before .before .before .before .before .before .before .before .before .pre .cluster) (predicted-le (a .t7) (a .v .x) (a .v .y) (c .before .before .before .before .before .before .before .before .before .before .before .before .pre .counts))))
+    let a = c .before .before .before .before .before .before .before .before .before .before .before .args in
+    let e : c .before .count-index .result ≡ countIndex (predicted (a .row .now) (a .v .x) (a .v .y)) = c .before .count-index .ensures ∙ ap countIndex (c .before .before .predict .ensures) in
+    let l = c .before .before .before .before .before .before .before .before .before .before .before .pre .entries in
+    rw e (omega (arith, count-entry (a .context) (a .clusters) (predicted (a .row .now) (a .v .x) (a .v .y)) (c .before .before .before .before .before .before .before .before .before .before .before .pre .cluster) (predicted-le (a .row .now) (a .v .x) (a .v .y) (c .before .before .before .before .before .before .before .before .before .before .before .pre .counts))))
 
 slice-write-log : tie.Need-slice-write-log
-slice-write-log c = let a = c .before .before .before .before .before .before .before .before .before .before .before .before .args in let r = c .before .before .before .before .before .before .before .before .before .before .before .before .pre .room in omega (arith, pow-pos (a .v .log))
+slice-write-log c = let a = c .before .before .before .before .before .before .before .before .before .before .before .args in let r = c .before .before .before .before .before .before .before .before .before .before .before .pre .room in omega (arith, pow-pos (a .v .log))
 
 add-next : tie.Need-add-next
 add-next c = search needs
@@ -64,11 +64,21 @@ same-length c = search needs
 
 returns-2 : tie.Need-returns-2
 returns-2 c =
-    let a = c .before .before .before .before .before .before .before .before .before .before .before .before .before .before .args in
-    let e : c .before .before .before .count-index .result ≡ countIndex (predicted (a .t7) (a .v .x) (a .v .y)) = c .before .before .before .count-index .ensures ∙ ap countIndex (c .before .before .before .before .predict .ensures) in
-    let n : c .before .before .before .before .before .before .wide .result ≡ getD (a .symbols .now) (a .at) 0 = c .before .before .before .before .before .before .wide .ensures in
+    let a = c .before .before .before .before .before .before .before .before .before .before .before .before .before .args in
+    let e : c .before .before .before .count-index .result ≡ countIndex (predicted (a .row .now) (a .v .x) (a .v .y)) = c .before .before .before .count-index .ensures ∙ ap countIndex (c .before .before .before .before .predict .ensures) in
+    let n : c .before .before .before .before .before .wide .result ≡ getD (a .symbols .now) (a .at) 0 = c .before .before .before .before .before .wide .ensures in
     let t = c .if2 .taken in
-    rw e (ends _ _ _ (counted-16 (a .shift) (a .clusters) (a .map .now) (itemAt (a .v) (a .width) (a .context) (a .order .now)) (a .t7) (a .symbols .now) (a .at) (a .log .now) (a .grid .now) (omega arith) (omega (arith, shifted-left 63 (a .v .log) (omega arith) (c .before .before .before .before .before .before .before .before .before .before .before .before .before .before .pre .power)))) refl)
+    rw e (ends _ _ _ (counted-16 (a .shift) (a .clusters) (a .map .now) (itemAt (a .v) (a .width) (a .context) (a .order .now)) (a .row .now) (a .symbols .now) (a .at) (a .log .now) (a .grid .now) (omega arith) (omega (arith, shifted-left 63 (a .v .log) (omega arith) (c .before .before .before .before .before .before .before .before .before .before .before .before .before .pre .power)))) refl)
+
+same-length-2 : tie.Need-same-length-2
+same-length-2 c = search needs
+
+returns-3 : tie.Need-returns-3
+returns-3 c =
+    let a = c .before .before .before .before .before .before .before .before .before .before .before .before .before .before .args in
+    let e : c .before .before .before .before .count-index .result ≡ countIndex (predicted (a .row .now) (a .v .x) (a .v .y)) = c .before .before .before .before .count-index .ensures ∙ ap countIndex (c .before .before .before .before .before .predict .ensures) in
+    let n : c .before .before .before .before .before .before .wide .result ≡ getD (a .symbols .now) (a .at) 0 = c .before .before .before .before .before .before .wide .ensures in
+    rw e (ends _ _ _ (counted-none (a .shift) (a .clusters) (a .map .now) (itemAt (a .v) (a .width) (a .context) (a .order .now)) (a .row .now) (a .symbols .now) (a .at) (a .log .now) (a .grid .now) (omega arith) (sym n ∙ c .if3 .taken)) refl)
 
 is-few-requires : tie.Need-is-few-requires
 is-few-requires c κs = search needs
@@ -121,24 +131,24 @@ part-coefficients-end-2 c = search needs
 coefficients-requires : tie.Need-coefficients-requires
 coefficients-requires c κs =
     let a = c .before .before .before .before .before .before .before .before .before .before .before .before .before .before .before .before .before .before .before .before .before .before .args in
-    let t = c .before .before .before .before .before .before .before .before .if2 .left in
-    walk-ready (a .v) (a .width) (a .context) (a .clusters) (a .map .now) (a .order .now) (a .t7) (a .symbols .now) (a .at) (a .shift) (a .log .now) (a .grid .now) (2 * 2 ^ (a .v .log) % 2 ^ 64) (a .context * 458 + 37 * a .clusters) (a .context * 458 + 37 * a .clusters + 458) (a .at + 1) (c .before .before .before .before .before .before .before .before .before .before .before .before .before .before .wide .result) (c .before .before .before .before .before .before .before .is-few .result) (a .context + c .before .before .before .before .before .before .before .before .before .before .before .count-index .result * a .clusters) (c .before .before .before .before .before .before .before .before .before .before .before .before .before .before .before .before .before .before .before .before .before .before .pre) (shifted-left 2 (a .v .log) (omega arith) (c .before .before .before .before .before .before .before .before .before .before .before .before .before .before .before .before .before .before .before .before .before .before .pre .power)) refl refl refl (omega arith)
+    let t = c .before .before .before .before .before .before .before .before .before .if2 .left in
+    walk-ready (a .v) (a .width) (a .context) (a .clusters) (a .map .now) (a .order .now) (a .row .now) (a .symbols .now) (a .at) (a .shift) (a .log .now) (a .grid .now) (2 * 2 ^ (a .v .log) % 2 ^ 64) (a .context * 458 + 37 * a .clusters) (a .context * 458 + 37 * a .clusters + 458) (a .at + 1) (c .before .before .before .before .before .before .before .before .before .before .before .before .before .before .wide .result) (c .before .before .before .before .before .before .before .is-few .result) (a .context + c .before .before .before .before .before .before .before .before .before .before .before .before .count-index .result * a .clusters) (c .before .before .before .before .before .before .before .before .before .before .before .before .before .before .before .before .before .before .before .before .before .before .pre) (shifted-left 2 (a .v .log) (omega arith) (c .before .before .before .before .before .before .before .before .before .before .before .before .before .before .before .before .before .before .before .before .before .before .pre .power)) refl refl refl (omega arith)
     (omega (arith, shifted-left 63 (a .v .log) (omega arith) (c .before .before .before .before .before .before .before .before .before .before .before .before .before .before .before .before .before .before .before .before .before .before .pre .power))) (rw (c .before .before .before .before .before .before .before .is-few .ensures) (few-le (c .before .before .before .before .before .before .before .before .before .before .before .before .before .before .wide .result) (4 * 2 ^ (a .v .log)))) _ (simp length-set)
 
-same-length-2 : tie.Need-same-length-2
-same-length-2 c = simp length-set at (c .before .before .before .log .given)
-
 same-length-3 : tie.Need-same-length-3
-same-length-3 c = search needs
+same-length-3 c = simp length-set at (c .before .before .before .log .given)
 
-returns-3 : tie.Need-returns-3
-returns-3 c =
+same-length-4 : tie.Need-same-length-4
+same-length-4 c = search needs
+
+returns-4 : tie.Need-returns-4
+returns-4 c =
     let a = c .before .before .before .before .before .before .before .before .before .before .before .before .before .before .before .before .before .before .before .before .before .before .before .before .before .before .before .args in
-    let t = c .before .before .before .before .before .before .before .before .before .before .before .before .before .if2 .left in
-    let e : c .before .before .before .before .before .before .before .before .before .before .before .before .before .before .before .before .count-index .result ≡ countIndex (predicted (a .t7) (a .v .x) (a .v .y)) = c .before .before .before .before .before .before .before .before .before .before .before .before .before .before .before .before .count-index .ensures ∙ ap countIndex (c .before .before .before .before .before .before .before .before .before .before .before .before .before .before .before .before .before .predict .ensures) in
+    let t = c .before .before .before .before .before .before .before .before .before .before .before .before .before .before .if2 .left in
+    let e : c .before .before .before .before .before .before .before .before .before .before .before .before .before .before .before .before .before .count-index .result ≡ countIndex (predicted (a .row .now) (a .v .x) (a .v .y)) = c .before .before .before .before .before .before .before .before .before .before .before .before .before .before .before .before .before .count-index .ensures ∙ ap countIndex (c .before .before .before .before .before .before .before .before .before .before .before .before .before .before .before .before .before .before .predict .ensures) in
     let u = c .before .before .before .before .before .before .before .before .before .before .before .before .before .before .before .before .before .before .before .before .before .if1 .left in
     handed-by _ _ _ _ _ (c .before .before .before .before .coefficients .ensures)
-    (channel-goes (a .v) (a .width) (a .context) (a .clusters) (a .map .now) (a .order .now) (a .t7) (a .symbols .now) (a .at) (a .shift) (a .log .now) (a .grid .now) (2 * 2 ^ (a .v .log) % 2 ^ 64) (a .context * 458 + 37 * a .clusters) (a .context * 458 + 37 * a .clusters + 458) (a .at + 1) (c .before .before .before .before .before .before .before .before .before .before .before .before .before .before .before .before .before .before .before .wide .result) (c .before .before .before .before .before .before .before .before .before .before .before .before .is-few .result) (a .context + c .before .before .before .before .before .before .before .before .before .before .before .before .before .before .before .before .count-index .result * a .clusters) (shifted-left 2 (a .v .log) (omega arith) (c .before .before .before .before .before .before .before .before .before .before .before .before .before .before .before .before .before .before .before .before .before .before .before .before .before .before .before .pre .power)) refl refl (omega arith) (c .before .before .before .before .before .before .before .before .before .before .before .before .before .before .before .before .before .before .before .wide .ensures)
+    (channel-goes (a .v) (a .width) (a .context) (a .clusters) (a .map .now) (a .order .now) (a .row .now) (a .symbols .now) (a .at) (a .shift) (a .log .now) (a .grid .now) (2 * 2 ^ (a .v .log) % 2 ^ 64) (a .context * 458 + 37 * a .clusters) (a .context * 458 + 37 * a .clusters + 458) (a .at + 1) (c .before .before .before .before .before .before .before .before .before .before .before .before .before .before .before .before .before .before .before .wide .result) (c .before .before .before .before .before .before .before .before .before .before .before .before .is-few .result) (a .context + c .before .before .before .before .before .before .before .before .before .before .before .before .before .before .before .before .before .count-index .result * a .clusters) (shifted-left 2 (a .v .log) (omega arith) (c .before .before .before .before .before .before .before .before .before .before .before .before .before .before .before .before .before .before .before .before .before .before .before .before .before .before .before .pre .power)) refl refl (omega arith) (c .before .before .before .before .before .before .before .before .before .before .before .before .before .before .before .before .before .before .before .wide .ensures)
     (omega (arith, shifted-left 63 (a .v .log) (omega arith) (c .before .before .before .before .before .before .before .before .before .before .before .before .before .before .before .before .before .before .before .before .before .before .before .before .before .before .before .pre .power))) refl (c .before .before .before .before .before .before .before .before .before .before .before .before .is-few .ensures) (rw e))
 
 pub read-channel-spec : {M : Type 1} → statement M
@@ -159,6 +169,8 @@ read-channel-spec =
     shl-if2
     same-length
     returns-2
+    same-length-2
+    returns-3
     is-few-requires
     mul-begin
     mul-coefficients
@@ -176,6 +188,6 @@ read-channel-spec =
     part-coefficients-start-2
     part-coefficients-end-2
     coefficients-requires
-    same-length-2
     same-length-3
-    returns-3)
+    same-length-4
+    returns-4)
