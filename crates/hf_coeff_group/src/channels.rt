@@ -2,11 +2,11 @@
 use crate::is_stopped;
 use crate::plan::Plan;
 use crate::symbols_read;
+use hf_coeff_channel::read_channel;
 use hf_coeff_walk::Walk;
 use hf_coeff_walk::count::count_over;
 use hf_coeff_walk::count::rewrite;
 use hf_coeff_walk::item::Varblock;
-use hf_coeff_walk::item::read_channel;
 use hf_pass_store::order;
 ghost use mathlib.Core.Path.{_≡_};
 ghost use mathlib.Core.List.{[], _∷_};
@@ -151,7 +151,7 @@ pub struct VarblockRead {
 }
 
 // The rows after a varblock of this corner's column and width.
-pub fn rewritten_all(
+pub(crate) fn rewritten_all(
     rows: [[u32; 32]; 3],
     x: usize,
     wide: usize,
@@ -168,7 +168,7 @@ pub fn rewritten_all(
 }
 
 // The three channels of a varblock: 1, 0, 2.
-pub fn read_varblock<'a>(
+pub(crate) fn read_varblock<'a>(
     plan: Plan,
     width: usize,
     clusters: usize,

@@ -8,7 +8,7 @@ pub mod plan;
 ghost use mathlib.Core.Path.{_≡_};
 ghost use Rattle.hf_coeff_group.specs.Steps.{isStopped, readBy};
 
-pub fn is_stopped(walk: Walk) -> bool
+pub(crate) fn is_stopped(walk: Walk) -> bool
     ensures { λ r. ⌜ r ≡ isStopped walk ⌝ }
 {
     match walk {
@@ -18,7 +18,7 @@ pub fn is_stopped(walk: Walk) -> bool
 }
 
 // Symbols read, of a reading that was not stopped.
-pub fn symbols_read(walk: Walk) -> usize
+pub(crate) fn symbols_read(walk: Walk) -> usize
     ensures { λ r. ⌜ r ≡ readBy walk ⌝ }
 {
     match walk {

@@ -67,7 +67,7 @@ fn log_blocks(kind: u8) -> usize
 }
 
 // The varblock of a corner's kind.
-pub fn varblock_of(x: usize, y: usize, kind: u8) -> Varblock
+pub(crate) fn varblock_of(x: usize, y: usize, kind: u8) -> Varblock
     requires { ⌜ 2 ≤ kind ⌝ }
     ensures { λ r. ⌜ r ≡ varblockOf x y (kind - 2) ⌝ }
 {
@@ -96,7 +96,7 @@ pub fn varblock_of(x: usize, y: usize, kind: u8) -> Varblock
 }
 
 // The order of a corner's kind.
-pub fn order_of(kind: u8) -> usize
+pub(crate) fn order_of(kind: u8) -> usize
     requires { ⌜ 2 ≤ kind ⌝ }
     ensures { λ r. ⌜ r ≡ orderOf (kind - 2) ⌝ }
 {
@@ -108,7 +108,7 @@ pub fn order_of(kind: u8) -> usize
 }
 
 // A number of an LF grid, 0 outside it.
-pub fn number_at(grid: &[u32], i: usize) -> u32
+pub(crate) fn number_at(grid: &[u32], i: usize) -> u32
     ensures { λ r. ⌜ r ≡ getD (now (grid .entry)) i 0 ⌝ }
 {
     if grid.len() <= i {
@@ -118,7 +118,7 @@ pub fn number_at(grid: &[u32], i: usize) -> u32
 }
 
 // The varblock of a corner's kind and hf_mul at block x, y, `width` blocks to a row.
-pub fn plan_of<'a>(
+pub(crate) fn plan_of<'a>(
     x: usize,
     y: usize,
     width: usize,

@@ -1,15 +1,15 @@
 use Prim.Native.Nat.{_%_, _^_, _+_, _*_}
 use Rattle.hf_coeff_walk.specs.Items.{walk-ready, channel-goes, handed-by, itemAt, counted-15, counted-16, counted-none}
 use Rattle.hf_coeff_walk.specs.Counts.{few-le, shifted-left, power-le, count-entry, predicted-le}
 use mathlib.Core.Path.{refl, _≡_, _∙_, ap, sym}
 use lib.Pow.{pow-pos}
 use Rattle.hf_coeff_walk.specs.Item.{predicted, countIndex}
 use Rattle.hf_coeff_walk.specs.Outcome.{ends}
 use borrow.Author.Needs.{needs}
 use native.Mathlib.Omega.{arith}
 use lib.ListN.{getD, length-set}
-use Rattle.hf_coeff_walk.proofs.item.read_channel.Statement.{statement}
-use Rattle.hf_coeff_walk.proofs.item.read_channel.Tie as tie
+use Rattle.hf_coeff_channel.proofs.read_channel.Statement.{statement}
+use Rattle.hf_coeff_channel.proofs.read_channel.Tie as tie
 
 returns : tie.Need-returns
 returns c = let a = c .before .before .before .before .before .before .args in ends _ _ _ (counted-15 (a .shift) (a .clusters) (a .map .now) (itemAt (a .v) (a .width) (a .context) (a .order .now)) (a .row .now) (a .symbols .now) (a .at) (a .log .now) (a .grid .now) (omega arith)) refl

@@ -1,11 +1,11 @@
 use Rattle.hf_coeff_walk.specs.Walk.{FREQ, NUM-NONZERO}
 use borrow.Author.Needs.{needs}
 use mathlib.Core.Path.{refl}
 use Prim.Native.Nat.{_-_}
 use lib.ListN.{length}
-use Rattle.hf_coeff_walk.proofs.coefficients.Statement.{statement}
-use Rattle.hf_coeff_walk.proofs.coefficients.Tie as tie
-use Rattle.hf_coeff_walk.proofs.walk_places.Reads as walk-places-reads
+use Rattle.hf_coeff_channel.proofs.coefficients.coefficients.Statement.{statement}
+use Rattle.hf_coeff_channel.proofs.coefficients.coefficients.Tie as tie
+use Rattle.hf_coeff_channel.proofs.coefficients.walk_places.Reads as walk-places-reads
 
 walk-places-requires : tie.Need-walk-places-requires
 unfolding FREQ NUM-NONZERO

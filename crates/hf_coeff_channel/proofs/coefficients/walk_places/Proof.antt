@@ -1,16 +1,16 @@
 use mathlib.Core.Path.{refl, _≡_, _∙_, sym}
 use Prim.Native.Nat.{_^_, _≤_, _-_, _+_, _*_}
 use Rattle.hf_coeff_walk.specs.Walk.{walk}
 use Rattle.hf_coeff_walk.specs.Places.{paired, placesOf}
 use Rattle.hf_coeff_walk.specs.PlaceLaws.{places-count}
 use Rattle.hf_coeff_walk.specs.Outcome.{walk-used, walk-done, walk-17, walk-15, walk-zero, walk-more, ends}
 use borrow.Author.Needs.{needs}
 use native.Mathlib.Omega.{arith}
 use lib.ListN.{length, getD, take, drop, set, length-set}
-use Rattle.hf_coeff_walk.proofs.walk_places.Statement.{statement}
-use Rattle.hf_coeff_walk.proofs.walk_places.Tie as tie
+use Rattle.hf_coeff_channel.proofs.coefficients.walk_places.Statement.{statement}
+use Rattle.hf_coeff_channel.proofs.coefficients.walk_places.Tie as tie
 use Rattle.hf_coeff_walk.proofs.context.coeff_context.Reads as coeff-context-reads
-use Rattle.hf_coeff_walk.proofs.gain_at.Reads as gain-at-reads
+use Rattle.hf_coeff_channel.proofs.coefficients.gain_at.Reads as gain-at-reads
 
 abbrev Inv-loop : tie.InvT-loop
 Inv-loop nonzeros frequencies order spot symbols start count first part shift log₀ grid₀ at₀ left₀ prev₀ k₀ end log grid at left prev k =

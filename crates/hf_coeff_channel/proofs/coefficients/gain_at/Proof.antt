@@ -1,14 +1,14 @@
 use Rattle.hf_coeff_walk.specs.Places.{paired, placesOf}
 use Rattle.hf_coeff_walk.specs.Outcome.{gain-none, gain-more}
 use borrow.Author.Needs.{needs}
 use mathlib.Core.Path.{ap, sym}
 use Prim.Native.Nat.{_-_}
 use lib.ListN.{length, getD, take}
-use Rattle.hf_coeff_walk.proofs.gain_at.Statement.{statement}
-use Rattle.hf_coeff_walk.proofs.gain_at.Tie as tie
+use Rattle.hf_coeff_channel.proofs.coefficients.gain_at.Statement.{statement}
+use Rattle.hf_coeff_channel.proofs.coefficients.gain_at.Tie as tie
 use Rattle.bits.proofs.unpack_signed.Reads as unpack-signed-reads
 use Rattle.hf_coeff_walk.proofs.place.cell.Reads as cell-reads
-use Rattle.hf_coeff_walk.proofs.shifted.Reads as shifted-reads
+use Rattle.hf_coeff_channel.proofs.coefficients.shifted.Reads as shifted-reads
 use Rattle.std.proofs.num.wrapping_add_u32.Reads as wrapping-add-u32-reads
 
 returns : tie.Need-returns
