@@ -94,6 +94,7 @@ module _ (J : Job) where
   unfoldable pub reading : Reading
   reading = walk visit (J .bw) (J .bh) (Going start)
 
+-- the state and the job by their fields, as the code has them
 abbrev pub stateOf : ℕ → List ℕ → List ℕ → List Float → Placed
 stateOf used kinds muls sigma = record { used = used; kinds = kinds; muls = muls; sigma = sigma }
 
