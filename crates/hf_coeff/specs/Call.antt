@@ -84,7 +84,7 @@ lengthsFit L =
     && gridsFit (L .pass) (L .grids)
     && leb (192 * blocks (L .pass)) (length (L .log))
 
--- 18: what passes is a layout (crate layout, Theorems, check-iff)
+-- 18: what passes is a layout (crate layout, Theorems, layout-iff)
 abbrev pub layoutFits : Pass → Bool
 layoutFits P = isLayout (P .width) (P .height) (P .kinds) (P .muls)
 

@@ -2,7 +2,8 @@
 use mathlib.Core.Bool.{Bool, cond, not, _&&_}
 use Prim.Native.Nat.{ℕ, _+_, _%_, _^_}
 use lib.Dec.{leb, ltb}
-use Rattle.refusal.specs.declared.Refusal.the-variants.{UnknownTransform, HfMul, Border}
+use Rattle.refusal.specs.declared.Said.{Said}
+use Rattle.refusal.specs.Said.{at, said}
 use Rattle.dct_select.specs.Transforms.{COUNT, wide, high}
 use Rattle.layout_column.specs.declared.Varblock.{Varblock}
 use Rattle.layout_column.specs.declared.Judged.{Judged}
@@ -20,14 +21,25 @@ hfMulOf mul = (mul + 1) % 2 ^ 32
 abbrev pub positive : ℕ → Bool
 positive n = leb 1 n && ltb n (2 ^ 31)
 
--- what a column of type t and hf_mul h asks for
+-- a column of type t and hf_mul h at the block (x, y), checks in turn: type (5), hf_mul (6), the border of a square of 32 x 32 blocks, across and down (7)
+abbrev pub checks : {A : Type 0} → (ℕ → A) → A → ℕ → ℕ → ℕ → ℕ → A
+checks refused next t h x y =
+    cond (leb COUNT t) (refused 5)
+    (cond (not (positive h)) (refused 6)
+    (cond (ltb 32 (x % 32 + wide t)) (refused 7)
+    (cond (ltb 32 (y % 32 + high t)) (refused 7) next)))
+
+-- what a column asks for, or a refusal's number and position
+pub data Asking : Type 0 where
+  asks : Varblock → Asking
+  refuses : Said → Asking
+
+abbrev pub saidJudged : Judged → Asking
+saidJudged (Asks v) = asks v
+saidJudged (NotAsked r) = refuses (said r)
+
 abbrev pub varblockOf : ℕ → ℕ → Varblock
 varblockOf t h = record { kind = 2 + t; «hf_mul» = h; wide = wide t; high = high t }
 
--- at the block (x, y), checks in turn: type, hf_mul, the border of a square of 32 x 32 blocks, across and down
-unfoldable pub judgedOf : ℕ → ℕ → ℕ → ℕ → Judged
-judgedOf t h x y =
-    cond (leb COUNT t) (NotAsked (UnknownTransform x y))
-    (cond (not (positive h)) (NotAsked (HfMul x y))
-    (cond (ltb 32 (x % 32 + wide t)) (NotAsked (Border x y))
-    (cond (ltb 32 (y % 32 + high t)) (NotAsked (Border x y)) (Asks (varblockOf t h)))))
+unfoldable pub judgedOf : ℕ → ℕ → ℕ → ℕ → Asking
+judgedOf t h x y = checks (λ (n : ℕ). refuses (at n x y)) (asks (varblockOf t h)) t h x y

@@ -10,8 +10,10 @@ use lib.ListN.{List·getD-eq-default}
 use borrow.Author.Tests.{lt-ltb, le-ltb, le-leb, lt-leb, leb-false}
 use Rattle.laws.specs.Cases.{le-or-lt}
 use Rattle.refusal.specs.declared.Refusal.{Refusal}
-use Rattle.refusal.specs.declared.Refusal.the-variants.{UnknownTransform, HfMul, Border}
-use Rattle.dct_select.specs.Transforms.{wide, high}
+use Rattle.refusal.specs.declared.Refusal.the-variants.{UnknownTransform}
+use Rattle.refusal.specs.declared.Said.{Said}
+use Rattle.refusal.specs.Said.{at}
+use Rattle.dct_select.specs.Transforms.{COUNT, wide, high}
 use Rattle.dct_select.specs.declared.TransformType.{TransformType}
 use Rattle.dct_select.specs.declared.Looked.{Looked}
 use Rattle.dct_select.specs.declared.Looked.the-variants.{Known, Refused}
@@ -20,9 +22,7 @@ use Rattle.dct_select.specs.declared.Sides.{Sides}
 use Rattle.dct_select.specs.Varblock.{wide-most, high-most}
 use Rattle.dct_select.specs.Rules.{below-27}
 use Rattle.layout_column.specs.declared.Varblock.{Varblock}
-use Rattle.layout_column.specs.declared.Judged.{Judged}
-use Rattle.layout_column.specs.declared.Judged.the-variants.{Asks, Refused as NotAsked}
-use Rattle.layout_column.specs.Columns.{positive, judgedOf, varblockOf}
+use Rattle.layout_column.specs.Columns.{positive, checks, Asking, asks, refuses, varblockOf, judgedOf}
 
 -- what a look-up found
 abbrev numberIn : Looked → ℕ
@@ -67,43 +67,43 @@ sized t k s e f =
     record { below = n .0; wideIs = w; highIs = h; wideMost = omega arith; highMost = omega arith }
 
 module _ (t h x y : ℕ) where
-  pub judged-unknown : 27 ≤ t → NotAsked (UnknownTransform x y) ≡ judgedOf t h x y
+  pub judged-unknown : 27 ≤ t → refuses (at 5 x y) ≡ judgedOf t h x y
   unfolding judgedOf
   judged-unknown a = rw (le-leb 27 t a)
 
   module _ (a : t < 27) where
-    pub judged-zero : h < 1 → NotAsked (HfMul x y) ≡ judgedOf t h x y
+    pub judged-zero : h < 1 → refuses (at 6 x y) ≡ judgedOf t h x y
     unfolding judgedOf
     judged-zero b = rw (lt-leb 27 t a, lt-leb 1 h b)
 
-    pub judged-negative : 1 ≤ h → 2147483648 ≤ h → NotAsked (HfMul x y) ≡ judgedOf t h x y
+    pub judged-negative : 1 ≤ h → 2147483648 ≤ h → refuses (at 6 x y) ≡ judgedOf t h x y
     unfolding judgedOf
     judged-negative b c = rw (lt-leb 27 t a, le-leb 1 h b, le-ltb h 2147483648 c)
 
     module _ (b : 1 ≤ h) (c : h < 2147483648) where
-      pub judged-wide : 32 < x % 32 + wide t → NotAsked (Border x y) ≡ judgedOf t h x y
+      pub judged-wide : 32 < x % 32 + wide t → refuses (at 7 x y) ≡ judgedOf t h x y
       unfolding judgedOf
       judged-wide d = rw (lt-leb 27 t a, le-leb 1 h b, lt-ltb h 2147483648 c, lt-ltb 32 (x % 32 + wide t) d)
 
-      pub judged-high : x % 32 + wide t ≤ 32 → 32 < y % 32 + high t → NotAsked (Border x y) ≡ judgedOf t h x y
+      pub judged-high : x % 32 + wide t ≤ 32 → 32 < y % 32 + high t → refuses (at 7 x y) ≡ judgedOf t h x y
       unfolding judgedOf
       judged-high d e =
           rw (lt-leb 27 t a, le-leb 1 h b, lt-ltb h 2147483648 c, le-ltb 32 (x % 32 + wide t) d, lt-ltb 32 (y % 32 + high t) e)
 
-      pub judged-asks : x % 32 + wide t ≤ 32 → y % 32 + high t ≤ 32 → Asks (varblockOf t h) ≡ judgedOf t h x y
+      pub judged-asks : x % 32 + wide t ≤ 32 → y % 32 + high t ≤ 32 → asks (varblockOf t h) ≡ judgedOf t h x y
       unfolding judgedOf
       judged-asks d e =
           rw (lt-leb 27 t a, le-leb 1 h b, lt-ltb h 2147483648 c, le-ltb 32 (x % 32 + wide t) d, le-ltb 32 (y % 32 + high t) e)
 
-passed : (b : Bool) (r : Refusal) (k : Judged) (v : Varblock) → cond b (NotAsked r) k ≡ Asks v → (b ≡ false) × (k ≡ Asks v)
+passed : (b : Bool) (r : Said) (k : Asking) (v : Varblock) → cond b (refuses r) k ≡ asks v → (b ≡ false) × (k ≡ asks v)
 passed true r k v e = absurd (let z : _≡_ {A = ℕ} 0 1 = cc in omega arith)
 passed false r k v e = (refl, e)
 
-asked : (v u : Varblock) → Asks v ≡ Asks u → v ≡ u
+asked : (v u : Varblock) → asks v ≡ asks u → v ≡ u
 asked v u e = cc
 
 -- what a column asks for has at most 32 blocks each way
-pub asks-most : (t h x y : ℕ) (v : Varblock) → judgedOf t h x y ≡ Asks v → (v .wide ≤ 32) × (v .high ≤ 32)
+pub asks-most : (t h x y : ℕ) (v : Varblock) → judgedOf t h x y ≡ asks v → (v .wide ≤ 32) × (v .high ≤ 32)
 unfolding judgedOf
 asks-most t h x y v e =
     let p1 = passed (leb 27 t) _ _ v e in
@@ -116,3 +116,15 @@ asks-most t h x y v e =
     let w : wide t ≡ v .wide = ap (λ (u : Varblock). u .wide) q in
     let n : high t ≡ v .high = ap (λ (u : Varblock). u .high) q in
     (omega arith, omega arith)
+
+-- what is made of the checks is made of each of their ends
+pub checks-by : {A B : Type 0} (f : A → B) (refused : ℕ → A) (next : A) (t h x y : ℕ) → f (checks refused next t h x y) ≡ checks (λ (n : ℕ). f (refused n)) (f next) t h x y
+checks-by f refused next t h x y = go (leb COUNT t) (not (positive h)) (ltb 32 (x % 32 + wide t)) (ltb 32 (y % 32 + high t))
+  where
+    go : (a b c d : Bool) → f (cond a (refused 5) (cond b (refused 6) (cond c (refused 7) (cond d (refused 7) next))))
+        ≡ cond a (f (refused 5)) (cond b (f (refused 6)) (cond c (f (refused 7)) (cond d (f (refused 7)) (f next))))
+    go true b c d = refl
+    go false true c d = refl
+    go false false true d = refl
+    go false false false true = refl
+    go false false false false = refl

@@ -1,20 +1,20 @@
 -- The layout reading (document 01, Layout and filter strength): blocks are visited row by row, a free block takes the next column.
-use mathlib.Core.Bool.{Bool, cond, not}
+use mathlib.Core.Bool.{Bool, cond}
 use mathlib.Core.List.{List}
-use Prim.Native.Nat.{ℕ, _+_, _*_, _%_}
-use lib.Dec.{ltb, leb, eqb}
+use Prim.Native.Nat.{ℕ, _+_, _*_}
+use lib.Dec.{leb, eqb}
 use lib.ListN.{length, getD, set, replicate}
 use lib.Ieee.{Float}
 use Rattle.refusal.specs.declared.Said.{Said}
 use Rattle.refusal.specs.Said as refusals
 use Rattle.layout_reading.specs.declared.column.Step.{Step}
 use Rattle.layout_reading.specs.declared.column.Step.the-variants.{Going as GoesOn, Stopped as Stops}
-use Rattle.dct_select.specs.Transforms.{COUNT, wide, high}
+use Rattle.dct_select.specs.Transforms.{wide, high}
 use Rattle.layout.specs.Walk.{walk}
 use Rattle.layout.specs.Grid.{at}
 use Rattle.filter_strength.specs.declared.Filter.{Filter}
 use Rattle.filter_strength.specs.Strength.{zero32, dividedFilter}
-use Rattle.layout_column.specs.Columns.{lowBits, hfMulOf, positive}
+use Rattle.layout_column.specs.Columns.{lowBits, hfMulOf, checks}
 use Rattle.varblock_scan.specs.Scan.{Scan, Taking, Left, scan}
 
 -- what is read: a grid of bw x bh blocks, columns, a sharpness number per block, the filter with its multiplier × 65536 / scale,
@@ -63,13 +63,9 @@ module _ (J : Job) where
   abbrev pub placeIn : ℕ → ℕ → ℕ → ℕ → ℕ → ℕ → Placed → Reading
   placeIn = place (J .bw) (J .bh) (J .filter) (J .lookups) (J .sharpness)
 
-  -- a column of type t and hf_mul h at the free block (x, y), checks in turn
+  -- a column of type t and hf_mul h at the free block (x, y): checks in turn, then its varblock is placed
   unfoldable pub judge : ℕ → ℕ → ℕ → ℕ → Placed → Reading
-  judge t h x y p =
-      refuseIf (leb COUNT t) 5 x y
-      (refuseIf (not (positive h)) 6 x y
-      (refuseIf (ltb 32 (x % 32 + wide t)) 7 x y
-      (refuseIf (ltb 32 (y % 32 + high t)) 7 x y (placeIn (2 + t) h (wide t) (high t) x y p))))
+  judge t h x y p = checks (λ (n : ℕ). Stopped (refusals.at n x y)) (placeIn (2 + t) h (wide t) (high t) x y p) t h x y
 
   -- the free block (x, y) takes the next column
   unfoldable pub column : ℕ → ℕ → Placed → Reading
@@ -94,6 +90,7 @@ module _ (J : Job) where
   unfoldable pub reading : Reading
   reading = walk visit (J .bw) (J .bh) (Going start)
 
+-- the state and the job by their fields, as the code has them
 abbrev pub stateOf : ℕ → List ℕ → List ℕ → List Float → Placed
 stateOf used kinds muls sigma = record { used = used; kinds = kinds; muls = muls; sigma = sigma }
 
