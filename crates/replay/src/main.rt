@@ -4,7 +4,20 @@ use recorded_lists::list::number;
 use recorded_words::decode;
 ghost use Rattle.io.specs.Counts.{Counts};
 
+mod alike;
+mod answer;
+mod coefficients;
+mod columns;
+mod contexts;
+mod cut;
+mod floats;
+mod group_layout;
+mod lent;
 mod names;
+mod orders;
+mod record;
+mod store;
+mod transform;
 mod walk;
 
 // The bytes of the list, none where it cannot be read.

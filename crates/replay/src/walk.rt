@@ -1,8 +1,16 @@
 // The records of a list, one behind the other.
+use crate::alike;
+use crate::answer::agreed;
+use crate::coefficients;
+use crate::columns;
+use crate::contexts;
+use crate::cut;
+use crate::group_layout;
 use crate::names;
+use crate::orders;
+use crate::transform;
 use recorded_lists::frame::Frame;
 use recorded_lists::frame::next;
-use replay_lent::answer::agreed;
 
 // The part of the file that holds the numbers from start to end.
 fn bytes_of(file: &[u8], start: usize, end: usize) -> &[u8] {
@@ -30,10 +38,17 @@ fn numbers_of(words: &[u32], start: usize, end: usize) -> &[u32] {
 
 // Makes the call, and gives how many numbers its answer has; 0 where it cannot be made.
 fn replay<'a>(call: u32, body: &'a [u8], words: &'a [u32], out: &mut [usize; 48]) -> usize {
-    if call <= 5 {
-        return replay_layouts::replay(call, body, words, out);
+    match call {
+        1 => transform::replay(words, out),
+        2 => columns::replay(body, words, out),
+        3 => group_layout::replay(words, out),
+        4 => cut::replay(body, words, out),
+        5 => alike::replay(body, words, out),
+        6 => contexts::replay(body, words, out),
+        7 => orders::replay(body, words, out),
+        8 => coefficients::replay(body, words, out),
+        _ => 0,
     }
-    replay_coefficients::replay(call, body, words, out)
 }
 
 fn print_difference(call: u32, index: u32, which: usize) {
