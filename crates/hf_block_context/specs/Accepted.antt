@@ -16,10 +16,8 @@ use Rattle.bits.specs.Bits.{Read, Value, Ended, readBits}
 use Rattle.bits.specs.Numbers.{Bytes}
 use Rattle.block_context.specs.Record.{bsizeOf, qfFit, bytesBelow, fitOf, fit}
 use Rattle.block_context.specs.Bounds.{fit-last}
-use Rattle.hf_block_context.specs.declared.ContextResult.{ContextResult}
-use Rattle.hf_block_context.specs.declared.ContextAnswer.the-variants.{Accepted}
 use Rattle.thresholds.specs.Reading.{Reading, Is, Short, andThen, reading, prepend, Lists, listsOf, lfValue, qfValue, readValues, readList, readLists, pad}
-use Rattle.hf_block_context.specs.Call.{lengthsOf, stored, noLists, DEFAULT-MAP, accepted, unless, judged, judgedLists, orEnded, byFirst, parsed}
+use Rattle.hf_block_context.specs.Call.{reads, Outcome, lengthsOf, stored, noLists, DEFAULT-MAP, accepted, unless, judged, judgedLists, orEnded, byFirst, parsed}
 use Rattle.thresholds.specs.Reads.{lf-near, qf-near, qf-some}
 use Rattle.thresholds.specs.ListLaws.{list-near}
 
@@ -106,11 +104,11 @@ true-of : (b : Bool) → T b → b ≡ true
 true-of true t = refl
 
 -- an answer behind five tests
-module _ (w1 w2 w3 w4 w5 : Refusal) (last : ContextResult) (at : ℕ) where
-  abbrev chain : Bool → Bool → Bool → Bool → Bool → ContextResult
+module _ (w1 w2 w3 w4 w5 : Refusal) (last : Outcome) (at : ℕ) where
+  abbrev chain : Bool → Bool → Bool → Bool → Bool → Outcome
   chain a b c d e = unless a w1 (unless b w2 (unless c w3 (unless d w4 (unless e w5 last))))
 
-  five : (a b c d e : Bool) → chain a b c d e .answer ≡ Accepted at
+  five : (a b c d e : Bool) → chain a b c d e .answer ≡ reads at
       → (a ≡ true) × (b ≡ true) × (c ≡ true) × (d ≡ true) × (e ≡ true) × (chain a b c d e ≡ last)
   five true true true true true f = (refl, refl, refl, refl, refl, refl)
   five false b c d e f = absurd (let z : _≡_ {A = ℕ} 0 1 = cc in omega arith)
@@ -133,7 +131,7 @@ module _ (s : List ℕ) (h : Bytes s) where
       ∙ ap (bytesBelow count) bytes
       ∙ below
 
-  judged-fit : (count : ℕ) (map : List ℕ) (l : Lists) (at t : ℕ) → Kept s h l → judgedLists count map l at .answer ≡ Accepted t
+  judged-fit : (count : ℕ) (map : List ℕ) (l : Lists) (at t : ℕ) → Kept s h l → judgedLists count map l at .answer ≡ reads t
       → fit (judgedLists count map l at .contexts) ≡ true
   unfolding judged
   judged-fit count map l at t k e =
@@ -142,11 +140,11 @@ module _ (s : List ℕ) (h : Bytes s) where
       five Context Length Context Context Context (accepted at (stored count l map)) t (leb n 64) (eqb (length map) (39 * n)) (leb 1 count) (leb count 16)
       (bytesBelow count map) e
       in
-      ap (λ (r : ContextResult). fit (r .contexts)) (f .5)
+      ap (λ (r : Outcome). fit (r .contexts)) (f .5)
       ∙ stored-fit count map l k (leb-true n 64 (f .0)) (eqb-true (length map) (39 * n) (f .1)) (leb-true 1 count (f .2)) (leb-true count 16 (f .3)) (f .4)
 
   lists-fit : (r : Reading Lists) (count : ℕ) (map : List ℕ) (t : ℕ) → ((l : Lists) (at : ℕ) → r ≡ Is l at → Kept s h l)
-      → orEnded r (judgedLists count map) .answer ≡ Accepted t → fit (orEnded r (judgedLists count map) .contexts) ≡ true
+      → orEnded r (judgedLists count map) .answer ≡ reads t → fit (orEnded r (judgedLists count map) .contexts) ≡ true
   lists-fit (Is l at) count map t k e = judged-fit count map l at t (k l at refl) e
   lists-fit (Short at) count map t k e = absurd (let z : _≡_ {A = ℕ} 0 1 = cc in omega arith)
 
@@ -155,16 +153,16 @@ module _ (s : List ℕ) (h : Bytes s) where
   default-fit = refl
 
   by-first : (one : Bool) (at count : ℕ) (map : List ℕ) (t : ℕ)
-      → cond one (accepted at (stored 15 noLists DEFAULT-MAP)) (orEnded (readLists s at) (judgedLists count map)) .answer ≡ Accepted t
+      → cond one (accepted at (stored 15 noLists DEFAULT-MAP)) (orEnded (readLists s at) (judgedLists count map)) .answer ≡ reads t
       → fit (cond one (accepted at (stored 15 noLists DEFAULT-MAP)) (orEnded (readLists s at) (judgedLists count map)) .contexts) ≡ true
   by-first true at count map t e = default-fit
   by-first false at count map t e = lists-fit (readLists s at) count map t (λ l q f. kept s h at l q f) e
 
-  first-fit : (r : Reading ℕ) (count : ℕ) (map : List ℕ) (t : ℕ) → byFirst r s count map .answer ≡ Accepted t → fit (byFirst r s count map .contexts) ≡ true
+  first-fit : (r : Reading ℕ) (count : ℕ) (map : List ℕ) (t : ℕ) → byFirst r s count map .answer ≡ reads t → fit (byFirst r s count map .contexts) ≡ true
   first-fit (Is first at) count map t e = by-first (eqb first 1) at count map t e
   first-fit (Short at) count map t e = absurd (let z : _≡_ {A = ℕ} 0 1 = cc in omega arith)
 
   -- document 01, Block contexts: a record of the context call is never refused with 12
-  pub accepted-fit : (count : ℕ) (map : List ℕ) (at : ℕ) → parsed s count map .answer ≡ Accepted at → fit (parsed s count map .contexts) ≡ true
+  pub accepted-fit : (count : ℕ) (map : List ℕ) (at : ℕ) → parsed s count map .answer ≡ reads at → fit (parsed s count map .contexts) ≡ true
   unfolding parsed
   accepted-fit count map at e = first-fit (reading (readBits s 0 1)) count map at e

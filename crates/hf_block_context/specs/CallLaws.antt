@@ -14,11 +14,10 @@ use Rattle.bits.specs.Reads.{passed, placeAt}
 use Rattle.bits.specs.Laws.{passed-at}
 use Rattle.block_context.specs.declared.HfBlockContext.{HfBlockContext}
 use Rattle.block_context.specs.Record.{bsizeOf, bytesBelow}
-use Rattle.hf_block_context.specs.declared.ContextResult.{ContextResult}
 use Rattle.thresholds.specs.declared.ListStep.the-variants as listStep
 use Rattle.thresholds.specs.declared.Thresholds.{Thresholds}
 use Rattle.thresholds.specs.Reading.{Reading, Is, Short, andThen, listsOf, lfValue, qfValue, readList, readLists, pad}
-use Rattle.hf_block_context.specs.Call.{recordOf, stored, accepted, refused, judged, judgedLists, orEnded, noLists, DEFAULT-MAP, parsed}
+use Rattle.hf_block_context.specs.Call.{Outcome, recordOf, stored, accepted, refused, judged, judgedLists, orEnded, noLists, DEFAULT-MAP, parsed}
 use Rattle.thresholds.specs.Steps.{thresholdsOf}
 use Rattle.thresholds.specs.ListLaws.{list-near}
 
@@ -125,7 +124,7 @@ module _ (s : List ℕ) (p : ℕ) where
         whole = rw (e0, e1, e2)
 
 -- behind the LF lists, which are read into lengths and places: the qf list, then the tests
-abbrev pub judgedQf : ℕ → List ℕ → ℕ → ℕ → ℕ → List ℕ → List ℕ → ℕ → ContextResult
+abbrev pub judgedQf : ℕ → List ℕ → ℕ → ℕ → ℕ → List ℕ → List ℕ → ℕ → Outcome
 judgedQf count map n0 n1 n2 lf d at =
     judged count map (n0 ∷ n1 ∷ n2 ∷ length d ∷ []) (recordOf count (n0 ∷ n1 ∷ n2 ∷ length d ∷ []) lf (pad 15 d) (pad 2496 map)) at
 
@@ -142,10 +141,10 @@ module _ (count : ℕ) (map : List ℕ) where
   behind-lf a b c v0 v1 v2 lf n0 n1 n2 h0 h1 h2 e0 e1 e2 f (Is d at) = rw (← h0, ← h1, ← h2, f, e0, e1, e2)
   behind-lf a b c v0 v1 v2 lf n0 n1 n2 h0 h1 h2 e0 e1 e2 f (Short at) = refl
 
-pub or-ended : {A : Type 0} (r : Reading A) (k : A → ℕ → ContextResult) (at : ℕ) → r ≡ Short at → refused (BitsEnd at) ≡ orEnded r k
+pub or-ended : {A : Type 0} (r : Reading A) (k : A → ℕ → Outcome) (at : ℕ) → r ≡ Short at → refused (BitsEnd at) ≡ orEnded r k
 or-ended r k at e = rw e
 
-pub or-judged : {A : Type 0} (r : Reading A) (k : A → ℕ → ContextResult) (l : A) (at : ℕ) → r ≡ Is l at → k l at ≡ orEnded r k
+pub or-judged : {A : Type 0} (r : Reading A) (k : A → ℕ → Outcome) (l : A) (at : ℕ) → r ≡ Is l at → k l at ≡ orEnded r k
 or-judged r k l at e = rw e
 
 -- The first bit.

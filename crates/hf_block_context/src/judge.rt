@@ -10,7 +10,7 @@ ghost use mathlib.Core.Path.{_≡_};
 ghost use Prim.Native.Nat.{_≤_};
 ghost use lib.ListN.{getD};
 ghost use Rattle.thresholds.specs.Reading.{pad};
-ghost use Rattle.hf_block_context.specs.Call.{recordOf, refused, judged, accepted, stored, noLists, DEFAULT-MAP};
+ghost use Rattle.hf_block_context.specs.Call.{handed, recordOf, refused, judged, accepted, stored, noLists, DEFAULT-MAP};
 
 // The map where the first bit is 1.
 const DEFAULT_MAP: [u8; 39] = [
@@ -56,7 +56,7 @@ const DEFAULT_MAP: [u8; 39] = [
 ];
 
 pub(crate) fn refuse(why: Refusal) -> ContextResult
-    ensures { λ r. ⌜ r ≡ refused why ⌝ }
+    ensures { λ r. ⌜ handed r ≡ refused why ⌝ }
 {
     let contexts = HfBlockContext {
         num_block_clusters: 0,
@@ -72,7 +72,7 @@ pub(crate) fn refuse(why: Refusal) -> ContextResult
 }
 
 pub(crate) fn default_contexts(at: usize) -> ContextResult
-    ensures { λ r. ⌜ r ≡ accepted at (stored 15 noLists DEFAULT-MAP) ⌝ }
+    ensures { λ r. ⌜ handed r ≡ accepted at (stored 15 noLists DEFAULT-MAP) ⌝ }
 {
     let map = DEFAULT_MAP;
     let block_ctx_map = padded(&map[..]);
@@ -99,7 +99,7 @@ pub(crate) fn judge(
     at: usize,
 ) -> ContextResult
     requires { ⌜ (getD lengths 0 0 ≤ 15) × (getD lengths 1 0 ≤ 15) × (getD lengths 2 0 ≤ 15) × (getD lengths 3 0 ≤ 15) ⌝ }
-    ensures { λ r. ⌜ r ≡ judged «num_clusters» (now (map .entry)) lengths (recordOf «num_clusters» lengths «lf_thresholds» «qf_thresholds» (pad 2496 (now (map .entry)))) at ⌝ }
+    ensures { λ r. ⌜ handed r ≡ judged «num_clusters» (now (map .entry)) lengths (recordOf «num_clusters» lengths «lf_thresholds» «qf_thresholds» (pad 2496 (now (map .entry)))) at ⌝ }
 {
     let size = bsize(lengths);
     if 64 < size {

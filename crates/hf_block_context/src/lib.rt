@@ -18,7 +18,7 @@ ghost use mathlib.Core.Path.{_≡_};
 ghost use Prim.Native.Nat.{_≤_, _<_};
 ghost use Rattle.bits.specs.Reads.{passed};
 ghost use Rattle.thresholds.specs.Reading.{qfValue, readList, readLists};
-ghost use Rattle.hf_block_context.specs.Call.{judgedLists, orEnded, parsed};
+ghost use Rattle.hf_block_context.specs.Call.{handed, judgedLists, orEnded, parsed};
 ghost use Rattle.hf_block_context.specs.CallLaws.{judgedQf};
 
 // Accepted: the bits read.
@@ -45,7 +45,7 @@ fn with_qf<'a>(
     lf: [u32; 45],
 ) -> ContextResult
     requires { ⌜ (p .bit < 8) × (passed p ≤ 1558) × (n0 ≤ 15) × (n1 ≤ 15) × (n2 ≤ 15) ⌝ }
-    ensures { λ r. ⌜ r ≡ orEnded (readList (now (bytes .entry)) (qfValue (now (bytes .entry))) (passed p)) (judgedQf «num_clusters» (now (map .entry)) n0 n1 n2 lf) ⌝ }
+    ensures { λ r. ⌜ handed r ≡ orEnded (readList (now (bytes .entry)) (qfValue (now (bytes .entry))) (passed p)) (judgedQf «num_clusters» (now (map .entry)) n0 n1 n2 lf) ⌝ }
 {
     let qf = read_list(bytes, p, Kind::Qf);
     let step = qf.step;
@@ -68,7 +68,7 @@ fn with_qf<'a>(
 // First bit 0: three LF lists, then one qf list.
 fn by_lists<'a>(bytes: &'a [u8], p: Place, num_clusters: u32, map: &'a [u8]) -> ContextResult
     requires { ⌜ (p .bit < 8) × (passed p ≤ 16) ⌝ }
-    ensures { λ r. ⌜ r ≡ orEnded (readLists (now (bytes .entry)) (passed p)) (judgedLists «num_clusters» (now (map .entry))) ⌝ }
+    ensures { λ r. ⌜ handed r ≡ orEnded (readLists (now (bytes .entry)) (passed p)) (judgedLists «num_clusters» (now (map .entry))) ⌝ }
 {
     let lf0 = read_list(bytes, p, Kind::Lf);
     let step0 = lf0.step;
@@ -97,7 +97,7 @@ fn by_lists<'a>(bytes: &'a [u8], p: Place, num_clusters: u32, map: &'a [u8]) -> 
 
 // First bit 1: the lent count and map are not looked at.
 pub fn parse<'a>(bytes: &'a [u8], num_clusters: u32, map: &'a [u8]) -> ContextResult
-    ensures { λ r. ⌜ r ≡ parsed (now (bytes .entry)) «num_clusters» (now (map .entry)) ⌝ }
+    ensures { λ r. ⌜ handed r ≡ parsed (now (bytes .entry)) «num_clusters» (now (map .entry)) ⌝ }
 {
     let first = field(bytes, Place::start(), 1);
     match first {

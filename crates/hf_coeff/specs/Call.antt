@@ -5,6 +5,8 @@ use Prim.Native.Nat.{ℕ, _*_}
 use lib.Dec.{ltb, leb, eqb}
 use lib.ListN.{length, getD, take, drop}
 use Rattle.refusal.specs.declared.Refusal.{Refusal}
+use Rattle.refusal.specs.declared.Said.{Said}
+use Rattle.refusal.specs.Said.{said}
 use Rattle.refusal.specs.declared.Refusal.the-variants.{Size, Parameter, Context, Length, Layout, StoredPlace, BitsEnd, Preset}
 use Rattle.bits.specs.Bits.{Read, Value, Ended, readBits}
 use Rattle.bits.specs.Exponent.{exponent}
@@ -44,14 +46,23 @@ lent pass presets clusterMap shift bytes symbols log g0 g1 g2 =
       grids = g0 ∷ g1 ∷ g2 ∷ [];
     }
 
+-- symbols read, or a refusal's number and position
+pub data Answer : Type 0 where
+  reads : ℕ → Answer
+  refuses : Said → Answer
+
+abbrev pub answered : CoeffAnswer → Answer
+answered (Accepted at) = reads at
+answered (Refused why) = refuses (said why)
+
 -- the answer, and what is left in the log and in the grids
 pub record Outcome : Type 0 where
-  pub answer : CoeffAnswer
+  pub answer : Answer
   pub log : List ℕ
   pub grids : Grids
 
 abbrev pub leaves : CoeffAnswer → (log g0 g1 g2 : List ℕ) → Outcome
-leaves r log g0 g1 g2 = record { answer = r; log = log; grids = g0 ∷ g1 ∷ g2 ∷ [] }
+leaves r log g0 g1 g2 = record { answer = answered r; log = log; grids = g0 ∷ g1 ∷ g2 ∷ [] }
 
 abbrev pub blocks : Pass → ℕ
 blocks P = P .height * P .width
@@ -100,12 +111,12 @@ reading L preset =
 
 -- symbols read; 15 to 17 keep what was added and logged
 abbrev pub outcome : Reading → Outcome
-outcome (going us at log grids rows left) = record { answer = Accepted at; log = log; grids = grids }
-outcome (refused why at log grids) = record { answer = Refused (why at); log = log; grids = grids }
+outcome (going us at log grids rows left) = record { answer = reads at; log = log; grids = grids }
+outcome (refused why at log grids) = record { answer = refuses (said (why at)); log = log; grids = grids }
 
 -- a refusal that writes nothing
 abbrev pub refuse : Lent → Refusal → Outcome
-refuse L why = record { answer = Refused why; log = L .log; grids = L .grids }
+refuse L why = record { answer = refuses (said why); log = L .log; grids = L .grids }
 
 abbrev pub readPreset : Lent → Read
 readPreset L = readBits (L .bytes) 0 (exponent (L .presets))

@@ -28,7 +28,7 @@ use Rattle.hf_coeff_checks.specs.declared.preset.PresetAnswer.the-variants as p
 use Rattle.hf_coeff_checks.specs.Checks.{readFit, writtenFit}
 use Rattle.hf_coeff_checks.specs.Preset.{presetOf}
 use Rattle.hf_coeff_work.specs.Work.{readingBy, WorkReady}
-use Rattle.hf_coeff.specs.Call.{Lent, blocks, clustersOf, sidesFit, parametersFit, lengthsFit, layoutFits, reading, outcome, leaves, refuse, readPreset, withPreset, call}
+use Rattle.hf_coeff.specs.Call.{Lent, blocks, clustersOf, sidesFit, parametersFit, lengthsFit, layoutFits, reading, outcome, answered, leaves, refuse, readPreset, withPreset, call}
 use Rattle.hf_coeff.specs.Fits.{sides-fit, parameters-fit, lengths-fit}
 
 pub lengths-are : (L : Lent) (first r : Bool)
@@ -91,7 +91,7 @@ abbrev pub answerBy : Walk → CoeffAnswer
 answerBy (walk.Ended at) = Accepted at
 answerBy (walk.Stopped why) = Refused why
 
-outcome-by : (r : Walk) (log : List ℕ) (G : Grids) (R : Reading) → ReadOf r log G R → record { answer = answerBy r; log = log; grids = G } ≡ outcome R
+outcome-by : (r : Walk) (log : List ℕ) (G : Grids) (R : Reading) → ReadOf r log G R → record { answer = answered (answerBy r); log = log; grids = G } ≡ outcome R
 outcome-by r log G (going us at log₁ G₁ rows left) d = rw (d .answer, d .logged, d .cells)
 outcome-by r log G (refused why at log₁ G₁) d = rw (d .answer, d .logged, d .cells)
 

@@ -7,7 +7,8 @@ use native.Mathlib.Omega.{arith}
 use lib.ListN.{length, getD, set, take, drop, replicate}
 use lib.Seq.{sets, sets-eq, take-all, getD-take, getD-drop}
 use borrow.Author.Tests.{eq-eqb, le-leb}
-use Rattle.refusal.specs.declared.Refusal.the-variants.{Preset, Count}
+use Rattle.refusal.specs.declared.Refusal.the-variants.{Preset}
+use Rattle.refusal.specs.Said as refusals
 use Rattle.bits.specs.Bits.{Value, readBits, bitsOf, valueOf}
 use Rattle.bits.specs.Exponent.{exponent, exponentFrom}
 use Rattle.bits.specs.Signed.{unpackSigned}
@@ -27,8 +28,8 @@ use Rattle.hf_coeff_walk.specs.Places.{paired, placesOf}
 use Rattle.hf_coeff_walk.specs.Item.{counted}
 use Rattle.hf_coeff_group.specs.Pass.{Pass, varblocks, itemOf, itemsOf}
 use Rattle.hf_coeff_group.specs.Group.{Reading, going, item, read, group-items}
-use Rattle.hf_coeff.specs.declared.CoeffAnswer.the-variants.{Accepted, Refused}
-use Rattle.hf_coeff.specs.Call.{Lent, Outcome, lent, leaves, lengthsFit, layoutFits, sidesFit, presetMap, reading, outcome, refuse, readPreset, call}
+use Rattle.hf_coeff.specs.declared.CoeffAnswer.the-variants.{Accepted}
+use Rattle.hf_coeff.specs.Call.{Lent, reads, refuses, Outcome, lent, leaves, lengthsFit, layoutFits, sidesFit, presetMap, reading, outcome, refuse, readPreset, call}
 use Rattle.hf_coeff.specs.CallLaws.{call-preset, call-reads}
 use Rattle.hf_coeff.specs.CallSteps.{Passed}
 use Rattle.one_to_one.specs.Plain.{store, store-long, store-fits, order-0, order-2, plain}
@@ -99,13 +100,13 @@ no-bits bytes = rw (le-leb 0 (length (bitsOf bytes)) (omega arith))
 -- M9
 count-252 : (stretch log g0 g1 g2 : List ℕ)
     → outcome (read 0 15 stretch (itemsOf square (varblocks square))
-    (going (252 ∷ (replicate 252 2 ++ (0 ∷ 0 ∷ []))) 0 log (g0 ∷ g1 ∷ g2 ∷ []) ((0 ∷ 0 ∷ []) ∷ (0 ∷ 0 ∷ []) ∷ (0 ∷ 0 ∷ []) ∷ []) 0)) .answer ≡ Accepted 255
+    (going (252 ∷ (replicate 252 2 ++ (0 ∷ 0 ∷ []))) 0 log (g0 ∷ g1 ∷ g2 ∷ []) ((0 ∷ 0 ∷ []) ∷ (0 ∷ 0 ∷ []) ∷ (0 ∷ 0 ∷ []) ∷ []) 0)) .answer ≡ reads 255
 unfolding itemsOf itemOf placesOf paired natural cornersRow cornersFrom orderOf turns wide high TRANSFORMS read item counted walk coeffContext FREQ NUM-NONZERO unpackSigned contextsOf sizeOf above lfIndexIn placeOf
 count-252 stretch log g0 g1 g2 = rw (order-2 0 (omega arith), order-2 1 (omega arith), order-2 2 (omega arith))
 
 count-253 : (stretch us log g0 g1 g2 : List ℕ)
     → outcome (read 0 15 stretch (itemsOf square (varblocks square)) (going (253 ∷ us) 0 log (g0 ∷ g1 ∷ g2 ∷ []) ((0 ∷ 0 ∷ []) ∷ (0 ∷ 0 ∷ []) ∷ (0 ∷ 0 ∷ []) ∷ []) 0)) .answer
-    ≡ Refused (Count 1)
+    ≡ refuses (refusals.at 16 1 0)
 unfolding itemsOf itemOf cornersRow cornersFrom wide high TRANSFORMS read item counted
 count-253 stretch us log g0 g1 g2 = refl
 
@@ -162,11 +163,11 @@ module _ (map log g0 g1 g2 : List ℕ) (room : Room 1 4 map log g0 g1 g2) where
       ∙ ap (λ (m : List ℕ). read 0 15 m (itemsOf square (varblocks square)) start) (whole 7425 map (room .entries)))
 
   -- count 252 passes: accepted, with as many symbols that are not 0
-  pub passes-252 : call (dct16 map (252 ∷ (replicate 252 2 ++ (0 ∷ 0 ∷ []))) log g0 g1 g2) .answer ≡ Accepted 255
+  pub passes-252 : call (dct16 map (252 ∷ (replicate 252 2 ++ (0 ∷ 0 ∷ []))) log g0 g1 g2) .answer ≡ reads 255
   passes-252 = ap (λ (o : Outcome). o .answer) (dct16-call (252 ∷ (replicate 252 2 ++ (0 ∷ 0 ∷ [])))) ∙ count-252 map log g0 g1 g2
 
   -- count 253 is refused, whatever follows
-  pub refuses-253 : (us : List ℕ) → call (dct16 map (253 ∷ us) log g0 g1 g2) .answer ≡ Refused (Count 1)
+  pub refuses-253 : (us : List ℕ) → call (dct16 map (253 ∷ us) log g0 g1 g2) .answer ≡ refuses (refusals.at 16 1 0)
   refuses-253 us = ap (λ (o : Outcome). o .answer) (dct16-call (253 ∷ us)) ∙ count-253 map us log g0 g1 g2
 
 module _ (map log g0 g1 g2 : List ℕ) (room : Room 1 1 map log g0 g1 g2) where

@@ -7,7 +7,7 @@ use lib.IntN.{pos, negsuc}
 use lib.ListN.{length, getD, take, drop, replicate}
 use lib.Ieee.{Float, fin, le, lt, eq, mul, div, ofInt, round, size, span, climb, units, odd}
 use lib.Count.{trailingZeros}
-use Rattle.refusal.specs.declared.Refusal.the-variants.{Preset, Count}
+use Rattle.refusal.specs.declared.Refusal.the-variants.{Preset}
 use Rattle.refusal.specs.Said.{at}
 use Rattle.bits.specs.Bits.{Value}
 use Rattle.dct_select.specs.Transforms.{TRANSFORMS, wide, high}
@@ -25,8 +25,8 @@ use Rattle.accepted_layout.specs.Marked.{off, varblock, m4, m4-varblocks, m4-ar
 use Rattle.hf_pass_store.specs.Store.{PLACES, stretch}
 use Rattle.hf_pass.specs.Call.{parsed}
 use Rattle.hf_pass.specs.Marked.{m1, m2}
-use Rattle.hf_coeff.specs.declared.CoeffAnswer.the-variants.{Accepted, Refused}
-use Rattle.hf_coeff.specs.Call.{leaves, outcome, refuse, readPreset, call, reading as readingWith}
+use Rattle.hf_coeff.specs.declared.CoeffAnswer.the-variants.{Accepted}
+use Rattle.hf_coeff.specs.Call.{reads, refuses, leaves, outcome, refuse, readPreset, call, reading as readingWith}
 use Rattle.marked.specs.Orders.{one-digit}
 use Rattle.marked.specs.Coefficients.{gains, dct8, dct16, Room, passes-252, refuses-253, reads-two-bits, refuses-3, takes-others, six-symbols}
 
@@ -84,8 +84,8 @@ M8 = (nearest 16777217 ≡ fin false 1 (pos 24)) × (on one one 1 16777216 .sigm
 -- M9 count 252 for type 4 passes, 253 refused: 252, as many symbols that are not 0, and counts 0 for the other channels are accepted
 abbrev pub M9 : Type 0
 M9 = (map log g0 g1 g2 : List ℕ) → Room 1 4 map log g0 g1 g2
-    → (call (dct16 map (252 ∷ (replicate 252 2 ++ (0 ∷ 0 ∷ []))) log g0 g1 g2) .answer ≡ Accepted 255)
-    × ((us : List ℕ) → call (dct16 map (253 ∷ us) log g0 g1 g2) .answer ≡ Refused (Count 1))
+    → (call (dct16 map (252 ∷ (replicate 252 2 ++ (0 ∷ 0 ∷ []))) log g0 g1 g2) .answer ≡ reads 255)
+    × ((us : List ℕ) → call (dct16 map (253 ∷ us) log g0 g1 g2) .answer ≡ refuses (at 16 1 0))
 
 -- M10 three presets: two bits, 3 refused (14, two bits read, nothing written), 0 to 2 read with
 abbrev pub M10 : Type 0

@@ -3,7 +3,7 @@ use block_check::Group;
 use block_context::HfBlockContext;
 use hf_coeff::CoeffAnswer;
 ghost use mathlib.Core.Path.{_≡_};
-ghost use Rattle.hf_coeff.specs.Call.{passWith, lent, call};
+ghost use Rattle.hf_coeff.specs.Call.{answered, passWith, lent, call};
 ghost use Rattle.netbuff_coefficients.specs.Coefficients.{contextsOf, coeffFacts, handedCoeff, CoeffLeaves};
 
 // What the call hands out: the symbols read, or a refusal.
@@ -15,7 +15,7 @@ pub struct CoeffFacts {
 }
 
 fn coeff_facts(answer: CoeffAnswer) -> CoeffFacts
-    ensures { λ r. ⌜ r ≡ handedCoeff answer ⌝ }
+    ensures { λ r. ⌜ r ≡ handedCoeff (answered answer) ⌝ }
 {
     match answer {
         CoeffAnswer::Accepted(read) => CoeffFacts {

@@ -1,8 +1,8 @@
 // C interface: the context call.
 use hf_block_context::ContextAnswer;
 ghost use mathlib.Core.Path.{_≡_};
-ghost use Rattle.hf_block_context.specs.Call.{recordOf, parsed};
-ghost use Rattle.netbuff_contexts.specs.Contexts.{answered, numbers, handed, contextHanded};
+ghost use Rattle.hf_block_context.specs.Call.{answered, recordOf, parsed};
+ghost use Rattle.netbuff_contexts.specs.Contexts.{told, numbers, handed, contextHanded};
 
 // What the call hands out beside the record: 0 and the bits read, or the refusal.
 pub struct ContextNumbers {
@@ -13,7 +13,7 @@ pub struct ContextNumbers {
 }
 
 fn context_numbers(answer: ContextAnswer) -> ContextNumbers
-    ensures { λ r. ⌜ r ≡ answered answer ⌝ }
+    ensures { λ r. ⌜ r ≡ told (answered answer) ⌝ }
 {
     match answer {
         ContextAnswer::Accepted(bits_read) => ContextNumbers {

@@ -2,7 +2,7 @@
 use hf_pass::OrdersAnswer;
 ghost use mathlib.Core.Path.{_≡_};
 ghost use lib.ListN.{length};
-ghost use Rattle.hf_pass.specs.Call.{parsed};
+ghost use Rattle.hf_pass.specs.Call.{answered, parsed};
 ghost use Rattle.hf_pass_store.specs.Store.{placesFit};
 ghost use Rattle.hf_pass_store.specs.LookedUp.{stretchAt, stretchFrom};
 ghost use Rattle.netbuff_orders.specs.Orders.{handed, outcome};
@@ -16,7 +16,7 @@ pub struct OrdersOutcome {
 }
 
 fn orders_outcome(answer: OrdersAnswer) -> OrdersOutcome
-    ensures { λ r. ⌜ r ≡ handed answer ⌝ }
+    ensures { λ r. ⌜ r ≡ handed (answered answer) ⌝ }
 {
     match answer {
         OrdersAnswer::Accepted(read) => OrdersOutcome {

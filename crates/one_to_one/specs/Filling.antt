@@ -8,8 +8,7 @@ use Prim.Native.Nat.{ℕ, _+_, _*_, _/_, _%_, _^_, _<_, _≤_}
 use lib.Dec.{leb}
 use lib.Ieee.{Float}
 use lib.ListN.{length, getD}
-use Rattle.refusal.specs.declared.Refusal.{Refusal}
-use Rattle.refusal.specs.Said.{said}
+use Rattle.refusal.specs.declared.Said.{Said}
 use Rattle.bits.specs.Bits.{Value}
 use Rattle.bits.specs.Numbers.{Bytes}
 use Rattle.dct_select.specs.Transforms.{wide, high}
@@ -20,14 +19,12 @@ use Rattle.accepted_layout.specs.Theorems.{bwOf, bhOf}
 use Rattle.block_check.specs.Calls.{gives}
 use Rattle.block_record.specs.Calls.{group, outcome, cutOf}
 use Rattle.block_context.specs.Record.{fit}
-use Rattle.hf_block_context.specs.declared.ContextAnswer.the-variants as context
+use Rattle.hf_block_context.specs.Call as context
 use Rattle.hf_block_context.specs.Call.{parsed}
 use Rattle.hf_pass.specs.Wrote.{Wrote}
 use Rattle.hf_coeff_group.specs.Pass.{Pass, varblocks}
 use Rattle.hf_coeff_group.specs.Group.{Grids}
-use Rattle.hf_coeff.specs.declared.CoeffAnswer.{CoeffAnswer}
-use Rattle.hf_coeff.specs.declared.CoeffAnswer.the-variants.{Accepted, Refused}
-use Rattle.hf_coeff.specs.Call.{Lent, sidesFit, lengthsFit, readPreset, leftover, call}
+use Rattle.hf_coeff.specs.Call.{Lent, Answer, reads, refuses, sidesFit, lengthsFit, readPreset, leftover, call}
 
 -- Varblocks and cells.
 
@@ -120,7 +117,7 @@ pub record Given (L : Lent) : Type 0 where
   pub count : ℕ
   pub map : List ℕ
   pub bitsRead : ℕ
-  pub contexts : parsed bytes count map .answer ≡ context.Accepted bitsRead
+  pub contexts : parsed bytes count map .answer ≡ context.reads bitsRead
   pub record-is : L .pass .contexts ≡ parsed bytes count map .contexts
   -- the store of an accepted order call
   pub wrote : Wrote (L .pass .store)
@@ -154,27 +151,27 @@ withSymbols L s = record {
 
 -- symbols s are accepted, read to the last symbol with every count used up, and end in the grids W
 pub record Fills (L : Lent) (s : List ℕ) (W : Grids) : Type 0 where
-  pub accepted : call (withSymbols L s) .answer ≡ Accepted (length s)
+  pub accepted : call (withSymbols L s) .answer ≡ reads (length s)
   pub used : leftover (withSymbols L s) ≡ 0
   pub grids : call (withSymbols L s) .grids ≡ W
 
 -- symbols s are refused, or have symbols left unread, or leave a count not used up, or end in other grids
 pub data Fails (L : Lent) (s : List ℕ) (W : Grids) : Type 0 where
-  refused : (why : Refusal) → call (withSymbols L s) .answer ≡ Refused why → Fails L s W
-  unread : (n : ℕ) → n < length s → call (withSymbols L s) .answer ≡ Accepted n → Fails L s W
+  refused : (why : Said) → call (withSymbols L s) .answer ≡ refuses why → Fails L s W
+  unread : (n : ℕ) → n < length s → call (withSymbols L s) .answer ≡ reads n → Fails L s W
   leftOver : 0 < leftover (withSymbols L s) → Fails L s W
   otherGrids : (call (withSymbols L s) .grids ≡ W → ⊥) → Fails L s W
 
 -- Symbols read and log, of every call.
 
 -- the symbols read that a refusal of the coefficient call hands back: 15 to 17 tell them, all others come before the first symbol
-abbrev pub told : Refusal → ℕ
-told why = cond (leb 15 (said why .number) && leb (said why .number) 17) (said why .x) 0
+abbrev pub told : Said → ℕ
+told why = cond (leb 15 (why .number) && leb (why .number) 17) (why .x) 0
 
 -- symbols read, as the answer tells them
-abbrev pub symbolsRead : CoeffAnswer → ℕ
-symbolsRead (Accepted n) = n
-symbolsRead (Refused why) = told why
+abbrev pub symbolsRead : Answer → ℕ
+symbolsRead (reads n) = n
+symbolsRead (refuses why) = told why
 
 -- the call with another log
 abbrev pub withLog : Lent → List ℕ → Lent

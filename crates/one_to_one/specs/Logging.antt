@@ -10,6 +10,7 @@ use lib.ListN.{length, getD, set, length-append}
 use lib.Seq.{sets}
 use Rattle.refusal.specs.declared.Refusal.{Refusal}
 use Rattle.refusal.specs.declared.Refusal.the-variants.{SymbolsEnd, Count, TooManyZeros}
+use Rattle.refusal.specs.Said.{said}
 use Rattle.hf_coeff_walk.specs.Walk.{Walked, ended, stopped, walk, coeffContext, flag, less, gain}
 use Rattle.hf_coeff_walk.specs.Item.{Item, counted, newRow, coeffPart, countCluster}
 use Rattle.hf_coeff_group.specs.Group.{Grids, Reading, going, refused, after, item, read, readOf}
@@ -17,9 +18,9 @@ use Rattle.one_to_one.specs.Filling.{told}
 
 -- a refusal after so many symbols, of all that there are: it tells them, and 15 comes only when none is left
 pub record Stop (all : ℕ) (why : ℕ → Refusal) (at : ℕ) : Type 0 where
-  pub tells : told (why at) ≡ at
+  pub tells : told (said (why at)) ≡ at
   pub there : at ≤ all
-  pub none : (n : ℕ) → why at ≡ SymbolsEnd n → at ≡ all
+  pub none : said (why at) .number ≡ 15 → at ≡ all
 
 -- One channel.
 abbrev atOf : Walked → ℕ
@@ -54,13 +55,13 @@ stops : (most all at : ℕ) (why : ℕ → Refusal) (g : List ℕ) → Stop all 
 stops most all at why g s = record { clusters = []; to = stopped why at [] g; is = λ log. refl; each = omega arith; few = omega arith; tells = s }
 
 symbols-end : (at : ℕ) → Stop (at + 0) SymbolsEnd at
-symbols-end at = record { tells = refl; there = omega arith; none = λ n e. omega arith }
+symbols-end at = record { tells = refl; there = omega arith; none = λ e. omega arith }
 
 too-many-zeros : (all at : ℕ) → at ≤ all → Stop all TooManyZeros at
-too-many-zeros all at h = record { tells = refl; there = h; none = λ n e. absurd (let z : _≡_ {A = ℕ} 0 1 = cc in omega arith) }
+too-many-zeros all at h = record { tells = refl; there = h; none = λ e. absurd (let z : _≡_ {A = ℕ} 17 15 = e in omega arith) }
 
 count-refused : (all at : ℕ) → at ≤ all → Stop all Count at
-count-refused all at h = record { tells = refl; there = h; none = λ n e. absurd (let z : _≡_ {A = ℕ} 0 1 = cc in omega arith) }
+count-refused all at h = record { tells = refl; there = h; none = λ e. absurd (let z : _≡_ {A = ℕ} 16 15 = e in omega arith) }
 
 -- a cluster was logged before
 later : (most all at k : ℕ) (f : List ℕ → Walked) → Logs most all (at + 1) f → Logs (suc most) all at (λ log. f (set log at k))

@@ -11,7 +11,9 @@ use lib.Pow.{pow-pos}
 use lib.ListN.{length, drop, length-drop, length-append}
 use lib.Seq.{sets, sets-eq, drop-at}
 use Rattle.refusal.specs.declared.Refusal.{Refusal}
-use Rattle.refusal.specs.declared.Refusal.the-variants.{SymbolsEnd}
+use Rattle.refusal.specs.declared.Said.{Said}
+use Rattle.refusal.specs.Said.{said}
+use Rattle.refusal.specs.Said as refusals
 use Rattle.dct_select.specs.Transforms.{wide, high, orderOf, turns}
 use Rattle.dct_select.specs.BlockSizes.{widthOf, heightOf}
 use Rattle.layout.specs.Grid.{at}
@@ -25,8 +27,7 @@ use Rattle.hf_coeff_group.specs.Pass.{Pass, varblocks, blocksOf, placesAt, item
 use Rattle.hf_coeff_group.specs.Group.{Reading, going, refused, read, readOf, group-items}
 use Rattle.hf_coeff_group.specs.Sizes.{logOf, order-lt, log-blocks, Sides, swapped, straight, sides-of}
 use Rattle.hf_coeff_group.specs.Stored.{stretch-long}
-use Rattle.hf_coeff.specs.declared.CoeffAnswer.the-variants.{Refused}
-use Rattle.hf_coeff.specs.Call.{Lent, Outcome, blocks, clustersOf, rowsOf, presetMap, reading, outcome, refuse, call}
+use Rattle.hf_coeff.specs.Call.{Lent, refuses, Outcome, blocks, clustersOf, rowsOf, presetMap, reading, outcome, refuse, call}
 use Rattle.hf_coeff.specs.CallSteps.{Passed}
 use Rattle.hf_coeff.specs.Fits.{lengths-fit}
 use Rattle.one_to_one.specs.Rectangles.{known}
@@ -87,11 +88,14 @@ pub record Tied (L : Lent) : Type 0 where
   pub most : length clusters ≤ 192 * blocks (L .pass)
   pub there : length clusters ≤ length (L .symbols)
   pub room : length clusters ≤ length (L .log)
-  pub none : (n : ℕ) → call L .answer ≡ Refused (SymbolsEnd n) → n ≡ length (L .symbols)
+  pub none : (n : ℕ) → call L .answer ≡ refuses (refusals.at 15 n 0) → n ≡ length (L .symbols)
   pub logs : (log : List ℕ) → length log ≡ length (L .log)
       → call (withLog L log) ≡ record { answer = call L .answer; log = clusters ++ drop (length clusters) log; grids = call L .grids }
 
-by-refusal : (L : Lent) (why : Refusal) → told why ≡ 0 → ((n : ℕ) → why ≡ SymbolsEnd n → ⊥)
+number-of : (a b : Said) → refuses a ≡ refuses b → a .number ≡ b .number
+number-of a b e = let f : a ≡ b = cc in ap (λ (s : Said). s .number) f
+
+by-refusal : (L : Lent) (why : Refusal) → told (said why) ≡ 0 → (said why .number ≡ 15 → ⊥)
     → ((log : List ℕ) → length log ≡ length (L .log) → call (withLog L log) ≡ refuse (withLog L log) why) → Tied L
 by-refusal L why t n e =
     let c : call L ≡ refuse L why = e (L .log) refl in
@@ -101,7 +105,7 @@ by-refusal L why t n e =
       most = omega arith;
       there = omega arith;
       room = omega arith;
-      none = λ m f. absurd (n m (let a : Refused why ≡ Refused (SymbolsEnd m) = sym (ap (λ (o : Outcome). o .answer) c) ∙ f in cc));
+      none = λ m f. absurd (n (number-of (said why) (refusals.at 15 m 0) (sym (ap (λ (o : Outcome). o .answer) c) ∙ f)));
       logs = λ log l. e log l ∙ ap (λ (o : Outcome). record { answer = o .answer; log = log; grids = o .grids }) (sym c);
     }
 
@@ -117,11 +121,11 @@ outcome-there : (all : ℕ) (r : Reading) → TellsAll all r → readOf r ≤ al
 outcome-there all (going us at l G rows left) t = omega arith
 outcome-there all (refused why at l G) t = t .there
 
-outcome-none : (all : ℕ) (r : Reading) → TellsAll all r → (n : ℕ) → outcome r .answer ≡ Refused (SymbolsEnd n) → n ≡ all
+outcome-none : (all : ℕ) (r : Reading) → TellsAll all r → (n : ℕ) → outcome r .answer ≡ refuses (refusals.at 15 n 0) → n ≡ all
 outcome-none all (going us at l G rows left) t n e = absurd (let z : _≡_ {A = ℕ} 0 1 = cc in omega arith)
 outcome-none all (refused why at l G) t n e =
-    let a : why at ≡ SymbolsEnd n = cc in
-    let b : at ≡ all = t .none n a in
+    let a : said (why at) ≡ refusals.at 15 n 0 = cc in
+    let b : at ≡ all = t .none (ap (λ (s : Said). s .number) a) in
     sym (ap told a) ∙ t .tells ∙ b
 
 module _ (L : Lent) (passed : Passed L) where
@@ -183,7 +187,7 @@ module _ (L : Lent) where
   never-more = let t = tied in let e = t .each in let m = t .there in omega arith
 
   -- "symbols end" is said only with no symbol unread
-  pub symbols-ended : (k : ℕ) → call L .answer ≡ Refused (SymbolsEnd k) → k ≡ length (L .symbols)
+  pub symbols-ended : (k : ℕ) → call L .answer ≡ refuses (refusals.at 15 k 0) → k ≡ length (L .symbols)
   symbols-ended k e = tied .none k e
 
   -- the log is as long as before

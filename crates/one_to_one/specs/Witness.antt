@@ -15,7 +15,7 @@ use Rattle.dct_select.specs.Transforms.{TRANSFORMS, wide, high, orderOf, turns}
 use Rattle.natural_order.specs.Natural.{natural}
 use Rattle.layout.specs.Walk.{cells, rows}
 use Rattle.layout.specs.Varblocks.{Varblock, cornersRow, cornersFrom}
-use Rattle.layout.specs.Grid.{rowOf, gridFrom, paint}
+use Rattle.layout.specs.Grid.{rowOf, gridFrom, fillFrom}
 use Rattle.layout.specs.Cut.{cut, groupX, groupY}
 use Rattle.layout.specs.Check.{clear, fitting, visitCell, checkRun}
 use Rattle.lf_group.specs.Blocks.{wideIn, highIn}
@@ -84,7 +84,7 @@ zero-cells (suc (suc (suc c))) p = omega arith
 
 -- the cut call writes the one group there is
 cut-checked : cutCheck (bwOf columns) (bhOf columns) (2 ∷ []) (1 ∷ []) 0 1 1 ≡ gives tt
-unfolding cutCheck inLimits32 lengthsFit2 wideIn highIn groupX groupY checkRun rows cells visitCell fitting clear wide high TRANSFORMS paint
+unfolding cutCheck inLimits32 lengthsFit2 wideIn highIn groupX groupY checkRun rows cells visitCell fitting clear wide high TRANSFORMS fillFrom
 cut-checked = refl
 
 cut-accepted : cutOf (bwOf columns) (bhOf columns) (2 ∷ []) (1 ∷ []) 0 (0 ∷ []) (0 ∷ []) ≡ outcome (gives (group 1 1)) (2 ∷ []) (1 ∷ [])
