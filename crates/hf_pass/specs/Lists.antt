@@ -11,14 +11,14 @@ use lib.ListN.{length, getD, take, drop, length-drop, drop-of-length-le, replica
 use lib.Seq.{drop-cons, length-take-le, take-all, drop-length}
 use borrow.Author.Tests.{lt-ltb, le-leb, lt-leb}
 use Rattle.refusal.specs.declared.Refusal.the-variants as refusal
-use Rattle.natural_order.specs.Places.{Place, flat}
+use Rattle.natural_order.specs.Places.{Place, flat, paired}
 use Rattle.natural_order.specs.Natural.{natural}
 use Rattle.natural_order.specs.Sizes.{Size, not-higher}
 use Rattle.natural_order.specs.Turns.{natural-numbers}
 use Rattle.natural_order.specs.Facts.{natural-facts}
 use Rattle.permutation.specs.Digits.{ordered}
-use Rattle.permutation.specs.Permuted.{leading, unflat, allBelow, permuted}
-use Rattle.permutation.specs.Flat.{unflat-flat}
+use Rattle.permutation.specs.Permuted.{leading, allBelow, permuted}
+use Rattle.natural_order.specs.Flat.{paired-flat}
 use Rattle.permutation.specs.Leading.{leading-most}
 use Rattle.permutation.specs.Permuting.{moved}
 use Rattle.hf_pass.specs.declared.OrdersAnswer.{OrdersAnswer}
@@ -97,8 +97,8 @@ module _ (bw bh : ℕ) (z : Size bw bh) (narrow : bw ≤ 256) (small : bw * bh �
       let inside = natural-facts bw bh z .inside in
       let below = flat-below 256 (natural bw bh) (λ i h. let f = inside i h in (omega (arith, f .0), omega (arith, f .1, not-higher bw bh z))) in
       let e' : leading ds (length l / 2 - bw * bh / 64) ≡ length ds = rw half e in
-      let m = moved l (bw * bh / 64) ds (omega arith) (omega arith) (omega (arith, div-le-self (bw * bh) 64)) below (flat (ordered (0, 0) (bw * bh / 64) (unflat l) ds)) e' refl in
-      sym (m .1) ∙ rw (unflat-flat (natural bw bh))
+      let m = moved l (bw * bh / 64) ds (omega arith) (omega arith) (omega (arith, div-le-self (bw * bh) 64)) below (flat (ordered (0, 0) (bw * bh / 64) (paired l) ds)) e' refl in
+      sym (m .1) ∙ rw (paired-flat (natural bw bh))
 
   module _ (symbols : List ℕ) (start : ℕ) where
     abbrev pub wholeList : Bool → Reading (List Place)

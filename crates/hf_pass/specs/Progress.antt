@@ -57,9 +57,9 @@ module _ (e : Entry) (es : List Entry) (done : List (List Place)) (us : List ℕ
   unfolding onward
   onward-stop why g = rw g
 
-onward-start : (used : ℕ) (us : List ℕ) → onward (plan used BLOCK-SIZES) [] us 0 ≡ orders used us
+onward-start : (used : ℕ) (us : List ℕ) → onward (plan used 0 BLOCK-SIZES) [] us 0 ≡ orders used us
 unfolding onward orders
-onward-start used us = go (lists (plan used BLOCK-SIZES) us 0)
+onward-start used us = go (lists (plan used 0 BLOCK-SIZES) us 0)
   where
     go : (r : Reading (List (List Place))) → then r (λ ls. Given ls) ≡ r
     go (Given ls us at) = refl
@@ -72,14 +72,14 @@ onward-end done us at = ap (λ (ls : List (List Place)). give ls us at) (append-
 third : (i : ℕ) → 3 * (i / 3) + i % 3 ≡ i
 third i = omega arith
 
-entry-at : (used i : ℕ) → i < 39 → drop i (plan used BLOCK-SIZES) ≡ entry (wanted used (i / 3)) (getD BLOCK-SIZES (i / 3) (0, 0)) ∷ drop (i + 1) (plan used BLOCK-SIZES)
+entry-at : (used i : ℕ) → i < 39 → drop i (plan used 0 BLOCK-SIZES) ≡ entry (wanted used (i / 3)) (getD BLOCK-SIZES (i / 3) (0, 0)) ∷ drop (i + 1) (plan used 0 BLOCK-SIZES)
 entry-at used i h =
     let d : Entry = entry false (0, 0) in
-    let n = plan-length used BLOCK-SIZES in
-    let e : getD (plan used BLOCK-SIZES) i d ≡ entry (wanted used (i / 3)) (getD BLOCK-SIZES (i / 3) (0, 0)) =
-    ap (λ (j : ℕ). getD (plan used BLOCK-SIZES) j d) (sym (third i)) ∙ plan-at used BLOCK-SIZES (i / 3) (i % 3) d (omega (arith, sizes-13)) (omega arith) in
-    drop-cons (plan used BLOCK-SIZES) i d (omega (arith, sizes-13))
-    ∙ ap₂ (λ (a : Entry) (j : ℕ). a ∷ drop j (plan used BLOCK-SIZES)) e (sym (add-one i))
+    let n = plan-length used 0 BLOCK-SIZES in
+    let e : getD (plan used 0 BLOCK-SIZES) i d ≡ entry (wanted used (i / 3)) (getD BLOCK-SIZES (i / 3) (0, 0)) =
+    ap (λ (j : ℕ). getD (plan used 0 BLOCK-SIZES) j d) (sym (third i)) ∙ plan-at used BLOCK-SIZES (i / 3) (i % 3) d (omega (arith, sizes-13)) (omega arith) in
+    drop-cons (plan used 0 BLOCK-SIZES) i d (omega (arith, sizes-13))
+    ∙ ap₂ (λ (a : Entry) (j : ℕ). a ∷ drop j (plan used 0 BLOCK-SIZES)) e (sym (add-one i))
 
 -- the natural orders still there
 naturals-length : (ss : List Place) → length (naturals ss) ≡ 3 * length ss
@@ -112,7 +112,7 @@ pub record Progress (used : ℕ) (symbols store : List ℕ) (i at : ℕ) : Type 
   pub size : length store ≡ 787968
   pub behind : take (from i) store ≡ stored done
   pub ahead : drop (from i) store ≡ stored (drop i (naturals BLOCK-SIZES))
-  pub due : onward (drop i (plan used BLOCK-SIZES)) done (drop at symbols) at ≡ orders used symbols
+  pub due : onward (drop i (plan used 0 BLOCK-SIZES)) done (drop at symbols) at ≡ orders used symbols
 
 pub progress-start : (used : ℕ) (symbols store : List ℕ) → store ≡ stored (naturals BLOCK-SIZES) → Progress used symbols store 0 0
 progress-start used symbols store e =
@@ -185,7 +185,7 @@ module _ (used : ℕ) (symbols store : List ℕ) (i at : ℕ) (p : Progress used
         part = rw (e, z, b) q;
       }
 
-  due-now : onward (entry (wanted used (i / 3)) (getD BLOCK-SIZES (i / 3) (0, 0)) ∷ drop (i + 1) (plan used BLOCK-SIZES)) (p .done) (drop at symbols) at ≡ orders used symbols
+  due-now : onward (entry (wanted used (i / 3)) (getD BLOCK-SIZES (i / 3) (0, 0)) ∷ drop (i + 1) (plan used 0 BLOCK-SIZES)) (p .done) (drop at symbols) at ≡ orders used symbols
   due-now = rw (entry-at used i h) at (p .due)
 
   -- a list refused: the call is refused
@@ -195,7 +195,7 @@ module _ (used : ℕ) (symbols store : List ℕ) (i at : ℕ) (p : Progress used
   progress-stop u t part zeros n eu o r z en =
       let o' : Listed (listOf used symbols i at) t part = rw (eu, e) at o in
       let (why, g, f) = refused-of (listOf used symbols i at) t part o' r in
-      let q : orders used symbols ≡ Refused why = sym due-now ∙ onward-stop (entry (wanted used (i / 3)) (getD BLOCK-SIZES (i / 3) (0, 0))) (drop (i + 1) (plan used BLOCK-SIZES)) (p .done) (drop at symbols) at why g in
+      let q : orders used symbols ≡ Refused why = sym due-now ∙ onward-stop (entry (wanted used (i / 3)) (getD BLOCK-SIZES (i / 3) (0, 0))) (drop (i + 1) (plan used 0 BLOCK-SIZES)) (p .done) (drop at symbols) at why g in
       refused-all (orders used symbols) t zeros n why q f z (en ∙ sym places-by)
 
   -- a list read
@@ -234,13 +234,13 @@ module _ (used : ℕ) (symbols store : List ℕ) (i at : ℕ) (p : Progress used
         behind = ap (take (from (i + 1))) w' ∙ take-at (a ++ part) d (from (i + 1)) lb
             ∙ ap₂ (λ (x y : List ℕ). x ++ y) (p .behind) (f ∙ sym (append-nil (flat l))) ∙ sym (stored-append (p .done) (l ∷ []));
         ahead = ap (drop (from (i + 1))) w' ∙ drop-at (a ++ part) d (from (i + 1)) lb ∙ q;
-        due = rw (← v) (sym (onward-step (entry (wanted used k) (getD BLOCK-SIZES k (0, 0))) (drop (i + 1) (plan used BLOCK-SIZES)) (p .done) us at l vs n g) ∙ due-now);
+        due = rw (← v) (sym (onward-step (entry (wanted used k) (getD BLOCK-SIZES k (0, 0))) (drop (i + 1) (plan used 0 BLOCK-SIZES)) (p .done) us at l vs n g) ∙ due-now);
       }
 
 pub progress-end : (used : ℕ) (symbols store : List ℕ) (i at : ℕ) → Progress used symbols store i at → 39 ≤ i → outcome (answer.Accepted at) store ≡ written (orders used symbols)
 progress-end used symbols store i at p h =
     let j : i ≡ 39 = omega (arith, p .fewer) in
-    let z : drop i (plan used BLOCK-SIZES) ≡ [] = let k : length (plan used BLOCK-SIZES) ≤ i = omega (arith, plan-length used BLOCK-SIZES, sizes-13) in drop-of-length-le (plan used BLOCK-SIZES) k in
+    let z : drop i (plan used 0 BLOCK-SIZES) ≡ [] = let k : length (plan used 0 BLOCK-SIZES) ≤ i = omega (arith, plan-length used 0 BLOCK-SIZES, sizes-13) in drop-of-length-le (plan used 0 BLOCK-SIZES) k in
     let e : orders used symbols ≡ Given (p .done) (drop at symbols) at = sym (p .due) ∙ rw z (onward-end (p .done) (drop at symbols) at) in
     let s : store ≡ stored (p .done) = sym (take-all (from 39) store (omega (arith, p .size, from-end))) ∙ ap (λ (k : ℕ). take (from k) store) (sym j) ∙ p .behind in
     rw (e, ← s)

@@ -8,13 +8,13 @@ use native.Mathlib.Omega.{arith}
 use lib.Dec.{ltb}
 use lib.ListN.{length, getD, take, drop, set, length-set, length-append, length-drop, drop-of-length-le, take-append-drop}
 use lib.Seq.{drop-cons, drop-drop, drop-at, take-all, take-append-le, take-take, take-suc-set, drop-set-lt, length-take-le, paste, take-paste, drop-paste, length-paste}
-use Rattle.natural_order.specs.Places.{Place, flat}
+use Rattle.natural_order.specs.Places.{Place, flat, paired}
 use Rattle.natural_order.specs.Bools.{and-right}
 use Rattle.permutation.specs.Digits.{without, chosen, ordered, Below}
 use Rattle.permutation.specs.Chosen.{without-length}
 use Rattle.permutation.specs.Numbers.{map-chosen}
-use Rattle.permutation.specs.Permuted.{unflat, allBelow}
-use Rattle.permutation.specs.Flat.{unflat-length, flat-unflat}
+use Rattle.permutation.specs.Permuted.{allBelow}
+use Rattle.natural_order.specs.Flat.{paired-length, flat-paired}
 use Rattle.permutation.specs.Leading.{below-next}
 use Rattle.permutation.specs.Blocks.{remaining, Blocks, sumTo, total, counts, closed, closedAt, remaining-length, block-room, block-most, taken-out, counts-start, counts-length, sum-step}
 use Rattle.permutation.specs.Packed.{packed, unpacked, code, decode, below-at}
@@ -228,8 +228,8 @@ lay-done from at count l₀ l to start b p m h =
     (p .long, rw (← r') (sym (append-nil (take to l)) ∙ s))
 
 -- no digit, nothing moved
-pub none-drawn : (size skip : ℕ) (ds l : List ℕ) → length ds ≡ 0 → length l ≡ 2 * size → l ≡ flat (ordered (0, 0) skip (unflat l) ds)
-none-drawn size skip [] l e n = sym (ap flat (take-append-drop skip (unflat l)) ∙ flat-unflat l size n)
+pub none-drawn : (size skip : ℕ) (ds l : List ℕ) → length ds ≡ 0 → length l ≡ 2 * size → l ≡ flat (ordered (0, 0) skip (paired l) ds)
+none-drawn size skip [] l e n = sym (ap flat (take-append-drop skip (paired l)) ∙ flat-paired l size n)
 none-drawn size skip (d ∷ ds) l e n = absurd (omega arith)
 
 -- the whole
@@ -239,8 +239,8 @@ decode-code p a b =
     let y : (p .0 + 256 * p .1) / 256 ≡ p .1 = omega arith in
     ap₂ (λ (u v : ℕ). (u, v)) x y
 
-unpack-pack : (l : List ℕ) (n : ℕ) → length l ≡ 2 * n → allBelow 256 l ≡ true → map decode (map code (unflat l)) ≡ unflat l
-unfolding unflat allBelow
+unpack-pack : (l : List ℕ) (n : ℕ) → length l ≡ 2 * n → allBelow 256 l ≡ true → map decode (map code (paired l)) ≡ paired l
+unfolding paired allBelow
 unpack-pack [] n e t = refl
 unpack-pack (x ∷ []) n e t = absurd (omega arith)
 unpack-pack (x ∷ y ∷ r) n e t =
@@ -264,13 +264,13 @@ packed-length [] = refl
 packed-length (p ∷ l) = ap suc (packed-length l)
 
 module _ (size skip : ℕ) (ds l₀ : List ℕ) (n : length l₀ ≡ 2 * size) (s : size ≤ 65536) (h : skip ≤ size) (t : allBelow 256 l₀ ≡ true) (b : Below ds (size - skip)) where
-  pub all-drawn : (l₁ l₂ count l₃ l₄ l₅ : List ℕ) → length l₁ ≡ 2 * size → drop size l₁ ≡ packed (unflat l₀) → l₂ ≡ paste l₁ 0 (drop size l₁) skip
+  pub all-drawn : (l₁ l₂ count l₃ l₄ l₅ : List ℕ) → length l₁ ≡ 2 * size → drop size l₁ ≡ packed (paired l₀) → l₂ ≡ paste l₁ 0 (drop size l₁) skip
       → Drawn size skip ds l₂ count l₃ → take (skip + length ds + total count) l₄ ≡ take (skip + length ds) l₃ ++ remaining 1024 count (drop (size + skip) l₃)
-      → l₅ ≡ flat (unpacked (take size l₄)) → l₅ ≡ flat (ordered (0, 0) skip (unflat l₀) ds)
+      → l₅ ≡ flat (unpacked (take size l₄)) → l₅ ≡ flat (ordered (0, 0) skip (paired l₀) ds)
   unfolding packed unpacked
   all-drawn l₁ l₂ count l₃ l₄ l₅ n₁ e₁ e₂ d e₄ e₅ =
-      let pk = map code (unflat l₀) in
-      let lp : length pk ≡ size = packed-length (unflat l₀) ∙ unflat-length l₀ size n in
+      let pk = map code (paired l₀) in
+      let lp : length pk ≡ size = packed-length (paired l₀) ∙ paired-length l₀ size n in
       let y : 0 + skip ≡ skip = omega arith in
       let t₂ : take skip l₂ ≡ take skip pk =
       ap (take skip) e₂ ∙ ap (λ (j : ℕ). take j (paste l₁ 0 (drop size l₁) skip)) (sym y) ∙ take-paste l₁ 0 (drop size l₁) skip (omega arith) (omega (arith, length-drop size l₁)) ∙ ap (take skip) e₁ in
@@ -283,7 +283,7 @@ module _ (size skip : ℕ) (ds l₀ : List ℕ) (n : length l₀ ≡ 2 * size) (
       ap (λ (j : ℕ). take j l₄) (sym (d .left)) ∙ e₄ ∙ d .same ∙ ap₂ (λ (u v : List ℕ). u ++ chosen 0 ds v) t₂ d₂ in
       let back = unpack-pack l₀ size n t in
       let ld : length (drop skip pk) ≡ size - skip = length-drop skip pk ∙ ap (λ (j : ℕ). j - skip) lp in
-      let f : map decode (take size l₄) ≡ ordered (0, 0) skip (unflat l₀) ds =
+      let f : map decode (take size l₄) ≡ ordered (0, 0) skip (paired l₀) ds =
       ap (map decode) m ∙ map-append decode (take skip pk) (chosen 0 ds (drop skip pk))
       ∙ ap₂ (λ (u v : List Place). u ++ v) (map-take skip pk ∙ ap (take skip) back)
       (map-chosen decode ds (drop skip pk) (rw ld b) ∙ ap (chosen (0, 0) ds) (map-drop skip pk ∙ ap (drop skip) back)) in

@@ -4,7 +4,6 @@ pub mod Permuted
 pub mod Chosen
 pub mod Numbers
 pub mod Leading
-pub mod Flat
 pub mod Permuting
 pub mod Blocks
 pub mod Packed

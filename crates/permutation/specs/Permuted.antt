@@ -4,19 +4,13 @@ use mathlib.Core.List.{List, [], _∷_}
 use Prim.Native.Nat.{ℕ, suc, _-_, _/_, _%_}
 use lib.Dec.{ltb, leb, eqb}
 use lib.ListN.{length}
-use Rattle.natural_order.specs.Places.{Place, flat}
+use Rattle.natural_order.specs.Places.{flat, paired}
 use Rattle.permutation.specs.Digits.{ordered}
 
 -- how many digits, from the front, are below what remains
 unfoldable pub leading : List ℕ → ℕ → ℕ
 leading [] left = 0
 leading (d ∷ ds) left = cond (ltb d left) (suc (leading ds (left - 1))) 0
-
--- the places of a stored list
-unfoldable pub unflat : List ℕ → List Place
-unflat [] = []
-unflat (x ∷ []) = []
-unflat (x ∷ y ∷ r) = (x, y) ∷ unflat r
 
 unfoldable pub allBelow : ℕ → List ℕ → Bool
 allBelow n [] = true
@@ -28,4 +22,4 @@ permutable list skip ds =
     eqb (length list % 2) 0 && (leb (length list / 2) 65536 && (leb skip (length list / 2) && (allBelow 256 list && eqb (leading ds (length list / 2 - skip)) (length ds))))
 
 unfoldable pub permuted : List ℕ → ℕ → List ℕ → List ℕ
-permuted list skip ds = cond (permutable list skip ds) (flat (ordered (0, 0) skip (unflat list) ds)) list
+permuted list skip ds = cond (permutable list skip ds) (flat (ordered (0, 0) skip (paired list) ds)) list

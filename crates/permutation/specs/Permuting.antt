@@ -6,10 +6,10 @@ use Prim.Native.Nat.{ℕ, _-_, _/_, _%_, _<_, _≤_}
 use lib.Dec.{leb, eqb}
 use lib.ListN.{length}
 use borrow.Author.Tests.{eq-eqb, ne-eqb, le-leb, lt-leb}
-use Rattle.natural_order.specs.Places.{flat}
+use Rattle.natural_order.specs.Places.{flat, paired}
 use Rattle.natural_order.specs.Bools.{and-false}
 use Rattle.permutation.specs.Digits.{ordered}
-use Rattle.permutation.specs.Permuted.{leading, unflat, allBelow, permutable, permuted}
+use Rattle.permutation.specs.Permuted.{leading, allBelow, permutable, permuted}
 
 module _ (list : List ℕ) (skip : ℕ) (ds : List ℕ) where
   -- refused: the answer is false and the list stays
@@ -63,6 +63,6 @@ module _ (list : List ℕ) (skip : ℕ) (ds : List ℕ) where
                 eq-eqb (leading ds (length list / 2 - skip)) (length ds) e,
               )
 
-          pub moved : (m : List ℕ) → leading ds (length list / 2 - skip) ≡ length ds → m ≡ flat (ordered (0, 0) skip (unflat list) ds) → (true ≡ permutable list skip ds) × (m ≡ permuted list skip ds)
+          pub moved : (m : List ℕ) → leading ds (length list / 2 - skip) ≡ length ds → m ≡ flat (ordered (0, 0) skip (paired list) ds) → (true ≡ permutable list skip ds) × (m ≡ permuted list skip ds)
           unfolding permuted
           moved m e f = (sym (all-fit e), rw (all-fit e) f)

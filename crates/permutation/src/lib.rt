@@ -6,9 +6,9 @@ ghost use Prim.Native.Nat.{ℕ, _+_, _-_, _*_, _≤_, _<_, min};
 ghost use lib.Dec.{ltb};
 ghost use lib.ListN.{length, getD, take, drop};
 ghost use lib.Seq.{paste};
-ghost use Rattle.natural_order.specs.Places.{flat};
+ghost use Rattle.natural_order.specs.Places.{flat, paired};
 ghost use Rattle.permutation.specs.Digits.{Below, ordered};
-ghost use Rattle.permutation.specs.Permuted.{leading, unflat, allBelow, permutable, permuted};
+ghost use Rattle.permutation.specs.Permuted.{leading, allBelow, permutable, permuted};
 ghost use Rattle.permutation.specs.Blocks.{total, sumTo, counts, remaining};
 ghost use Rattle.permutation.specs.Drawing.{Ready, Out, Drawn};
 ghost use Rattle.permutation.specs.Packed.{packed, unpacked};
@@ -58,7 +58,7 @@ fn all_below(list: &[u16], n: u16) -> bool
 // x and y below 256 as one number, in the upper half of the list.
 fn pack(list: &mut [u16], size: usize)
     requires { ⌜ (length (now list) ≡ 2 * size) × (size ≤ 65536) × (allBelow 256 (now list) ≡ true) ⌝ }
-    ensures { λ r. ⌜ (length (now (list .exit)) ≡ 2 * size) × (drop size (now (list .exit)) ≡ packed (unflat (now (list .entry)))) ⌝ }
+    ensures { λ r. ⌜ (length (now (list .exit)) ≡ 2 * size) × (drop size (now (list .exit)) ≡ packed (paired (now (list .entry)))) ⌝ }
 {
     let mut i = size;
     while 0 < i {
@@ -238,7 +238,7 @@ fn lay_rest(list: &mut [u16], from: usize, at: usize, count: &[u16; 64])
 
 fn reorder(list: &mut [u16], size: usize, skip: usize, digits: &[u32])
     requires { ⌜ (length (now list) ≡ 2 * size) × (size ≤ 65536) × (skip ≤ size) × (allBelow 256 (now list) ≡ true) × Below (now digits) (size - skip) ⌝ }
-    ensures { λ r. ⌜ now (list .exit) ≡ flat (ordered (0, 0) skip (unflat (now (list .entry))) (now (digits .entry))) ⌝ }
+    ensures { λ r. ⌜ now (list .exit) ≡ flat (ordered (0, 0) skip (paired (now (list .entry))) (now (digits .entry))) ⌝ }
 {
     if digits.len() == 0 {
         return;
