@@ -1,4 +1,4 @@
-// The reading of a pass group, varblock by varblock (`hf_coeff.rs`). For `hf_coeff` alone, which meets what is required here.
+// The reading of a pass group, varblock by varblock (`hf_coeff.rs`). For `hf_coeff_work` alone, which meets what is required here.
 use hf_coeff_walk::Walk;
 
 pub mod channels;
