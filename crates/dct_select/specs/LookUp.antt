@@ -2,7 +2,8 @@
 use mathlib.Core.List.{List, [], _∷_}
 use Prim.Native.Nat.{ℕ}
 use lib.ListN.{getD}
-use Rattle.refusal.specs.declared.Refusal.the-variants.{UnknownTransform}
+use Rattle.refusal.specs.declared.Said.{Said}
+use Rattle.refusal.specs.Said.{at, said}
 use Rattle.dct_select.specs.declared.TransformType.{TransformType}
 use Rattle.dct_select.specs.declared.TransformType.the-variants.{Dct8, Hornuss, Dct2, Dct4, Dct16, Dct32, Dct16x8, Dct8x16, Dct32x8, Dct8x32, Dct32x16, Dct16x32, Dct4x8, Dct8x4, Afv0, Afv1, Afv2, Afv3, Dct64, Dct64x32, Dct32x64, Dct128, Dct128x64, Dct64x128, Dct256, Dct256x128, Dct128x256}
 use Rattle.dct_select.specs.declared.Looked.{Looked}
@@ -42,13 +43,22 @@ numberOf Dct256 = 24
 numberOf Dct256x128 = 25
 numberOf Dct128x256 = 26
 
-abbrev pub known : List Looked
+-- a transform, or a refusal's number and position
+pub data Answer : Type 0 where
+  finds : TransformType → Answer
+  refuses : Said → Answer
+
+abbrev pub answered : Looked → Answer
+answered (Known t) = finds t
+answered (Refused why) = refuses (said why)
+
+abbrev pub known : List Answer
 known =
-    Known Dct8 ∷ Known Hornuss ∷ Known Dct2 ∷ Known Dct4 ∷ Known Dct16 ∷ Known Dct32 ∷ Known Dct16x8 ∷ Known Dct8x16 ∷ Known Dct32x8 ∷ Known Dct8x32 ∷ Known Dct32x16 ∷ Known Dct16x32 ∷ Known Dct4x8 ∷ Known Dct8x4 ∷ Known Afv0 ∷ Known Afv1 ∷ Known Afv2 ∷ Known Afv3 ∷ Known Dct64 ∷ Known Dct64x32 ∷ Known Dct32x64 ∷ Known Dct128 ∷ Known Dct128x64 ∷ Known Dct64x128 ∷ Known Dct256 ∷ Known Dct256x128 ∷ Known Dct128x256 ∷ []
+    finds Dct8 ∷ finds Hornuss ∷ finds Dct2 ∷ finds Dct4 ∷ finds Dct16 ∷ finds Dct32 ∷ finds Dct16x8 ∷ finds Dct8x16 ∷ finds Dct32x8 ∷ finds Dct8x32 ∷ finds Dct32x16 ∷ finds Dct16x32 ∷ finds Dct4x8 ∷ finds Dct8x4 ∷ finds Afv0 ∷ finds Afv1 ∷ finds Afv2 ∷ finds Afv3 ∷ finds Dct64 ∷ finds Dct64x32 ∷ finds Dct32x64 ∷ finds Dct128 ∷ finds Dct128x64 ∷ finds Dct64x128 ∷ finds Dct256 ∷ finds Dct256x128 ∷ finds Dct128x256 ∷ []
 
 -- looked up by itself, a number above 26 is refused with 5 and position 0, 0
-abbrev pub lookUp : ℕ → Looked
-lookUp n = getD known n (Refused (UnknownTransform 0 0))
+abbrev pub lookUp : ℕ → Answer
+lookUp n = getD known n (refuses (at 5 0 0))
 
 abbrev pub sides : ℕ → ℕ → Sides
 sides w h = record { wide = w; high = h }

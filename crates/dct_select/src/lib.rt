@@ -5,7 +5,7 @@ pub mod block_sizes;
 
 ghost use mathlib.Core.Path.{_≡_};
 ghost use Rattle.dct_select.specs.Transforms.{orderOf, turns};
-ghost use Rattle.dct_select.specs.LookUp.{numberOf, lookUp, sizeOf, carriedBy};
+ghost use Rattle.dct_select.specs.LookUp.{numberOf, answered, lookUp, sizeOf, carriedBy};
 
 // Numbered 0 to 26 in this order.
 pub enum TransformType {
@@ -58,7 +58,7 @@ impl TransformType {
 
     // The transform of a number, the whole number counting.
     pub fn from_number(number: u32) -> Looked
-        ensures { λ r. ⌜ r ≡ lookUp number ⌝ }
+        ensures { λ r. ⌜ answered r ≡ lookUp number ⌝ }
     {
         match number {
             0 => Looked::Known(TransformType::Dct8),

@@ -11,11 +11,9 @@ use lib.ListN.{length, getD, drop, List·getD-eq-default}
 use Rattle.laws.specs.Lists.{getD-map, tabulate, getD-tabulate}
 use Rattle.dct_select.specs.declared.TransformType.{TransformType}
 use Rattle.dct_select.specs.declared.TransformType.the-variants.{Dct8, Hornuss, Dct2, Dct4, Dct16, Dct32, Dct16x8, Dct8x16, Dct32x8, Dct8x32, Dct32x16, Dct16x32, Dct4x8, Dct8x4, Afv0, Afv1, Afv2, Afv3, Dct64, Dct64x32, Dct32x64, Dct128, Dct128x64, Dct64x128, Dct256, Dct256x128, Dct128x256}
-use Rattle.dct_select.specs.declared.Looked.{Looked}
-use Rattle.dct_select.specs.declared.Looked.the-variants.{Known, Refused}
-use Rattle.refusal.specs.declared.Refusal.the-variants.{UnknownTransform}
+use Rattle.refusal.specs.Said as refusals
 use Rattle.dct_select.specs.Transforms.{Row, row, TRANSFORMS, wide, high, orderOf, turns}
-use Rattle.dct_select.specs.LookUp.{numberOf, known, lookUp}
+use Rattle.dct_select.specs.LookUp.{Answer, finds, refuses, numberOf, known, lookUp}
 use Rattle.layout.specs.Grid.{at}
 use Rattle.hf_pass_store.specs.Store.{stretch}
 use Rattle.block_context_index.specs.Contexts.{blockContexts}
@@ -95,9 +93,9 @@ number-lt Dct256 = omega arith
 number-lt Dct256x128 = omega arith
 number-lt Dct128x256 = omega arith
 
-abbrev numberBy : Looked → ℕ
-numberBy (Known t) = numberOf t
-numberBy (Refused r) = 27
+abbrev numberBy : Answer → ℕ
+numberBy (finds t) = numberOf t
+numberBy (refuses r) = 27
 
 abbrev same : ℕ → ℕ
 same t = t
@@ -105,13 +103,13 @@ same t = t
 number-at : (t : ℕ) → t < 27 → numberBy (lookUp t) ≡ t
 number-at t h =
     let e : 0 + t ≡ t = omega arith in
-    sym (getD-map numberBy known t (Refused (UnknownTransform 0 0))) ∙ getD-tabulate same 27 0 t 27 h ∙ e
+    sym (getD-map numberBy known t (refuses (refusals.at 5 0 0))) ∙ getD-tabulate same 27 0 t 27 h ∙ e
 
-none-at : (t : ℕ) → 27 ≤ t → lookUp t ≡ Refused (UnknownTransform 0 0)
-none-at t h = List·getD-eq-default known (Refused (UnknownTransform 0 0)) {n = t} h
+none-at : (t : ℕ) → 27 ≤ t → lookUp t ≡ refuses (refusals.at 5 0 0)
+none-at t h = List·getD-eq-default known (refuses (refusals.at 5 0 0)) {n = t} h
 
 -- the number of a known transform is below 27, and of an unknown not
-found : (t n : ℕ) (l : Looked) → lookUp t ≡ l → numberBy l ≡ n → (n < 27 → (t < 27) × (n ≡ t)) × (27 ≤ n → 27 ≤ t)
+found : (t n : ℕ) (l : Answer) → lookUp t ≡ l → numberBy l ≡ n → (n < 27 → (t < 27) × (n ≡ t)) × (27 ≤ n → 27 ≤ t)
 found t n l e f = go (decLt t 27)
   where
     here : numberBy (lookUp t) ≡ n
@@ -121,9 +119,9 @@ found t n l e f = go (decLt t 27)
     go (yes h) = let a = number-at t h in ((λ k. (h, sym here ∙ a)), (λ k. absurd (omega (arith, here))))
     go (no h) = let a : numberBy (lookUp t) ≡ 27 = ap numberBy (none-at t (omega arith)) in ((λ k. absurd (omega (arith, here))), (λ k. omega arith))
 
-abbrev pub varblockBy : ℕ → ℕ → ℕ → Looked → Varblock
-varblockBy x y log (Known t) = record { x = x; y = y; wide = wide (numberOf t); log = log; turn = turns (numberOf t) }
-varblockBy x y log (Refused r) = record { x = x; y = y; wide = 0; log = 0; turn = true }
+abbrev pub varblockBy : ℕ → ℕ → ℕ → Answer → Varblock
+varblockBy x y log (finds t) = record { x = x; y = y; wide = wide (numberOf t); log = log; turn = turns (numberOf t) }
+varblockBy x y log (refuses r) = record { x = x; y = y; wide = 0; log = 0; turn = true }
 
 wide-none : (t : ℕ) → 27 ≤ t → wide t ≡ 0
 unfolding wide TRANSFORMS
@@ -151,16 +149,16 @@ turns-none t h = rw (lt-leb t 3 (omega arith), lt-leb t 17 (omega arith), wide-n
     sides false true = refl
     sides false false = refl
 
-pub varblock-at : (x y t : ℕ) (l : Looked) → lookUp t ≡ l → varblockBy x y (logOf t) l ≡ varblockOf x y t
-varblock-at x y t (Known u) e = let f = found t (numberOf u) (Known u) e refl in rw (f .0 (number-lt u) .1)
-varblock-at x y t (Refused r) e =
-    let h : 27 ≤ t = found t 27 (Refused r) e refl .1 (omega arith) in
+pub varblock-at : (x y t : ℕ) (l : Answer) → lookUp t ≡ l → varblockBy x y (logOf t) l ≡ varblockOf x y t
+varblock-at x y t (finds u) e = let f = found t (numberOf u) (finds u) e refl in rw (f .0 (number-lt u) .1)
+varblock-at x y t (refuses r) e =
+    let h : 27 ≤ t = found t 27 (refuses r) e refl .1 (omega arith) in
     rw (wide-none t h, log-none t h, turns-none t h)
 
-abbrev pub orderBy : Looked → ℕ
-orderBy (Known t) = orderOf (numberOf t)
-orderBy (Refused r) = 0
+abbrev pub orderBy : Answer → ℕ
+orderBy (finds t) = orderOf (numberOf t)
+orderBy (refuses r) = 0
 
-pub order-by : (t : ℕ) (l : Looked) → lookUp t ≡ l → orderBy l ≡ orderOf t
-order-by t (Known u) e = let f = found t (numberOf u) (Known u) e refl in ap orderOf (f .0 (number-lt u) .1)
-order-by t (Refused r) e = let h : 27 ≤ t = found t 27 (Refused r) e refl .1 (omega arith) in sym (order-none t h)
+pub order-by : (t : ℕ) (l : Answer) → lookUp t ≡ l → orderBy l ≡ orderOf t
+order-by t (finds u) e = let f = found t (numberOf u) (finds u) e refl in ap orderOf (f .0 (number-lt u) .1)
+order-by t (refuses r) e = let h : 27 ≤ t = found t 27 (refuses r) e refl .1 (omega arith) in sym (order-none t h)

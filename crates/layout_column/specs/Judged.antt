@@ -9,14 +9,11 @@ use lib.Dec as dec
 use lib.ListN.{List·getD-eq-default}
 use borrow.Author.Tests.{lt-ltb, le-ltb, le-leb, lt-leb, leb-false}
 use Rattle.laws.specs.Cases.{le-or-lt}
-use Rattle.refusal.specs.declared.Refusal.{Refusal}
-use Rattle.refusal.specs.declared.Refusal.the-variants.{UnknownTransform}
 use Rattle.refusal.specs.declared.Said.{Said}
 use Rattle.refusal.specs.Said.{at}
 use Rattle.dct_select.specs.Transforms.{COUNT, wide, high}
 use Rattle.dct_select.specs.declared.TransformType.{TransformType}
-use Rattle.dct_select.specs.declared.Looked.{Looked}
-use Rattle.dct_select.specs.declared.Looked.the-variants.{Known, Refused}
+use Rattle.dct_select.specs.LookUp as look
 use Rattle.dct_select.specs.LookUp.{numberOf, known, lookUp, sizeOf}
 use Rattle.dct_select.specs.declared.Sides.{Sides}
 use Rattle.dct_select.specs.Varblock.{wide-most, high-most}
@@ -25,24 +22,24 @@ use Rattle.layout_column.specs.declared.Varblock.{Varblock}
 use Rattle.layout_column.specs.Columns.{positive, checks, Asking, asks, refuses, varblockOf, judgedOf}
 
 -- what a look-up found
-abbrev numberIn : Looked → ℕ
-numberIn (Known k) = numberOf k
-numberIn (Refused r) = 27
+abbrev numberIn : look.Answer → ℕ
+numberIn (look.finds k) = numberOf k
+numberIn (look.refuses r) = 27
 
 listed : (t : ℕ) → t < 27 → numberIn (lookUp t) ≡ t
 listed t h = dec.eqb→eq (numberIn (lookUp t)) t (below-27 (λ (t : ℕ). eqb (numberIn (lookUp t)) t) tt t h)
 
-beyond : (t : ℕ) → 27 ≤ t → lookUp t ≡ Refused (UnknownTransform 0 0)
-beyond t h = List·getD-eq-default known (Refused (UnknownTransform 0 0)) {n = t} h
+beyond : (t : ℕ) → 27 ≤ t → lookUp t ≡ look.refuses (at 5 0 0)
+beyond t h = List·getD-eq-default known (look.refuses (at 5 0 0)) {n = t} h
 
-pub known-is : (t : ℕ) (k : TransformType) → lookUp t ≡ Known k → (t < 27) × (numberOf k ≡ t)
+pub known-is : (t : ℕ) (k : TransformType) → lookUp t ≡ look.finds k → (t < 27) × (numberOf k ≡ t)
 known-is t k e = go (le-or-lt 27 t)
   where
     go : (27 ≤ t) ⊎ (t < 27) → (t < 27) × (numberOf k ≡ t)
     go (inl h) = absurd (let f = beyond t h in let z : _≡_ {A = ℕ} 0 1 = cc in omega arith)
     go (inr h) = (h, ap numberIn (sym e) ∙ listed t h)
 
-pub unknown-is : (t : ℕ) (r : Refusal) → lookUp t ≡ Refused r → 27 ≤ t
+pub unknown-is : (t : ℕ) (r : Said) → lookUp t ≡ look.refuses r → 27 ≤ t
 unknown-is t r e = go (le-or-lt 27 t)
   where
     go : (27 ≤ t) ⊎ (t < 27) → 27 ≤ t
@@ -57,7 +54,7 @@ pub record Sized (t : ℕ) (s : Sides) : Type 0 where
   pub wideMost : s .wide ≤ 32
   pub highMost : s .high ≤ 32
 
-pub sized : (t : ℕ) (k : TransformType) (s : Sides) → lookUp t ≡ Known k → s ≡ sizeOf k → Sized t s
+pub sized : (t : ℕ) (k : TransformType) (s : Sides) → lookUp t ≡ look.finds k → s ≡ sizeOf k → Sized t s
 sized t k s e f =
     let n = known-is t k e in
     let w : s .wide ≡ wide t = ap (λ (r : Sides). r .wide) f ∙ ap wide (n .1) in

@@ -2,7 +2,8 @@ use Rattle.layout_column.specs.Judged.{known-is, unknown-is, sized, judg
 use Rattle.layout_column.specs.Columns.{lowBits, hfMulOf}
 use borrow.Author.Needs.{needs}
 use native.Mathlib.Omega.{arith}
-use mathlib.Core.Path.{_∙_, sym}
+use mathlib.Core.Path.{_∙_, ap, sym}
+use Rattle.dct_select.specs.LookUp.{answered}
 use Rattle.layout_column.proofs.judge.Statement.{statement}
 use Rattle.layout_column.proofs.judge.Tie as tie
 
@@ -18,7 +19,7 @@ enum-told c = search needs
 returns : tie.Need-returns
 returns c =
     let a = c .before .before .before .args in
-    let e = sym (c .before .before .from-number .ensures) ∙ c .enum-told .given .1 in
+    let e = sym (c .before .before .from-number .ensures) ∙ ap answered (c .enum-told .given .1) in
     judged-unknown (lowBits (a .transform)) (hfMulOf (a .mul)) (a .x) (a .y) (unknown-is (lowBits (a .transform)) _ e)
 
 wrapping-add-u32-requires : tie.Need-wrapping-add-u32-requires
@@ -27,14 +28,14 @@ wrapping-add-u32-requires c κs = search needs
 returns-2 : tie.Need-returns-2
 returns-2 c =
     let a = c .before .before .before .before .before .before .args in
-    let e = sym (c .before .before .before .before .before .from-number .ensures) ∙ c .before .before .before .looked .given .1 in
+    let e = sym (c .before .before .before .before .before .from-number .ensures) ∙ ap answered (c .before .before .before .looked .given .1) in
     let w = c .before .wrapping-add-u32 .ensures in
     judged-zero (lowBits (a .transform)) (hfMulOf (a .mul)) (a .x) (a .y) (known-is (lowBits (a .transform)) _ e .0) (omega arith)
 
 returns-3 : tie.Need-returns-3
 returns-3 c =
     let a = c .before .before .before .before .before .before .before .args in
-    let e = sym (c .before .before .before .before .before .before .from-number .ensures) ∙ c .before .before .before .before .looked .given .1 in
+    let e = sym (c .before .before .before .before .before .before .from-number .ensures) ∙ ap answered (c .before .before .before .before .looked .given .1) in
     let w = c .before .before .wrapping-add-u32 .ensures in
     judged-negative (lowBits (a .transform)) (hfMulOf (a .mul)) (a .x) (a .y) (known-is (lowBits (a .transform)) _ e .0) (omega arith) (omega arith)
 
@@ -44,14 +45,14 @@ dct-select-size-requires c κs = search needs
 add-if3 : tie.Need-add-if3
 add-if3 c =
     let a = c .before .before .before .before .before .before .before .before .args in
-    let e = sym (c .before .before .before .before .before .before .before .from-number .ensures) ∙ c .before .before .before .before .before .looked .given .1 in
+    let e = sym (c .before .before .before .before .before .before .before .from-number .ensures) ∙ ap answered (c .before .before .before .before .before .looked .given .1) in
     let s = sized (lowBits (a .transform)) _ (c .dct-select-size .result) e (c .dct-select-size .ensures) in
     omega arith
 
 returns-4 : tie.Need-returns-4
 returns-4 c =
     let a = c .before .before .before .before .before .before .before .before .before .args in
-    let e = sym (c .before .before .before .before .before .before .before .before .from-number .ensures) ∙ c .before .before .before .before .before .before .looked .given .1 in
+    let e = sym (c .before .before .before .before .before .before .before .before .from-number .ensures) ∙ ap answered (c .before .before .before .before .before .before .looked .given .1) in
     let s = sized (lowBits (a .transform)) _ (c .before .dct-select-size .result) e (c .before .dct-select-size .ensures) in
     let w = c .before .before .before .before .wrapping-add-u32 .ensures in
     judged-wide (lowBits (a .transform)) (hfMulOf (a .mul)) (a .x) (a .y) (s .below) (omega arith) (omega arith) (omega arith)
@@ -59,14 +60,14 @@ returns-4 c =
 add-if4 : tie.Need-add-if4
 add-if4 c =
     let a = c .before .before .before .before .before .before .before .before .before .args in
-    let e = sym (c .before .before .before .before .before .before .before .before .from-number .ensures) ∙ c .before .before .before .before .before .before .looked .given .1 in
+    let e = sym (c .before .before .before .before .before .before .before .before .from-number .ensures) ∙ ap answered (c .before .before .before .before .before .before .looked .given .1) in
     let s = sized (lowBits (a .transform)) _ (c .before .dct-select-size .result) e (c .before .dct-select-size .ensures) in
     omega arith
 
 returns-5 : tie.Need-returns-5
 returns-5 c =
     let a = c .before .before .before .before .before .before .before .before .before .before .args in
-    let e = sym (c .before .before .before .before .before .before .before .before .before .from-number .ensures) ∙ c .before .before .before .before .before .before .before .looked .given .1 in
+    let e = sym (c .before .before .before .before .before .before .before .before .before .from-number .ensures) ∙ ap answered (c .before .before .before .before .before .before .before .looked .given .1) in
     let s = sized (lowBits (a .transform)) _ (c .before .before .dct-select-size .result) e (c .before .before .dct-select-size .ensures) in
     let w = c .before .before .before .before .before .wrapping-add-u32 .ensures in
     judged-high (lowBits (a .transform)) (hfMulOf (a .mul)) (a .x) (a .y) (s .below) (omega arith) (omega arith) (omega arith) (omega arith)
@@ -77,14 +78,14 @@ add-kind c = search needs
 cast-kind : tie.Need-cast-kind
 cast-kind c =
     let a = c .before .before .before .before .before .before .before .before .before .before .args in
-    let e = sym (c .before .before .before .before .before .before .before .before .before .from-number .ensures) ∙ c .before .before .before .before .before .before .before .looked .given .1 in
+    let e = sym (c .before .before .before .before .before .before .before .before .before .from-number .ensures) ∙ ap answered (c .before .before .before .before .before .before .before .looked .given .1) in
     let s = sized (lowBits (a .transform)) _ (c .before .before .dct-select-size .result) e (c .before .before .dct-select-size .ensures) in
     omega arith
 
 returns-6 : tie.Need-returns-6
 returns-6 c =
     let a = c .before .before .before .before .before .before .before .before .before .before .args in
-    let e = sym (c .before .before .before .before .before .before .before .before .before .from-number .ensures) ∙ c .before .before .before .before .before .before .before .looked .given .1 in
+    let e = sym (c .before .before .before .before .before .before .before .before .before .from-number .ensures) ∙ ap answered (c .before .before .before .before .before .before .before .looked .given .1) in
     let s = sized (lowBits (a .transform)) _ (c .before .before .dct-select-size .result) e (c .before .before .dct-select-size .ensures) in
     let w = c .before .before .before .before .before .wrapping-add-u32 .ensures in
     rw (w, s .wideIs, s .highIs) (judged-asks (lowBits (a .transform)) (hfMulOf (a .mul)) (a .x) (a .y) (s .below) (omega arith) (omega arith) (omega arith) (omega arith))

@@ -1,7 +1,7 @@
-use Rattle.dct_select.specs.declared.Looked.the-variants.{Known, Refused}
-use Rattle.dct_select.specs.LookUp.{lookUp}
+use Rattle.refusal.specs.Said.{said}
+use Rattle.dct_select.specs.LookUp.{finds, refuses, answered, lookUp}
 use borrow.Author.Needs.{needs}
-use mathlib.Core.Path.{_≡_, _∙_, sym}
+use mathlib.Core.Path.{_≡_, _∙_, ap, sym}
 use Rattle.netbuff_transform.proofs.transform_facts.Statement.{statement}
 use Rattle.netbuff_transform.proofs.transform_facts.Tie as tie
 
@@ -29,15 +29,15 @@ numbers-requires c κs = search needs
 returns : tie.Need-returns
 returns c =
     let t = c .before .before .before .before .t .given in
-    let e : lookUp (c .before .before .before .before .before .before .before .args .number) ≡ Known (t .0 .0) =
-    sym (c .before .before .before .before .before .before .from-number .ensures) ∙ t .1 in
+    let e : lookUp (c .before .before .before .before .before .before .before .args .number) ≡ finds (t .0 .0) =
+    sym (c .before .before .before .before .before .before .from-number .ensures) ∙ ap answered (t .1) in
     rw (e, c .before .before .dct-select-size .ensures, c .before .order-id .ensures, c .need-transpose .ensures)
 
 returns-2 : tie.Need-returns-2
 returns-2 c =
     let r = c .before .before .refusal .given in
-    let e : lookUp (c .before .before .before .before .before .args .number) ≡ Refused (r .0 .0) =
-    sym (c .before .before .before .before .from-number .ensures) ∙ r .1 in
+    let e : lookUp (c .before .before .before .before .before .args .number) ≡ refuses (said (r .0 .0)) =
+    sym (c .before .before .before .before .from-number .ensures) ∙ ap answered (r .1) in
     rw (e, c .numbers .ensures)
 
 pub transform-facts-spec : {M : Type 1} → statement M

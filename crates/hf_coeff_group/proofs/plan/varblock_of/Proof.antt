@@ -1,6 +1,7 @@
 use Rattle.hf_coeff_group.specs.Plans.{varblock-at}
 use borrow.Author.Needs.{needs}
-use mathlib.Core.Path.{_∙_, sym}
+use mathlib.Core.Path.{_∙_, ap, sym}
+use Rattle.dct_select.specs.LookUp.{answered}
 use Prim.Native.Nat.{_-_}
 use Rattle.hf_coeff_group.proofs.plan.varblock_of.Statement.{statement}
 use Rattle.hf_coeff_group.proofs.plan.varblock_of.Tie as tie
@@ -32,10 +33,10 @@ enum-told c = search needs
 returns : tie.Need-returns
 returns c =
     let a = c .before .before .before .before .before .before .before .args in
-    rw (c .log-blocks .ensures, c .before .need-transpose .ensures, c .before .before .dct-select-size .ensures) (varblock-at (a .x) (a .y) (a .kind - 2) _ (sym (c .before .before .before .before .before .before .from-number .ensures) ∙ c .before .before .before .before .looked .given .1))
+    rw (c .log-blocks .ensures, c .before .need-transpose .ensures, c .before .before .dct-select-size .ensures) (varblock-at (a .x) (a .y) (a .kind - 2) _ (sym (c .before .before .before .before .before .before .from-number .ensures) ∙ ap answered (c .before .before .before .before .looked .given .1)))
 
 returns-2 : tie.Need-returns-2
-returns-2 c = let a = c .before .before .before .args in varblock-at (a .x) (a .y) (a .kind - 2) _ (sym (c .before .before .from-number .ensures) ∙ c .enum-told .given .1)
+returns-2 c = let a = c .before .before .before .args in varblock-at (a .x) (a .y) (a .kind - 2) _ (sym (c .before .before .from-number .ensures) ∙ ap answered (c .enum-told .given .1))
 
 pub varblock-of-spec : {M : Type 1} → statement M
 varblock-of-spec =
