@@ -134,7 +134,8 @@ static void take_presets(struct input *in, struct group_call *call)
     call->bytes = take_preset(in, call->presets, &call->bytes_length);
 }
 
-/* Symbols that read a group to its end, its counts mostly small. */
+/* Symbols that read a group to its end, or as far as there is room (the corners of a damaged group may
+ * be more than its blocks), its counts mostly small. */
 static size_t write_symbols(struct input *in, const struct grid *grid, uint32_t *symbols)
 {
     size_t count = 0;
@@ -144,6 +145,8 @@ static size_t write_symbols(struct input *in, const struct grid *grid, uint32_t 
         if (kind < 2 || kind >= 2 + TRANSFORMS)
             continue;
         uint32_t blocks = (uint32_t)(transform_sides[kind - 2].wide * transform_sides[kind - 2].high);
+        if (count + 192 * (size_t)blocks > SYMBOLS_MOST)
+            break;
         for (int channel = 0; channel < 3; channel++) {
             uint32_t left = spread_below(in, most * blocks + 1), places = 63 * blocks;
             symbols[count++] = left;
