@@ -16,7 +16,7 @@ fn put(out: &mut [usize; 48], answer: LikeAnswer) {
     }
 }
 
-pub fn replay(body: &[u8], words: &[u32], out: &mut [usize; 48]) -> usize {
+pub(crate) fn replay(body: &[u8], words: &[u32], out: &mut [usize; 48]) -> usize {
     let answer = alike(
         length(words, 0),
         length(words, 1),

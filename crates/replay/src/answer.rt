@@ -3,7 +3,7 @@
 use recorded_answers::compare::agreeing;
 use refusal::Refusal;
 
-pub fn refuse(out: &mut [usize; 48], why: Refusal) {
+pub(crate) fn refuse(out: &mut [usize; 48], why: Refusal) {
     let said = why.numbers();
     out[0] = said.number as usize;
     out[1] = said.x;
@@ -22,6 +22,6 @@ fn agreed_of(words: &[u32], count: usize, mine: &[usize]) -> usize {
     agreeing(&words[at..], &mine[..count])
 }
 
-pub fn agreed(words: &[u32], count: usize, mine: &[usize; 48]) -> usize {
+pub(crate) fn agreed(words: &[u32], count: usize, mine: &[usize; 48]) -> usize {
     agreed_of(words, count, mine)
 }

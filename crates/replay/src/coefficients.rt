@@ -186,7 +186,7 @@ fn replay_whole<'a>(
     replay_after(body, words, orders, out)
 }
 
-pub fn replay<'a>(body: &'a [u8], words: &'a [u32], out: &mut [usize; 48]) -> usize {
+pub(crate) fn replay<'a>(body: &'a [u8], words: &'a [u32], out: &mut [usize; 48]) -> usize {
     let mut orders = [0u16; 787968];
     replay_whole(body, words, &mut orders, out)
 }

@@ -16,11 +16,11 @@ fn put(out: &mut [usize; 48], answer: ColumnCount) {
 }
 
 // The modes of a record that begins with width, height and three modes.
-pub fn modes(words: &[u32]) -> [u32; 3] {
+pub(crate) fn modes(words: &[u32]) -> [u32; 3] {
     [number(words, 2), number(words, 3), number(words, 4)]
 }
 
-pub fn replay(body: &[u8], words: &[u32], out: &mut [usize; 48]) -> usize {
+pub(crate) fn replay(body: &[u8], words: &[u32], out: &mut [usize; 48]) -> usize {
     let answer = column_count(
         number(words, 0),
         number(words, 1),

@@ -39,7 +39,7 @@ fn put_record(out: &mut [usize; 48], record: HfBlockContext) {
     put_lists(out, &lengths, &lf, &qf, &map);
 }
 
-pub fn replay(body: &[u8], words: &[u32], out: &mut [usize; 48]) -> usize {
+pub(crate) fn replay(body: &[u8], words: &[u32], out: &mut [usize; 48]) -> usize {
     let result = parse(
         bytes(body, words, 1, 0),
         number(words, 0),

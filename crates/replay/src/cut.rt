@@ -45,7 +45,7 @@ fn replay_in(
     out[6] = of_words(hf_mul);
 }
 
-pub fn replay(body: &[u8], words: &[u32], out: &mut [usize; 48]) -> usize {
+pub(crate) fn replay(body: &[u8], words: &[u32], out: &mut [usize; 48]) -> usize {
     let mut kinds = [0xa5u8; 1024];
     let mut hf_mul = [0x0bad_cafeu32; 1024];
     let k = fit_bytes(&kinds, length(words, 3));

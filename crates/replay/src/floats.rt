@@ -4,7 +4,7 @@ ghost use Prim.Native.Nat.{_≤_};
 ghost use mathlib.Core.Path.{_≡_};
 ghost use lib.ListN.{length, take};
 
-pub fn of_pattern(b: u32) -> f32 {
+pub(crate) fn of_pattern(b: u32) -> f32 {
     if b % 0x8000_0000 / 0x80_0000 != 255 {
         return f32::from_bits(b);
     }
@@ -25,7 +25,7 @@ fn wide(h: u32) -> usize {
     h as usize
 }
 
-pub fn digest(list: &[f32]) -> usize {
+pub(crate) fn digest(list: &[f32]) -> usize {
     let mut h = 0;
     let mut i = 0;
     while i < list.len() {
@@ -36,7 +36,7 @@ pub fn digest(list: &[f32]) -> usize {
 }
 
 // As many elements as are there, up to a length.
-pub fn fit(list: &[f32], n: usize) -> usize
+pub(crate) fn fit(list: &[f32], n: usize) -> usize
     ensures { λ r. ⌜ (r ≤ length (now (list .entry))) × (r ≡ length (take r (now (list .entry)))) ⌝ }
 {
     if list.len() < n {

@@ -106,7 +106,7 @@ fn replay_in(
     put_left(out, kinds, hf_mul, sigma);
 }
 
-pub fn replay(words: &[u32], out: &mut [usize; 48]) -> usize {
+pub(crate) fn replay(words: &[u32], out: &mut [usize; 48]) -> usize {
     let mut kinds = [0xa5u8; 1024];
     let mut hf_mul = [0x0bad_cafeu32; 1024];
     let mut sigma = [-1.5f32; 1024];

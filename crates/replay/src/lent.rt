@@ -3,12 +3,12 @@ use recorded_lists::list::number;
 ghost use Rattle.io.specs.Counts.{Counts};
 
 // A number of a record as a length.
-pub fn length(words: &[u32], at: usize) -> usize {
+pub(crate) fn length(words: &[u32], at: usize) -> usize {
     number(words, at) as usize
 }
 
 // As many elements as are there, up to a length.
-pub fn fit_bytes(list: &[u8], n: usize) -> usize
+pub(crate) fn fit_bytes(list: &[u8], n: usize) -> usize
     ensures { λ r. ⌜ Counts r (now (list .entry)) ⌝ }
 {
     if list.len() < n {
@@ -17,7 +17,7 @@ pub fn fit_bytes(list: &[u8], n: usize) -> usize
     n
 }
 
-pub fn fit_shorts(list: &[u16], n: usize) -> usize
+pub(crate) fn fit_shorts(list: &[u16], n: usize) -> usize
     ensures { λ r. ⌜ Counts r (now (list .entry)) ⌝ }
 {
     if list.len() < n {
@@ -26,7 +26,7 @@ pub fn fit_shorts(list: &[u16], n: usize) -> usize
     n
 }
 
-pub fn fit_words(list: &[u32], n: usize) -> usize
+pub(crate) fn fit_words(list: &[u32], n: usize) -> usize
     ensures { λ r. ⌜ Counts r (now (list .entry)) ⌝ }
 {
     if list.len() < n {
@@ -41,7 +41,7 @@ fn entry(i: usize) -> u8 {
     ((0x9e37_79b1 * k + 0x0123_4567) % 0x1_0000_0000 / 256 % 256) as u8
 }
 
-pub fn fill_map(out: &mut [u8]) {
+pub(crate) fn fill_map(out: &mut [u8]) {
     let mut i = 0;
     while i < out.len() {
         out[i] = entry(i);

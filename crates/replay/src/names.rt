@@ -1,15 +1,15 @@
 // What is printed.
 use libc::STDOUT_FILENO;
 
-pub fn text(t: &[u8]) {
+pub(crate) fn text(t: &[u8]) {
     io::write_all(STDOUT_FILENO, t);
 }
 
-pub fn number(n: u32) {
+pub(crate) fn number(n: u32) {
     io::print_decimal(STDOUT_FILENO, n as u64);
 }
 
-pub fn size(n: usize) {
+pub(crate) fn size(n: usize) {
     io::print_decimal(STDOUT_FILENO, n as u64);
 }
 
@@ -26,7 +26,7 @@ fn named(names: &[u8], k: usize) {
     text(&names[a..e]);
 }
 
-pub fn call(k: u32) {
+pub(crate) fn call(k: u32) {
     named(
         b"transform   column countlayout      cut         alike       contexts    orders      coefficients",
         k as usize,

@@ -44,7 +44,7 @@ fn replay_whole(body: &[u8], words: &[u32], store: &mut [u16; 787968], out: &mut
     replay_first(body, words, store, out);
 }
 
-pub fn replay(body: &[u8], words: &[u32], out: &mut [usize; 48]) -> usize {
+pub(crate) fn replay(body: &[u8], words: &[u32], out: &mut [usize; 48]) -> usize {
     let mut store = [0xa5a5u16; 787968];
     replay_whole(body, words, &mut store, out);
     43

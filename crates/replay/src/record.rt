@@ -37,7 +37,7 @@ fn lengths(words: &[u32]) -> [u32; 4] {
 }
 
 // Of a coefficient call.
-pub fn read(body: &[u8], words: &[u32]) -> HfBlockContext {
+pub(crate) fn read(body: &[u8], words: &[u32]) -> HfBlockContext {
     let mut lf = [0u32; 45];
     let mut qf = [0u32; 15];
     let mut map = [0u8; 2496];

@@ -14,7 +14,7 @@ fn put_transform(out: &mut [usize; 48], t: TransformType) {
     }
 }
 
-pub fn replay(words: &[u32], out: &mut [usize; 48]) -> usize {
+pub(crate) fn replay(words: &[u32], out: &mut [usize; 48]) -> usize {
     let looked = TransformType::from_number(number(words, 0));
     match looked {
         Looked::Known(t) => put_transform(out, t),

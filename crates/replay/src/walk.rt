@@ -139,7 +139,7 @@ fn replay_one<'a>(file: &'a [u8], words: &'a [u32], call: u32, index: u32, count
 
 // Replays the records of a call, and prints how many of them agree. Gives how many records of any
 // call there are.
-pub fn replay_call<'a>(file: &'a [u8], words: &'a [u32], call: u32) -> u32 {
+pub(crate) fn replay_call<'a>(file: &'a [u8], words: &'a [u32], call: u32) -> u32 {
     let mut count = Count {
         records: 0,
         agree: 0,
