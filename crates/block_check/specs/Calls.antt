@@ -27,6 +27,10 @@ inLimits limit w h = leb 1 w && leb w limit && (leb 1 h && leb h limit)
 unfoldable pub lengthsFit : ℕ → ℕ → ℕ → ℕ → Bool
 lengthsFit w h kinds muls = eqb kinds (h * w) && eqb muls (h * w)
 
+-- sides of 1 to 256, lengths of as many cells, and the cells are a layout
+unfoldable pub isLentLayout : ℕ → ℕ → List ℕ → List ℕ → Bool
+isLentLayout w h kinds muls = inLimits 256 w h && (lengthsFit w h (length kinds) (length muls) && isLayout w h kinds muls)
+
 -- The check.
 
 abbrev pub saidCheck : Checked → Answer Unit

@@ -2,22 +2,18 @@
 use mathlib.Core.Path.{_≡_}
 use mathlib.Core.Bool.{true}
 use mathlib.Core.List.{List}
-use Prim.Native.Nat.{ℕ, _*_}
+use Prim.Native.Nat.{ℕ}
 use lib.ListN.{length}
-use borrow.Author.Tests.{le-leb, eq-eqb}
+use borrow.Author.Tests.{le-leb}
 use Rattle.layout.specs.Valid.{Layout}
 use Rattle.layout.specs.Check.{isLayout}
 use Rattle.layout.specs.Theorems.{layout-iff}
 use Rattle.block_check.specs.Calls.{gives, inLimits, lengthsFit, checkOf}
-use Rattle.block_check.specs.Laws.{pass, Sided, in-limits, lengths-fit, check-fine}
+use Rattle.block_check.specs.Laws.{pass, Sided, in-limits, lengths-fit, fit-lengths, check-fine}
 
 pub limits-in : (limit w h : ℕ) → Sided limit w h → inLimits limit w h ≡ true
 unfolding inLimits
 limits-in limit w h s = rw (le-leb 1 w (s .wideFrom), le-leb w limit (s .wideTo), le-leb 1 h (s .highFrom), le-leb h limit (s .highTo))
-
-pub fit-lengths : (w h kinds muls : ℕ) → kinds ≡ h * w → muls ≡ h * w → lengthsFit w h kinds muls ≡ true
-unfolding lengthsFit
-fit-lengths w h kinds muls e f = rw (eq-eqb kinds (h * w) e, eq-eqb muls (h * w) f)
 
 -- The check passes layouts with sides in the limits, and no other lent record.
 module _ (limit w h : ℕ) (kinds muls : List ℕ) where

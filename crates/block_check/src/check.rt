@@ -8,12 +8,11 @@ ghost use mathlib.Core.Path.{_≡_};
 ghost use mathlib.Core.Bool.{cond};
 ghost use Prim.Native.Nat.{_+_, _*_, _≤_, _<_};
 ghost use lib.ListN.{length};
-ghost use Rattle.dct_select.specs.LookUp.{sides};
 ghost use Rattle.layout.specs.Kinds.{wideOf, highOf};
 ghost use Rattle.layout.specs.Grid.{fillFrom};
 ghost use Rattle.layout.specs.Check.{Fault, Until, clear, fitting, visitCell, isLayout};
-ghost use Rattle.block_check.specs.Sizes.{widths, heights};
-ghost use Rattle.block_check.specs.Calls.{inLimits, lengthsFit, saidCheck, checkOf};
+ghost use Rattle.block_check.specs.Sizes.{widths, heights, sizeBy};
+ghost use Rattle.block_check.specs.Calls.{inLimits, lengthsFit, isLentLayout, saidCheck, checkOf};
 
 // Blocks across and down of each transform. A call takes them once and lends them on: a constant is laid out anew wherever it is named.
 pub const WIDE: [usize; 27] = [
@@ -76,11 +75,13 @@ pub const HIGH: [usize; 27] = [
     16,
 ];
 
-// Blocks across and down of a corner's varblock, 0 and 0 for an unknown kind, from the two tables.
+// Blocks across and down of a corner's varblock from the two tables, 0 and 0 for any other kind.
 pub fn size_of(wides: &[usize; 27], highs: &[usize; 27], kind: u8) -> Sides
-    requires { ⌜ (now wides ≡ widths) × (now highs ≡ heights) × (2 ≤ kind) ⌝ }
-    ensures { λ r. ⌜ r ≡ sides (wideOf kind) (highOf kind) ⌝ }
+    ensures { λ r. ⌜ r ≡ sizeBy (now (wides .entry)) (now (highs .entry)) kind ⌝ }
 {
+    if kind < 2 {
+        return Sides { wide: 0, high: 0 };
+    }
     let t = (kind - 2) as usize;
     if t < TransformType::COUNT {
         return Sides {
@@ -183,8 +184,8 @@ fn visit_cell(
     true
 }
 
-// The cells are a layout of bw x bh blocks.
-pub fn is_layout(bw: usize, bh: usize, kinds: &[u8], muls: &[u32]) -> bool
+// The bw x bh cells are a layout.
+fn cells_fit(bw: usize, bh: usize, kinds: &[u8], muls: &[u32]) -> bool
     requires { ⌜ (bw ≤ 256) × (bh ≤ 256) × (length (now kinds) ≡ bh * bw) × (length (now muls) ≡ bh * bw) ⌝ }
     ensures { λ r. ⌜ r ≡ isLayout bw bh (now (kinds .entry)) (now (muls .entry)) ⌝ }
 {
@@ -224,16 +225,33 @@ pub fn in_limits(limit: usize, wide: usize, high: usize) -> bool
     high <= limit
 }
 
-// As many kinds and as many hf_mul as wide x high cells.
+// As many kinds and as many hf_mul as wide x high cells, a product that may be too large for a number here.
 pub fn lengths_fit(wide: usize, high: usize, kinds: usize, muls: usize) -> bool
-    requires { ⌜ (wide ≤ 256) × (high ≤ 256) ⌝ }
     ensures { λ r. ⌜ r ≡ lengthsFit wide high kinds muls ⌝ }
 {
-    let cells = high * wide;
-    if kinds != cells {
+    if kinds != muls {
         return false;
     }
-    muls == cells
+    if wide == 0 {
+        return kinds == 0;
+    }
+    if kinds % wide != 0 {
+        return false;
+    }
+    kinds / wide == high
+}
+
+// Sides of 1 to 256, and the cells are a layout of that size.
+pub fn is_layout(bw: usize, bh: usize, kinds: &[u8], muls: &[u32]) -> bool
+    ensures { λ r. ⌜ r ≡ isLentLayout bw bh (now (kinds .entry)) (now (muls .entry)) ⌝ }
+{
+    if !in_limits(256, bw, bh) {
+        return false;
+    }
+    if !lengths_fit(bw, bh, kinds.len(), muls.len()) {
+        return false;
+    }
+    cells_fit(bw, bh, kinds, muls)
 }
 
 // A lent group: sides 1 to 32 (2), lengths (1), 18.
@@ -248,7 +266,7 @@ pub fn check_group(group: Group, kinds: &[u8], muls: &[u32]) -> Checked
     if !lengths_fit(wide, high, kinds.len(), muls.len()) {
         return Checked::Refused(Refusal::Length);
     }
-    if !is_layout(wide, high, kinds, muls) {
+    if !cells_fit(wide, high, kinds, muls) {
         return Checked::Refused(Refusal::Layout);
     }
     Checked::Fine

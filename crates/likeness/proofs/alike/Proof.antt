@@ -4,7 +4,7 @@ use lib.ListN.{length}
 use mathlib.Core.Bool.{true, false}
 use borrow.Author.Tests.{not-true, not-false}
 use Rattle.layout.specs.Like.{lent, alikeFrom}
-use Rattle.block_check.specs.Laws.{in-limits, lengths-fit}
+use Rattle.block_check.specs.Laws.{lengths-fit, lent-cells}
 use Rattle.likeness.specs.LikeSteps.{like-size, like-size-2, like-length, like-length-2, like-fault, like-fault-2, like-says, unlike-wide, unlike-high, alike-cells}
 use borrow.Author.Needs.{needs}
 use native.Mathlib.Omega.{arith}
@@ -33,10 +33,7 @@ returns-2 c =
     sym (like-size-2 l n t1 (sym (c .before .in-limits2 .ensures) ∙ not-true (c .before .in-limits2 .result) (c .if2 .taken)))
 
 lengths-fit-requires : tie.Need-lengths-fit-requires
-lengths-fit-requires c κs =
-    let a = c .before .before .before .before .before .before .before .before .args in
-    let s = in-limits 256 (a .bw) (a .bh) (sym (c .before .before .before .in-limits .ensures) ∙ not-false (c .before .before .before .in-limits .result) (c .before .before .if1 .left)) in
-    omega arith
+lengths-fit-requires c κs = search needs
 
 returns-3 : tie.Need-returns-3
 returns-3 c =
@@ -48,10 +45,7 @@ returns-3 c =
     sym (like-length l n t1 t2 (sym (c .before .lengths-fit .ensures) ∙ not-true (c .before .lengths-fit .result) (c .if3 .taken)))
 
 lengths-fit-requires-2 : tie.Need-lengths-fit-requires-2
-lengths-fit-requires-2 c κs =
-    let a = c .before .before .before .before .before .before .before .before .before .before .args in
-    let s = in-limits 256 (a .bw2) (a .bh2) (sym (c .before .before .before .in-limits2 .ensures) ∙ not-false (c .before .before .before .in-limits2 .result) (c .before .before .if2 .left)) in
-    omega arith
+lengths-fit-requires-2 c κs = search needs
 
 returns-4 : tie.Need-returns-4
 returns-4 c =
@@ -64,11 +58,7 @@ returns-4 c =
     sym (like-length-2 l n t1 t2 t3 (sym (c .before .lengths-fit2 .ensures) ∙ not-true (c .before .lengths-fit2 .result) (c .if4 .taken)))
 
 is-layout-requires : tie.Need-is-layout-requires
-is-layout-requires c κs =
-    let a = c .before .before .before .before .before .before .before .before .before .before .before .before .args in
-    let s = in-limits 256 (a .bw) (a .bh) (sym (c .before .before .before .before .before .before .before .in-limits .ensures) ∙ not-false (c .before .before .before .before .before .before .before .in-limits .result) (c .before .before .before .before .before .before .if1 .left)) in
-    let f = lengths-fit (a .bw) (a .bh) (length (a .kinds .now)) (length (a .muls .now)) (sym (c .before .before .before .lengths-fit .ensures) ∙ not-false (c .before .before .before .lengths-fit .result) (c .before .before .if3 .left)) in
-    (omega arith, omega arith, f .0, f .1)
+is-layout-requires c κs = search needs
 
 returns-5 : tie.Need-returns-5
 returns-5 c =
@@ -79,14 +69,10 @@ returns-5 c =
     let t2 = sym (c .before .before .before .before .before .before .before .in-limits2 .ensures) ∙ not-false (c .before .before .before .before .before .before .before .in-limits2 .result) (c .before .before .before .before .before .before .if2 .left) in
     let t3 = sym (c .before .before .before .before .before .lengths-fit .ensures) ∙ not-false (c .before .before .before .before .before .lengths-fit .result) (c .before .before .before .before .if3 .left) in
     let t4 = sym (c .before .before .before .lengths-fit2 .ensures) ∙ not-false (c .before .before .before .lengths-fit2 .result) (c .before .before .if4 .left) in
-    sym (like-fault l n t1 t2 t3 t4 (sym (c .before .is-layout .ensures) ∙ not-true (c .before .is-layout .result) (c .if5 .taken)))
+    sym (like-fault l n t1 t2 t3 t4 (sym (lent-cells (a .bw) (a .bh) (a .kinds .now) (a .muls .now) t1 t3) ∙ sym (c .before .is-layout .ensures) ∙ not-true (c .before .is-layout .result) (c .if5 .taken)))
 
 is-layout-requires-2 : tie.Need-is-layout-requires-2
-is-layout-requires-2 c κs =
-    let a = c .before .before .before .before .before .before .before .before .before .before .before .before .before .before .args in
-    let s = in-limits 256 (a .bw2) (a .bh2) (sym (c .before .before .before .before .before .before .before .in-limits2 .ensures) ∙ not-false (c .before .before .before .before .before .before .before .in-limits2 .result) (c .before .before .before .before .before .before .if2 .left)) in
-    let f = lengths-fit (a .bw2) (a .bh2) (length (a .kinds2 .now)) (length (a .muls2 .now)) (sym (c .before .before .before .lengths-fit2 .ensures) ∙ not-false (c .before .before .before .lengths-fit2 .result) (c .before .before .if4 .left)) in
-    (omega arith, omega arith, f .0, f .1)
+is-layout-requires-2 c κs = search needs
 
 returns-6 : tie.Need-returns-6
 returns-6 c =
@@ -97,8 +83,8 @@ returns-6 c =
     let t2 = sym (c .before .before .before .before .before .before .before .before .before .in-limits2 .ensures) ∙ not-false (c .before .before .before .before .before .before .before .before .before .in-limits2 .result) (c .before .before .before .before .before .before .before .before .if2 .left) in
     let t3 = sym (c .before .before .before .before .before .before .before .lengths-fit .ensures) ∙ not-false (c .before .before .before .before .before .before .before .lengths-fit .result) (c .before .before .before .before .before .before .if3 .left) in
     let t4 = sym (c .before .before .before .before .before .lengths-fit2 .ensures) ∙ not-false (c .before .before .before .before .before .lengths-fit2 .result) (c .before .before .before .before .if4 .left) in
-    let t5 = sym (c .before .before .before .is-layout .ensures) ∙ not-false (c .before .before .before .is-layout .result) (c .before .before .if5 .left) in
-    sym (like-fault-2 l n t1 t2 t3 t4 t5 (sym (c .before .is-layout2 .ensures) ∙ not-true (c .before .is-layout2 .result) (c .if6 .taken)))
+    let t5 = sym (lent-cells (a .bw) (a .bh) (a .kinds .now) (a .muls .now) t1 t3) ∙ sym (c .before .before .before .is-layout .ensures) ∙ not-false (c .before .before .before .is-layout .result) (c .before .before .if5 .left) in
+    sym (like-fault-2 l n t1 t2 t3 t4 t5 (sym (lent-cells (a .bw2) (a .bh2) (a .kinds2 .now) (a .muls2 .now) t2 t4) ∙ sym (c .before .is-layout2 .ensures) ∙ not-true (c .before .is-layout2 .result) (c .if6 .taken)))
 
 returns-7 : tie.Need-returns-7
 returns-7 c =
@@ -109,8 +95,8 @@ returns-7 c =
     let t2 = sym (c .before .before .before .before .before .before .before .before .before .before .in-limits2 .ensures) ∙ not-false (c .before .before .before .before .before .before .before .before .before .before .in-limits2 .result) (c .before .before .before .before .before .before .before .before .before .if2 .left) in
     let t3 = sym (c .before .before .before .before .before .before .before .before .lengths-fit .ensures) ∙ not-false (c .before .before .before .before .before .before .before .before .lengths-fit .result) (c .before .before .before .before .before .before .before .if3 .left) in
     let t4 = sym (c .before .before .before .before .before .before .lengths-fit2 .ensures) ∙ not-false (c .before .before .before .before .before .before .lengths-fit2 .result) (c .before .before .before .before .before .if4 .left) in
-    let t5 = sym (c .before .before .before .before .is-layout .ensures) ∙ not-false (c .before .before .before .before .is-layout .result) (c .before .before .before .if5 .left) in
-    let t6 = sym (c .before .before .is-layout2 .ensures) ∙ not-false (c .before .before .is-layout2 .result) (c .before .if6 .left) in
+    let t5 = sym (lent-cells (a .bw) (a .bh) (a .kinds .now) (a .muls .now) t1 t3) ∙ sym (c .before .before .before .before .is-layout .ensures) ∙ not-false (c .before .before .before .before .is-layout .result) (c .before .before .before .if5 .left) in
+    let t6 = sym (lent-cells (a .bw2) (a .bh2) (a .kinds2 .now) (a .muls2 .now) t2 t4) ∙ sym (c .before .before .is-layout2 .ensures) ∙ not-false (c .before .before .is-layout2 .result) (c .before .if6 .left) in
     sym (like-says l n t1 t2 t3 t4 t5 t6 false (unlike-wide l n (c .if7 .taken)))
 
 returns-8 : tie.Need-returns-8
@@ -122,8 +108,8 @@ returns-8 c =
     let t2 = sym (c .before .before .before .before .before .before .before .before .before .before .before .in-limits2 .ensures) ∙ not-false (c .before .before .before .before .before .before .before .before .before .before .before .in-limits2 .result) (c .before .before .before .before .before .before .before .before .before .before .if2 .left) in
     let t3 = sym (c .before .before .before .before .before .before .before .before .before .lengths-fit .ensures) ∙ not-false (c .before .before .before .before .before .before .before .before .before .lengths-fit .result) (c .before .before .before .before .before .before .before .before .if3 .left) in
     let t4 = sym (c .before .before .before .before .before .before .before .lengths-fit2 .ensures) ∙ not-false (c .before .before .before .before .before .before .before .lengths-fit2 .result) (c .before .before .before .before .before .before .if4 .left) in
-    let t5 = sym (c .before .before .before .before .before .is-layout .ensures) ∙ not-false (c .before .before .before .before .before .is-layout .result) (c .before .before .before .before .if5 .left) in
-    let t6 = sym (c .before .before .before .is-layout2 .ensures) ∙ not-false (c .before .before .before .is-layout2 .result) (c .before .before .if6 .left) in
+    let t5 = sym (lent-cells (a .bw) (a .bh) (a .kinds .now) (a .muls .now) t1 t3) ∙ sym (c .before .before .before .before .before .is-layout .ensures) ∙ not-false (c .before .before .before .before .before .is-layout .result) (c .before .before .before .before .if5 .left) in
+    let t6 = sym (lent-cells (a .bw2) (a .bh2) (a .kinds2 .now) (a .muls2 .now) t2 t4) ∙ sym (c .before .before .before .is-layout2 .ensures) ∙ not-false (c .before .before .before .is-layout2 .result) (c .before .before .if6 .left) in
     sym (like-says l n t1 t2 t3 t4 t5 t6 false (unlike-high l n (c .before .if7 .left) (c .if8 .taken)))
 
 alike-cells-requires : tie.Need-alike-cells-requires
@@ -143,8 +129,8 @@ returns-9 c =
     let t2 = sym (c .before .before .before .before .before .before .before .before .before .before .before .before .before .in-limits2 .ensures) ∙ not-false (c .before .before .before .before .before .before .before .before .before .before .before .before .before .in-limits2 .result) (c .before .before .before .before .before .before .before .before .before .before .before .before .if2 .left) in
     let t3 = sym (c .before .before .before .before .before .before .before .before .before .before .before .lengths-fit .ensures) ∙ not-false (c .before .before .before .before .before .before .before .before .before .before .before .lengths-fit .result) (c .before .before .before .before .before .before .before .before .before .before .if3 .left) in
     let t4 = sym (c .before .before .before .before .before .before .before .before .before .lengths-fit2 .ensures) ∙ not-false (c .before .before .before .before .before .before .before .before .before .lengths-fit2 .result) (c .before .before .before .before .before .before .before .before .if4 .left) in
-    let t5 = sym (c .before .before .before .before .before .before .before .is-layout .ensures) ∙ not-false (c .before .before .before .before .before .before .before .is-layout .result) (c .before .before .before .before .before .before .if5 .left) in
-    let t6 = sym (c .before .before .before .before .before .is-layout2 .ensures) ∙ not-false (c .before .before .before .before .before .is-layout2 .result) (c .before .before .before .before .if6 .left) in
+    let t5 = sym (lent-cells (a .bw) (a .bh) (a .kinds .now) (a .muls .now) t1 t3) ∙ sym (c .before .before .before .before .before .before .before .is-layout .ensures) ∙ not-false (c .before .before .before .before .before .before .before .is-layout .result) (c .before .before .before .before .before .before .if5 .left) in
+    let t6 = sym (lent-cells (a .bw2) (a .bh2) (a .kinds2 .now) (a .muls2 .now) t2 t4) ∙ sym (c .before .before .before .before .before .is-layout2 .ensures) ∙ not-false (c .before .before .before .before .before .is-layout2 .result) (c .before .before .before .before .if6 .left) in
     let f = lengths-fit (a .bw) (a .bh) (length (a .kinds .now)) (length (a .muls .now)) t3 in
     let e = alike-cells l n (c .before .before .before .if7 .left) (c .before .before .if8 .left) ∙ ap (λ (k : ℕ). alikeFrom (a .kinds .now) (a .muls .now) (a .kinds2 .now) (a .muls2 .now) k 0) (sym (f .0)) ∙ sym (c .before .alike-cells .ensures) in
     sym (like-says l n t1 t2 t3 t4 t5 t6 true (e ∙ c .if9 .taken))
@@ -158,8 +144,8 @@ returns-10 c =
     let t2 = sym (c .before .before .before .before .before .before .before .before .before .before .before .before .before .in-limits2 .ensures) ∙ not-false (c .before .before .before .before .before .before .before .before .before .before .before .before .before .in-limits2 .result) (c .before .before .before .before .before .before .before .before .before .before .before .before .if2 .left) in
     let t3 = sym (c .before .before .before .before .before .before .before .before .before .before .before .lengths-fit .ensures) ∙ not-false (c .before .before .before .before .before .before .before .before .before .before .before .lengths-fit .result) (c .before .before .before .before .before .before .before .before .before .before .if3 .left) in
     let t4 = sym (c .before .before .before .before .before .before .before .before .before .lengths-fit2 .ensures) ∙ not-false (c .before .before .before .before .before .before .before .before .before .lengths-fit2 .result) (c .before .before .before .before .before .before .before .before .if4 .left) in
-    let t5 = sym (c .before .before .before .before .before .before .before .is-layout .ensures) ∙ not-false (c .before .before .before .before .before .before .before .is-layout .result) (c .before .before .before .before .before .before .if5 .left) in
-    let t6 = sym (c .before .before .before .before .before .is-layout2 .ensures) ∙ not-false (c .before .before .before .before .before .is-layout2 .result) (c .before .before .before .before .if6 .left) in
+    let t5 = sym (lent-cells (a .bw) (a .bh) (a .kinds .now) (a .muls .now) t1 t3) ∙ sym (c .before .before .before .before .before .before .before .is-layout .ensures) ∙ not-false (c .before .before .before .before .before .before .before .is-layout .result) (c .before .before .before .before .before .before .if5 .left) in
+    let t6 = sym (lent-cells (a .bw2) (a .bh2) (a .kinds2 .now) (a .muls2 .now) t2 t4) ∙ sym (c .before .before .before .before .before .is-layout2 .ensures) ∙ not-false (c .before .before .before .before .before .is-layout2 .result) (c .before .before .before .before .if6 .left) in
     let f = lengths-fit (a .bw) (a .bh) (length (a .kinds .now)) (length (a .muls .now)) t3 in
     let e = alike-cells l n (c .before .before .before .if7 .left) (c .before .before .if8 .left) ∙ ap (λ (k : ℕ). alikeFrom (a .kinds .now) (a .muls .now) (a .kinds2 .now) (a .muls2 .now) k 0) (sym (f .0)) ∙ sym (c .before .alike-cells .ensures) in
     sym (like-says l n t1 t2 t3 t4 t5 t6 false (e ∙ c .if9 .left))

@@ -2,8 +2,11 @@ use mathlib.Core.Path.{_≡_, _∙_, sym, ap}
 use lib.Dec.{eqb}
 use Prim.Native.Nat.{ℕ}
 use Rattle.dct_select.specs.declared.Sides.{Sides}
+use Rattle.dct_select.specs.LookUp.{sides}
 use Rattle.layout.specs.Kinds.{wideOf, highOf}
 use Rattle.likeness.specs.LikeSteps.{cell-plain, cell-odd, cell-mul, cell-wide, cell-high}
+use Rattle.block_check.specs.Sizes.{size-corner}
+use borrow.Author.Needs.{needs}
 use native.Mathlib.Omega.{arith}
 use Rattle.likeness.proofs.alike_cell.Statement.{statement}
 use Rattle.likeness.proofs.alike_cell.Tie as tie
@@ -17,26 +20,39 @@ returns-2 c = let a = c .before .before .args in sym (cell-odd (a .kind) (a .mul
 returns-3 : tie.Need-returns-3
 returns-3 c = let a = c .before .before .before .args in sym (cell-mul (a .kind) (a .mul) (a .kind2) (a .mul2) (omega arith) (omega arith) (c .if3 .taken))
 
+-- the sizes of two corners
+sized : (c : tie.After-size-of) → let k = c .before .before .before .before .args .kind in c .size-of .result ≡ sides (wideOf k) (highOf k)
+sized c =
+    let a = c .before .before .before .before .args in
+    let p = c .before .before .before .before .pre in
+    c .size-of .ensures ∙ size-corner (a .wides .now) (a .highs .now) (a .kind) (p .0) (p .1) (omega arith)
+
+sized2 : (c : tie.After-size-of2) → let k = c .before .before .before .before .before .args .kind2 in c .size-of2 .result ≡ sides (wideOf k) (highOf k)
+sized2 c =
+    let a = c .before .before .before .before .before .args in
+    let p = c .before .before .before .before .before .pre in
+    c .size-of2 .ensures ∙ size-corner (a .wides .now) (a .highs .now) (a .kind2) (p .0) (p .1) (omega arith)
+
 size-of-requires : tie.Need-size-of-requires
-size-of-requires c κs = (c .before .before .before .pre .0, c .before .before .before .pre .1, omega arith)
+size-of-requires c κs = search needs
 
 size-of-requires-2 : tie.Need-size-of-requires-2
-size-of-requires-2 c κs = (c .before .before .before .before .pre .0, c .before .before .before .before .pre .1, omega arith)
+size-of-requires-2 c κs = search needs
 
 returns-4 : tie.Need-returns-4
 returns-4 c =
     let a = c .before .before .before .before .before .before .before .before .args in
-    let w : c .before .before .before .before .size-of .result .wide ≡ wideOf (a .kind) = ap (λ (s : Sides). s .wide) (c .before .before .before .before .size-of .ensures) in
-    let w2 : c .before .before .before .size-of2 .result .wide ≡ wideOf (a .kind2) = ap (λ (s : Sides). s .wide) (c .before .before .before .size-of2 .ensures) in
+    let w : c .before .before .before .before .size-of .result .wide ≡ wideOf (a .kind) = ap (λ (s : Sides). s .wide) (sized (c .before .before .before .before)) in
+    let w2 : c .before .before .before .size-of2 .result .wide ≡ wideOf (a .kind2) = ap (λ (s : Sides). s .wide) (sized2 (c .before .before .before)) in
     sym (cell-wide (a .kind) (a .mul) (a .kind2) (a .mul2) (omega arith) (omega arith) (omega arith) (omega arith))
 
 returns-5 : tie.Need-returns-5
 returns-5 c =
     let a = c .before .before .before .before .before .before .before .before .before .before .args in
-    let w : c .before .before .before .before .before .before .size-of .result .wide ≡ wideOf (a .kind) = ap (λ (s : Sides). s .wide) (c .before .before .before .before .before .before .size-of .ensures) in
-    let w2 : c .before .before .before .before .before .size-of2 .result .wide ≡ wideOf (a .kind2) = ap (λ (s : Sides). s .wide) (c .before .before .before .before .before .size-of2 .ensures) in
-    let h : c .before .before .before .before .before .before .size-of .result .high ≡ highOf (a .kind) = ap (λ (s : Sides). s .high) (c .before .before .before .before .before .before .size-of .ensures) in
-    let h2 : c .before .before .before .before .before .size-of2 .result .high ≡ highOf (a .kind2) = ap (λ (s : Sides). s .high) (c .before .before .before .before .before .size-of2 .ensures) in
+    let w : c .before .before .before .before .before .before .size-of .result .wide ≡ wideOf (a .kind) = ap (λ (s : Sides). s .wide) (sized (c .before .before .before .before .before .before)) in
+    let w2 : c .before .before .before .before .before .size-of2 .result .wide ≡ wideOf (a .kind2) = ap (λ (s : Sides). s .wide) (sized2 (c .before .before .before .before .before)) in
+    let h : c .before .before .before .before .before .before .size-of .result .high ≡ highOf (a .kind) = ap (λ (s : Sides). s .high) (sized (c .before .before .before .before .before .before)) in
+    let h2 : c .before .before .before .before .before .size-of2 .result .high ≡ highOf (a .kind2) = ap (λ (s : Sides). s .high) (sized2 (c .before .before .before .before .before)) in
     ap (λ (n : ℕ). eqb n (c .before .before .before .before .before .size-of2 .result .high)) h ∙ ap (λ (n : ℕ). eqb (highOf (a .kind)) n) h2 ∙ sym (cell-high (a .kind) (a .mul) (a .kind2) (a .mul2) (omega arith) (omega arith) (omega arith) (omega arith))
 
 pub alike-cell-spec : {M : Type 1} → statement M

@@ -16,10 +16,7 @@ returns c =
     sym (check-size 32 (a .group .wide) (a .group .high) (a .kinds .now) (a .muls .now) (sym (c .before .in-limits .ensures) ∙ not-true (c .before .in-limits .result) (c .if1 .taken)))
 
 lengths-fit-requires : tie.Need-lengths-fit-requires
-lengths-fit-requires c κs =
-    let a = c .before .before .before .before .args in
-    let s = in-limits 32 (a .group .wide) (a .group .high) (sym (c .before .in-limits .ensures) ∙ not-false (c .before .in-limits .result) (c .if1 .left)) in
-    omega arith
+lengths-fit-requires c κs = search needs
 
 returns-2 : tie.Need-returns-2
 returns-2 c =
@@ -27,8 +24,8 @@ returns-2 c =
     let s = sym (c .before .before .before .in-limits .ensures) ∙ not-false (c .before .before .before .in-limits .result) (c .before .before .if1 .left) in
     sym (check-length 32 (a .group .wide) (a .group .high) (a .kinds .now) (a .muls .now) s (sym (c .before .lengths-fit .ensures) ∙ not-true (c .before .lengths-fit .result) (c .if2 .taken)))
 
-is-layout-requires : tie.Need-is-layout-requires
-is-layout-requires c κs =
+cells-fit-requires : tie.Need-cells-fit-requires
+cells-fit-requires c κs =
     let a = c .before .before .before .before .before .before .args in
     let s = in-limits 32 (a .group .wide) (a .group .high) (sym (c .before .before .before .in-limits .ensures) ∙ not-false (c .before .before .before .in-limits .result) (c .before .before .if1 .left)) in
     let l = lengths-fit (a .group .wide) (a .group .high) (length (a .kinds .now)) (length (a .muls .now)) (sym (c .before .lengths-fit .ensures) ∙ not-false (c .before .lengths-fit .result) (c .if2 .left)) in
@@ -39,14 +36,14 @@ returns-3 c =
     let a = c .before .before .before .before .before .before .before .before .args in
     let s = sym (c .before .before .before .before .before .in-limits .ensures) ∙ not-false (c .before .before .before .before .before .in-limits .result) (c .before .before .before .before .if1 .left) in
     let l = sym (c .before .before .before .lengths-fit .ensures) ∙ not-false (c .before .before .before .lengths-fit .result) (c .before .before .if2 .left) in
-    sym (check-fault 32 (a .group .wide) (a .group .high) (a .kinds .now) (a .muls .now) s l (sym (c .before .is-layout .ensures) ∙ not-true (c .before .is-layout .result) (c .if3 .taken)))
+    sym (check-fault 32 (a .group .wide) (a .group .high) (a .kinds .now) (a .muls .now) s l (sym (c .before .cells-fit .ensures) ∙ not-true (c .before .cells-fit .result) (c .if3 .taken)))
 
 returns-4 : tie.Need-returns-4
 returns-4 c =
     let a = c .before .before .before .before .before .before .before .before .args in
     let s = sym (c .before .before .before .before .before .in-limits .ensures) ∙ not-false (c .before .before .before .before .before .in-limits .result) (c .before .before .before .before .if1 .left) in
     let l = sym (c .before .before .before .lengths-fit .ensures) ∙ not-false (c .before .before .before .lengths-fit .result) (c .before .before .if2 .left) in
-    sym (check-fine 32 (a .group .wide) (a .group .high) (a .kinds .now) (a .muls .now) s l (sym (c .before .is-layout .ensures) ∙ not-false (c .before .is-layout .result) (c .if3 .left)))
+    sym (check-fine 32 (a .group .wide) (a .group .high) (a .kinds .now) (a .muls .now) s l (sym (c .before .cells-fit .ensures) ∙ not-false (c .before .cells-fit .result) (c .if3 .left)))
 
 pub check-group-spec : {M : Type 1} → statement M
 check-group-spec =
@@ -56,6 +53,6 @@ check-group-spec =
     returns
     lengths-fit-requires
     returns-2
-    is-layout-requires
+    cells-fit-requires
     returns-3
     returns-4)

@@ -1,25 +1,34 @@
-use Prim.Native.Nat.{_*_}
-use borrow.Author.Tests.{eq-eqb, ne-eqb}
-use Rattle.block_check.specs.Calls.{lengthsFit}
-use Prim.Native.Nat.{_≤_}
-use native.Mathlib.Nat.{mul-le-mul}
-use native.Mathlib.Omega.{arith}
+use mathlib.Core.Path.{sym}
+use Rattle.block_check.specs.Laws.{lengths-unlike, lengths-narrow, lengths-ragged, lengths-rows}
+use borrow.Author.Needs.{needs}
 use Rattle.block_check.proofs.check.lengths_fit.Statement.{statement}
 use Rattle.block_check.proofs.check.lengths_fit.Tie as tie
 
-mul-cells : tie.Need-mul-cells
-mul-cells c =
-    let w : c .args .wide ≤ 256 = omega arith in
-    let h : c .args .high ≤ 256 = omega arith in
-    omega (arith, mul-le-mul h w)
-
 returns : tie.Need-returns
-unfolding lengthsFit
-returns c = let a = c .before .args in rw (ne-eqb (a .kinds) (a .high * a .wide) (c .if1 .taken))
+returns c =
+    let a = c .before .args in
+    sym (lengths-unlike (a .wide) (a .high) (a .kinds) (a .muls) (c .if1 .taken))
 
 returns-2 : tie.Need-returns-2
-unfolding lengthsFit
-returns-2 c = let a = c .before .args in rw (eq-eqb (a .kinds) (a .high * a .wide) (c .if1 .left))
+returns-2 c =
+    let a = c .before .before .args in
+    sym (lengths-narrow (a .wide) (a .high) (a .kinds) (a .muls) (c .before .if1 .left) (c .if2 .taken))
+
+rem-if3 : tie.Need-rem-if3
+rem-if3 c = search needs
+
+returns-3 : tie.Need-returns-3
+returns-3 c =
+    let a = c .before .before .before .args in
+    sym (lengths-ragged (a .wide) (a .high) (a .kinds) (a .muls) (c .before .before .if1 .left) (c .before .if2 .left) (c .if3 .taken))
+
+div-result : tie.Need-div-result
+div-result c = search needs
+
+returns-4 : tie.Need-returns-4
+returns-4 c =
+    let a = c .before .before .before .args in
+    sym (lengths-rows (a .wide) (a .high) (a .kinds) (a .muls) (c .before .before .if1 .left) (c .before .if2 .left) (c .if3 .left))
 
 pub lengths-fit-spec : {M : Type 1} → statement M
-lengths-fit-spec = tie.close (tie.spec mul-cells returns returns-2)
+lengths-fit-spec = tie.close (tie.spec returns returns-2 rem-if3 returns-3 div-result returns-4)

@@ -1,12 +1,14 @@
-use Prim.Native.Nat.{_-_}
-use Rattle.block_check.specs.Sizes.{wide-at, high-at, size-beyond}
+use mathlib.Core.Path.{sym}
+use Rattle.block_check.specs.Sizes.{size-small, size-large, size-known}
 use borrow.Author.Needs.{needs}
 use native.Mathlib.Omega.{arith}
 use Rattle.block_check.proofs.check.size_of.Statement.{statement}
 use Rattle.block_check.proofs.check.size_of.Tie as tie
 
-sub-t : tie.Need-sub-t
-sub-t c = search needs
+returns : tie.Need-returns
+returns c =
+    let a = c .before .args in
+    sym (size-small (a .wides .now) (a .highs .now) (a .kind) (omega arith))
 
 cast-t : tie.Need-cast-t
 cast-t c = search needs
@@ -23,21 +25,25 @@ mul-t11 c = search needs
 element-copy-out-t14 : tie.Need-element-copy-out-t14
 element-copy-out-t14 c = search needs
 
-returns : tie.Need-returns
-returns c = let t = c .before .before .before .args .kind - 2 in rw (c .before .before .before .pre .0, c .before .before .before .pre .1, wide-at t, high-at t)
-
 returns-2 : tie.Need-returns-2
-returns-2 c = size-beyond (c .before .args .kind - 2) (omega arith)
+returns-2 c =
+    let a = c .before .before .before .before .args in
+    sym (size-known (a .wides .now) (a .highs .now) (a .kind) (omega arith) (omega arith))
+
+returns-3 : tie.Need-returns-3
+returns-3 c =
+    let a = c .before .before .args in
+    sym (size-large (a .wides .now) (a .highs .now) (a .kind) (omega arith) (omega arith))
 
 pub size-of-spec : {M : Type 1} → statement M
 size-of-spec =
     tie.close
     (tie.spec
-    sub-t
+    returns
     cast-t
     mul-t7
     element-copy-out-t10
     mul-t11
     element-copy-out-t14
-    returns
-    returns-2)
+    returns-2
+    returns-3)

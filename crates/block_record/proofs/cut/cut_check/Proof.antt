@@ -4,7 +4,7 @@ use borrow.Author.Tests.{not-true, not-false}
 use Rattle.layout.specs.Cut.{groupWide, groupHigh}
 use Rattle.block_check.specs.declared.Group.{Group}
 use Rattle.block_check.specs.Calls.{lengthsFit}
-use Rattle.block_check.specs.Laws.{in-limits, lengths-fit}
+use Rattle.block_check.specs.Laws.{in-limits, lent-cells}
 use Rattle.block_record.specs.CutSteps.{cut-size, cut-index, cut-lent, cut-buffers, cut-fault, cut-fine}
 use borrow.Author.Needs.{needs}
 use native.Mathlib.Omega.{arith}
@@ -32,10 +32,7 @@ returns-2 c =
     sym (cut-index (a .bw) (a .bh) (a .kinds .now) (a .muls .now) (a .index) (a .out-kinds) (a .out-muls) s (sym (c .before .has-group .ensures) ∙ not-true (c .before .has-group .result) (c .if2 .taken)))
 
 lengths-fit-requires : tie.Need-lengths-fit-requires
-lengths-fit-requires c κs =
-    let a = c .before .before .before .before .before .before .args in
-    let s = in-limits 256 (a .bw) (a .bh) (sym (c .before .before .before .in-limits .ensures) ∙ not-false (c .before .before .before .in-limits .result) (c .before .before .if1 .left)) in
-    omega arith
+lengths-fit-requires c κs = search needs
 
 returns-3 : tie.Need-returns-3
 returns-3 c =
@@ -51,11 +48,7 @@ sides-of-requires c κs =
     (s, g)
 
 lengths-fit-requires-2 : tie.Need-lengths-fit-requires-2
-lengths-fit-requires-2 c κs =
-    let a = c .before .before .before .before .before .before .before .before .before .args in
-    let w : c .sides-of .result .wide ≡ groupWide (a .bw) (a .index) = ap (λ (g : Group). g .wide) (c .sides-of .ensures) in
-    let h : c .sides-of .result .high ≡ groupHigh (a .bw) (a .bh) (a .index) = ap (λ (g : Group). g .high) (c .sides-of .ensures) in
-    omega arith
+lengths-fit-requires-2 c κs = search needs
 
 returns-4 : tie.Need-returns-4
 returns-4 c =
@@ -67,11 +60,7 @@ returns-4 c =
     sym (cut-buffers (a .bw) (a .bh) (a .kinds .now) (a .muls .now) (a .index) (a .out-kinds) (a .out-muls) s g l (b ∙ sym (c .before .lengths-fit2 .ensures) ∙ not-true (c .before .lengths-fit2 .result) (c .if4 .taken)))
 
 is-layout-requires : tie.Need-is-layout-requires
-is-layout-requires c κs =
-    let a = c .before .before .before .before .before .before .before .before .before .before .before .args in
-    let s = in-limits 256 (a .bw) (a .bh) (sym (c .before .before .before .before .before .before .before .before .in-limits .ensures) ∙ not-false (c .before .before .before .before .before .before .before .before .in-limits .result) (c .before .before .before .before .before .before .before .if1 .left)) in
-    let l = lengths-fit (a .bw) (a .bh) (length (a .kinds .now)) (length (a .muls .now)) (sym (c .before .before .before .before .lengths-fit .ensures) ∙ not-false (c .before .before .before .before .lengths-fit .result) (c .before .before .before .if3 .left)) in
-    (omega arith, omega arith, l .0, l .1)
+is-layout-requires c κs = search needs
 
 returns-5 : tie.Need-returns-5
 returns-5 c =
@@ -80,7 +69,7 @@ returns-5 c =
     let g = sym (c .before .before .before .before .before .before .before .before .has-group .ensures) ∙ not-false (c .before .before .before .before .before .before .before .before .has-group .result) (c .before .before .before .before .before .before .before .if2 .left) in
     let l = sym (c .before .before .before .before .before .before .lengths-fit .ensures) ∙ not-false (c .before .before .before .before .before .before .lengths-fit .result) (c .before .before .before .before .before .if3 .left) in
     let b = ap (λ (g : Group). lengthsFit (g .wide) (g .high) (a .out-kinds) (a .out-muls)) (sym (c .before .before .before .before .sides-of .ensures)) ∙ sym (c .before .before .before .lengths-fit2 .ensures) ∙ not-false (c .before .before .before .lengths-fit2 .result) (c .before .before .if4 .left) in
-    sym (cut-fault (a .bw) (a .bh) (a .kinds .now) (a .muls .now) (a .index) (a .out-kinds) (a .out-muls) s g l b (sym (c .before .is-layout .ensures) ∙ not-true (c .before .is-layout .result) (c .if5 .taken)))
+    sym (cut-fault (a .bw) (a .bh) (a .kinds .now) (a .muls .now) (a .index) (a .out-kinds) (a .out-muls) s g l b (sym (lent-cells (a .bw) (a .bh) (a .kinds .now) (a .muls .now) s l) ∙ sym (c .before .is-layout .ensures) ∙ not-true (c .before .is-layout .result) (c .if5 .taken)))
 
 returns-6 : tie.Need-returns-6
 returns-6 c =
@@ -89,7 +78,7 @@ returns-6 c =
     let g = sym (c .before .before .before .before .before .before .before .before .has-group .ensures) ∙ not-false (c .before .before .before .before .before .before .before .before .has-group .result) (c .before .before .before .before .before .before .before .if2 .left) in
     let l = sym (c .before .before .before .before .before .before .lengths-fit .ensures) ∙ not-false (c .before .before .before .before .before .before .lengths-fit .result) (c .before .before .before .before .before .if3 .left) in
     let b = ap (λ (g : Group). lengthsFit (g .wide) (g .high) (a .out-kinds) (a .out-muls)) (sym (c .before .before .before .before .sides-of .ensures)) ∙ sym (c .before .before .before .lengths-fit2 .ensures) ∙ not-false (c .before .before .before .lengths-fit2 .result) (c .before .before .if4 .left) in
-    sym (cut-fine (a .bw) (a .bh) (a .kinds .now) (a .muls .now) (a .index) (a .out-kinds) (a .out-muls) s g l b (sym (c .before .is-layout .ensures) ∙ not-false (c .before .is-layout .result) (c .if5 .left)))
+    sym (cut-fine (a .bw) (a .bh) (a .kinds .now) (a .muls .now) (a .index) (a .out-kinds) (a .out-muls) s g l b (sym (lent-cells (a .bw) (a .bh) (a .kinds .now) (a .muls .now) s l) ∙ sym (c .before .is-layout .ensures) ∙ not-false (c .before .is-layout .result) (c .if5 .left)))
 
 pub cut-check-spec : {M : Type 1} → statement M
 cut-check-spec =
