@@ -78,10 +78,10 @@ module _ (s : List ℕ) (h : Bytes s) where
     values : T (every qfFit (l .qf))
 
   lf-few : (p : ℕ) (vs : List ℕ) (at : ℕ) → readList s (lfValue s) p ≡ Is vs at → length vs ≤ 15
-  lf-few p vs at e = list-near (lfValue s) (λ q v t f. lf-near s h q .value v t f .0) s h p vs at e .0
+  lf-few p vs at e = list-near (lfValue s) 4294967296 (lf-near s h) s h p vs at e .0
 
   qf-few : (p : ℕ) (vs : List ℕ) (at : ℕ) → readList s (qfValue s) p ≡ Is vs at → length vs ≤ 15
-  qf-few p vs at e = list-near (qfValue s) (λ q v t f. qf-near s h q .value v t f .0) s h p vs at e .0
+  qf-few p vs at e = list-near (qfValue s) 300 (qf-near s h) s h p vs at e .0
 
   kept : (p : ℕ) (l : Lists) (at : ℕ) → readLists s p ≡ Is l at → Kept l
   unfolding readLists

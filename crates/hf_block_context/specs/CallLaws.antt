@@ -2,7 +2,7 @@
 use mathlib.Core.Path.{_≡_, refl, ap, sym, _∙_}
 use mathlib.Core.Bool.{true, false}
 use mathlib.Core.List.{List, [], _∷_, _++_}
-use Prim.Native.Nat.{ℕ, _+_, _*_, _%_, _≤_, _<_}
+use Prim.Native.Nat.{ℕ, _+_, _-_, _*_, _≤_, _<_}
 use native.Mathlib.Omega.{arith}
 use lib.ListN.{length}
 use borrow.Author.Tests.{le-leb, lt-leb, eq-eqb, ne-eqb}
@@ -19,7 +19,8 @@ use Rattle.thresholds.specs.declared.Thresholds.{Thresholds}
 use Rattle.thresholds.specs.Reading.{Reading, Is, Short, andThen, listsOf, lfValue, qfValue, readList, readLists, pad}
 use Rattle.hf_block_context.specs.Call.{Outcome, recordOf, stored, accepted, refused, judged, judgedLists, orEnded, noLists, DEFAULT-MAP, parsed}
 use Rattle.thresholds.specs.Steps.{thresholdsOf}
-use Rattle.thresholds.specs.ListLaws.{list-near}
+use Rattle.thresholds.specs.Reads.{Near}
+use Rattle.thresholds.specs.ListLaws.{list-near, list-ends}
 
 -- The tests behind the bits.
 module _ (count : ℕ) (map lengths : List ℕ) (R : HfBlockContext) (at : ℕ) where
@@ -64,20 +65,17 @@ pub record WasList (s : List ℕ) (value : ℕ → Read) (p : ℕ) (t : Threshol
   pub count : length vs ≡ n
   pub values : t .values ≡ pad 15 vs
   pub place : passed q ≡ at
-  pub bit : q .bit < 8
   pub few : n ≤ 15
   pub near : at ≤ p + 514
 
-listed : (r : Reading (List ℕ)) (t : Thresholds) (n : ℕ) (q : Place) → t ≡ thresholdsOf r → t .step ≡ listStep.Listed n q
-    → (s : List ℕ) (value : ℕ → Read) (p : ℕ) → readList s value p ≡ r
+listed : (r : Reading (List ℕ)) (t : Thresholds) (n : ℕ) (q : Place) (s : List ℕ) (value : ℕ → Read) (p : ℕ) → t ≡ thresholdsOf p r → t .step ≡ listStep.Listed n q → readList s value p ≡ r
     → ((vs : List ℕ) (at : ℕ) → r ≡ Is vs at → (length vs ≤ 15) × (at ≤ p + 514)) → WasList s value p t n q
-listed (Short at) t n q e f s value p i near = absurd (let z : _≡_ {A = ℕ} 0 1 = cc (ap (λ (x : Thresholds). x .step) e) in omega arith)
-listed (Is vs at) t n q e f s value p i near =
+listed (Short at) t n q s value p e f i near = absurd (let z : _≡_ {A = ℕ} 0 1 = cc (ap (λ (x : Thresholds). x .step) e) in omega arith)
+listed (Is vs at) t n q s value p e f i near =
     let g : listStep.Listed (length vs) (placeAt at) ≡ listStep.Listed n q = sym (ap (λ (x : Thresholds). x .step) e) ∙ f in
     let a : length vs ≡ n = cc in
     let b : placeAt at ≡ q = cc in
     let k = near vs at refl in
-    let c : q .bit ≡ at % 8 = ap (λ (x : Place). x .bit) (sym b) in
     record {
       vs = vs;
       at = at;
@@ -85,22 +83,29 @@ listed (Is vs at) t n q e f s value p i near =
       count = a;
       values = ap (λ (x : Thresholds). x .values) e;
       place = ap passed (sym b) ∙ passed-at at;
-      bit = omega (arith, c);
       few = omega (arith, k .0);
       near = k .1;
     }
 
-module _ (s : List ℕ) (value : ℕ → Read) (p : ℕ) where
-  pub was-list : (near : (p v at : ℕ) → value p ≡ Value v at → at ≤ p + 34) → Bytes s → (t : Thresholds) (n : ℕ) (q : Place)
-      → t ≡ thresholdsOf (readList s value p) → t .step ≡ listStep.Listed n q → WasList s value p t n q
-  was-list near h t n q e f = listed (readList s value p) t n q e f s value p refl (λ vs at i. list-near value near s h p vs at i)
+-- What an end of the bits in a list says.
+pub record WasShort (s : List ℕ) (value : ℕ → Read) (p k : ℕ) : Type 0 where
+  pub is : readList s value p ≡ Short (p + k)
+  pub near : k ≤ 516
 
-  pub was-short : (t : Thresholds) (at : ℕ) → t ≡ thresholdsOf (readList s value p) → t .step ≡ listStep.End at → readList s value p ≡ Short at
-  was-short t at e f = go (readList s value p) (sym (ap (λ (x : Thresholds). x .step) e) ∙ f)
+module _ (s : List ℕ) (value : ℕ → Read) (p top : ℕ) (near : (p : ℕ) → Near (value p) p 34 top) (h : Bytes s) (t : Thresholds) (e : t ≡ thresholdsOf p (readList s value p)) where
+  pub was-list : (n : ℕ) (q : Place) → t .step ≡ listStep.Listed n q → WasList s value p t n q
+  was-list n q f = listed (readList s value p) t n q s value p e f refl (λ vs at i. list-near value top near s h p vs at i)
+
+  pub was-short : (k : ℕ) → t .step ≡ listStep.End k → WasShort s value p k
+  was-short k f = go (readList s value p) refl (sym (ap (λ (x : Thresholds). x .step) e) ∙ f)
     where
-      go : (r : Reading (List ℕ)) → thresholdsOf r .step ≡ listStep.End at → r ≡ Short at
-      go (Is vs q) g = absurd (let z : _≡_ {A = ℕ} 0 1 = cc in omega arith)
-      go (Short q) g = let a : q ≡ at = cc in ap (λ (x : ℕ). Short x) a
+      go : (r : Reading (List ℕ)) → readList s value p ≡ r → thresholdsOf p r .step ≡ listStep.End k → WasShort s value p k
+      go (Is vs q) i g = absurd (let z : _≡_ {A = ℕ} 0 1 = cc in omega arith)
+      go (Short q) i g =
+          let a : q - p ≡ k = cc in
+          let l = list-ends value top near s h p q i in
+          let b : q ≡ p + k = omega arith in
+          record { is = i ∙ ap (λ (x : ℕ). Short x) b; near = omega arith }
 
 -- The four lists one after the other.
 module _ (s : List ℕ) (p : ℕ) where

@@ -33,6 +33,7 @@ pub record Half (value : ℕ → Read) (n from : ℕ) (values : List ℕ) (q : P
   pub at : ℕ
   pub place : q ≡ placeAt at
   pub near : at ≤ from + 34 * k
+  pub past : from ≤ at
   pub left : prefix done (readValues value (n - k) at) ≡ readValues value n from
 
 -- one place more of a list that is filled from the front
@@ -44,9 +45,9 @@ pad-more vs v k e h =
     ∙ set-at vs 0 (replicate m 0) v k e
     ∙ sym (append-assoc vs (v ∷ []) (replicate m 0))
 
-listed : (n : ℕ) (q : Place) (values done : List ℕ) (at : ℕ) → length done ≡ n → q ≡ placeAt at → values ≡ pad 15 done
-    → record { step = listStep.Listed n q; values = values } ≡ thresholdsOf (Is done at)
-listed n q values done at c p v = rw (← c, p, v)
+listed : (start n : ℕ) (q : Place) (values done : List ℕ) (at : ℕ) → length done ≡ n → q ≡ placeAt at → values ≡ pad 15 done
+    → record { step = listStep.Listed n q; values = values } ≡ thresholdsOf start (Is done at)
+listed start n q values done at c p v = rw (← c, p, v)
 
 module _ (value : ℕ → Read) (n from : ℕ) where
   more : (j p v at : ℕ) → value p ≡ Value v at → readValues value (suc j) p ≡ prepend v (readValues value j at)
@@ -71,11 +72,12 @@ module _ (value : ℕ → Read) (n from : ℕ) where
         at = from;
         place = e;
         near = omega arith;
+        past = omega arith;
         left = prefix-nil (readValues value (n - 0) from) ∙ ap (λ (j : ℕ). readValues value j from) z;
       }
 
   module _ (values : List ℕ) (q : Place) (k : ℕ) (h : Half value n from values q k) (l : k < n) where
-    pub half-step : (v at : ℕ) (r : Place) → n ≤ 15 → ((w b : ℕ) → value (h .at) ≡ Value w b → b ≤ h .at + 34) → value (h .at) ≡ Value v at → r ≡ placeAt at
+    pub half-step : (v at : ℕ) (r : Place) → n ≤ 15 → ((w b : ℕ) → value (h .at) ≡ Value w b → (b ≤ h .at + 34) × (h .at ≤ b)) → value (h .at) ≡ Value v at → r ≡ placeAt at
         → Half value n from (set values k v) r (k + 1)
     half-step v at r m near e f =
         let a : n - k ≡ suc (n - (k + 1)) = omega arith in
@@ -85,24 +87,25 @@ module _ (value : ℕ → Read) (n from : ℕ) where
           is = ap (λ (s : List ℕ). set s k v) (h .is) ∙ pad-more (h .done) v k (h .count) (omega arith);
           at = at;
           place = f;
-          near = omega (arith, h .near, near v at e);
+          near = omega (arith, h .near, near v at e .0);
+          past = omega (arith, h .past, near v at e .1);
           left =
               sym (prefix-more (h .done) v (readValues value (n - (k + 1)) at))
               ∙ ap (prefix (h .done)) (sym (ap (λ (j : ℕ). readValues value j (h .at)) a ∙ more (n - (k + 1)) (h .at) v at e))
               ∙ h .left;
         }
 
-    pub half-short : (at : ℕ) → value (h .at) ≡ Ended at → record { step = listStep.End at; values = replicate 15 0 } ≡ thresholdsOf (readValues value n from)
-    half-short at e =
+    pub half-short : (start at : ℕ) → value (h .at) ≡ Ended at → record { step = listStep.End (at - start); values = replicate 15 0 } ≡ thresholdsOf start (readValues value n from)
+    half-short start at e =
         let a : n - k ≡ suc (n - (k + 1)) = omega arith in
         let r : readValues value n from ≡ Short at =
         sym (h .left) ∙ ap (prefix (h .done)) (ap (λ (j : ℕ). readValues value j (h .at)) a ∙ short (n - (k + 1)) (h .at) at e)
         in
         rw r
 
-  pub half-done : (values : List ℕ) (q : Place) (k : ℕ) → Half value n from values q k → k ≡ n
-      → record { step = listStep.Listed n q; values = values } ≡ thresholdsOf (readValues value n from)
-  half-done values q k h e =
+  pub half-done : (start : ℕ) (values : List ℕ) (q : Place) (k : ℕ) → Half value n from values q k → k ≡ n
+      → record { step = listStep.Listed n q; values = values } ≡ thresholdsOf start (readValues value n from)
+  half-done start values q k h e =
       let a : n - k ≡ 0 = omega arith in
       let r : readValues value n from ≡ Is (h .done) (h .at) =
       sym (h .left)
@@ -111,4 +114,4 @@ module _ (value : ℕ → Read) (n from : ℕ) where
       ∙ ap (λ (s : List ℕ). Is s (h .at)) (append-nil (h .done))
       in
       let c : length (h .done) ≡ n = h .count ∙ e in
-      listed n q values (h .done) (h .at) c (h .place) (h .is) ∙ ap thresholdsOf (sym r)
+      listed start n q values (h .done) (h .at) c (h .place) (h .is) ∙ ap (thresholdsOf start) (sym r)

@@ -26,23 +26,23 @@ field-lt s p n v at h e =
 
 -- What is known of a read behind p bits: it takes at most m bits, its value is at most top, and it ends behind at most 2 bits.
 pub record Near (r : Read) (p m top : ℕ) : Type 0 where
-  pub value : (v at : ℕ) → r ≡ Value v at → (at ≤ p + m) × (v ≤ top)
+  pub value : (v at : ℕ) → r ≡ Value v at → (at ≤ p + m) × (v ≤ top) × (p ≤ at)
   pub end : (at : ℕ) → r ≡ Ended at → (p ≤ at) × (at ≤ p + 2)
 
 -- a choice behind p bits takes at most 32 bits, and its value is at most top
 Small : List ℕ → ℕ → Choice → Type 0
-Small s top m = (p v at : ℕ) → readChoice s p m ≡ Value v at → (at ≤ p + 32) × (v ≤ top)
+Small s top m = (p v at : ℕ) → readChoice s p m ≡ Value v at → (at ≤ p + 32) × (v ≤ top) × (p ≤ at)
 
 offset-small : (s : List ℕ) (o n top : ℕ) → Bytes s → n ≤ 32 → o + 2 ^ n ≤ top + 1 → Small s top (Offset o n)
 unfolding Small
 offset-small s o n top h l t p v at e = go (readBits s p n) refl
   where
-    go : (r : Read) → readBits s p n ≡ r → (at ≤ p + 32) × (v ≤ top)
+    go : (r : Read) → readBits s p n ≡ r → (at ≤ p + 32) × (v ≤ top) × (p ≤ at)
     go (Value w q) f =
         let g = rw f at e in
         let a : q ≡ at = cc in
         let b : (o + w) % 2 ^ 32 ≡ v = cc in
-        (omega (arith, value-at s p n w q f .0), omega (arith, field-lt s p n w q h f))
+        (omega (arith, value-at s p n w q f .0), omega (arith, field-lt s p n w q h f), omega (arith, value-at s p n w q f .0))
     go (Ended q) f = absurd (let z : _≡_ {A = ℕ} 0 1 = cc (rw f at e) in omega arith)
 
 module _ (s : List ℕ) (top : ℕ) (a b c d : Choice) (sa : Small s top a) (sb : Small s top b) (sc : Small s top c) (sd : Small s top d) where
@@ -52,12 +52,12 @@ module _ (s : List ℕ) (top : ℕ) (a b c d : Choice) (sa : Small s top a) (sb 
   chosen-small (suc (suc zero)) = sc
   chosen-small (suc (suc (suc k))) = sd
 
-  u32-value : (p v at : ℕ) → readU32 s p a b c d ≡ Value v at → (at ≤ p + 34) × (v ≤ top)
+  u32-value : (p v at : ℕ) → readU32 s p a b c d ≡ Value v at → (at ≤ p + 34) × (v ≤ top) × (p ≤ at)
   unfolding readU32 Small
   u32-value p v at e = go (readBits s p 2) refl
     where
-      go : (r : Read) → readBits s p 2 ≡ r → (at ≤ p + 34) × (v ≤ top)
-      go (Value k q) f = let t = chosen-small k q v at (rw f at e) in (omega (arith, value-at s p 2 k q f .0, t .0), t .1)
+      go : (r : Read) → readBits s p 2 ≡ r → (at ≤ p + 34) × (v ≤ top) × (p ≤ at)
+      go (Value k q) f = let t = chosen-small k q v at (rw f at e) in (omega (arith, value-at s p 2 k q f .0, t .0), t .1, omega (arith, value-at s p 2 k q f .0, t .2))
       go (Ended q) f = absurd (let z : _≡_ {A = ℕ} 0 1 = cc (rw f at e) in omega arith)
 
   u32-end : (p at : ℕ) → readU32 s p a b c d ≡ Ended at → (p ≤ at) × (at ≤ p + 2)
@@ -81,7 +81,7 @@ mapped (Value u q) f p m top new up n =
           let t : q ≡ at = cc in
           let w : f u ≡ v = cc in
           let k = n .value u q refl in
-          (omega (arith, k .0), omega (arith, up u (k .1)));
+          (omega (arith, k .0), omega (arith, up u (k .1)), omega (arith, k .2));
       end = λ at e. absurd (let z : _≡_ {A = ℕ} 0 1 = cc in omega arith);
     }
 mapped (Ended q) f p m top new up n =
@@ -126,7 +126,7 @@ module _ (s : List ℕ) (h : Bytes s) where
   value-near Lf p = lf-near p
   value-near Qf p =
       let n = qf-near p in
-      record { value = λ v at e. let t = n .value v at e in (t .0, omega (arith, t .1)); end = n .end }
+      record { value = λ v at e. let t = n .value v at e in (t .0, omega (arith, t .1), t .2); end = n .end }
 
 -- a qf value is at least 1
 pub qf-some : (s : List ℕ) (p v at : ℕ) → qfValue s p ≡ Value v at → 1 ≤ v

@@ -3,24 +3,17 @@ use bits::Got;
 use bits::Place;
 use bits::U32Specifier;
 ghost use mathlib.Core.Path.{_≡_};
-ghost use Prim.Native.Nat.{_≤_, _<_};
-ghost use Rattle.bits.specs.Bits.{readBits};
-ghost use Rattle.bits.specs.Reads.{passed};
+ghost use Prim.Native.Nat.{_+_, _≤_, _<_};
+ghost use Rattle.bits.specs.Reads.{passed, gotOf};
 ghost use Rattle.thresholds.specs.Reading.{lfValue, qfValue, readValues, readList};
-ghost use Rattle.thresholds.specs.Steps.{readValue, stepOf, thresholdsOf};
+ghost use Rattle.thresholds.specs.Steps.{readValue, thresholdsOf};
 
 pub enum Kind {
     Lf,
     Qf,
 }
 
-// A number and the place behind it, or the bits read where they end.
-pub enum Step {
-    Value(u32, Place),
-    End(usize),
-}
-
-// A list's length and the place behind the list, or the bits read where they end.
+// A list's length and the place behind the list, or the bits of the list that were read where they end.
 pub enum ListStep {
     Listed(u32, Place),
     End(usize),
@@ -32,22 +25,9 @@ pub struct Thresholds {
     pub values: [u32; 15],
 }
 
-// A field of n bits.
-pub fn field(bytes: &[u8], p: Place, n: u32) -> Step
-    requires { ⌜ (passed p ≤ 4000) × (n ≤ 32) ⌝ }
-    ensures { λ r. ⌜ r ≡ stepOf (readBits (now (bytes .entry)) (passed p) n) ⌝ }
-{
-    let got = bits::read_bits(bytes, p, n);
-    match got {
-        Got::Value(v, next) => Step::Value(v, next),
-        Got::End(taken) => Step::End(p.bits_read() + taken as usize),
-    }
-}
-
 // A signed number, as its bit pattern.
-fn lf_value(bytes: &[u8], p: Place) -> Step
-    requires { ⌜ passed p ≤ 4000 ⌝ }
-    ensures { λ r. ⌜ r ≡ stepOf (lfValue (now (bytes .entry)) (passed p)) ⌝ }
+fn lf_value(bytes: &[u8], p: Place) -> Got
+    ensures { λ r. ⌜ r ≡ gotOf (passed p) (lfValue (now (bytes .entry)) (passed p)) ⌝ }
 {
     let d0 = U32Specifier { offset: 0, bits: 4 };
     let d1 = U32Specifier {
@@ -64,14 +44,13 @@ fn lf_value(bytes: &[u8], p: Place) -> Step
     };
     let got = bits::read_u32(bytes, p, d0, d1, d2, d3);
     match got {
-        Got::Value(u, next) => Step::Value(bits::unpack_signed(u), next),
-        Got::End(taken) => Step::End(p.bits_read() + taken as usize),
+        Got::Value(u, next) => Got::Value(bits::unpack_signed(u), next),
+        Got::End(taken) => Got::End(taken),
     }
 }
 
-fn qf_value(bytes: &[u8], p: Place) -> Step
-    requires { ⌜ passed p ≤ 4000 ⌝ }
-    ensures { λ r. ⌜ r ≡ stepOf (qfValue (now (bytes .entry)) (passed p)) ⌝ }
+fn qf_value(bytes: &[u8], p: Place) -> Got
+    ensures { λ r. ⌜ r ≡ gotOf (passed p) (qfValue (now (bytes .entry)) (passed p)) ⌝ }
 {
     let d0 = U32Specifier { offset: 0, bits: 2 };
     let d1 = U32Specifier { offset: 4, bits: 3 };
@@ -85,14 +64,13 @@ fn qf_value(bytes: &[u8], p: Place) -> Step
     };
     let got = bits::read_u32(bytes, p, d0, d1, d2, d3);
     match got {
-        Got::Value(u, next) => Step::Value(1 + u, next),
-        Got::End(taken) => Step::End(p.bits_read() + taken as usize),
+        Got::Value(u, next) => Got::Value(1 + u, next),
+        Got::End(taken) => Got::End(taken),
     }
 }
 
-fn read_value(bytes: &[u8], p: Place, kind: Kind) -> Step
-    requires { ⌜ passed p ≤ 4000 ⌝ }
-    ensures { λ r. ⌜ r ≡ stepOf (readValue kind (now (bytes .entry)) (passed p)) ⌝ }
+fn read_value(bytes: &[u8], p: Place, kind: Kind) -> Got
+    ensures { λ r. ⌜ r ≡ gotOf (passed p) (readValue kind (now (bytes .entry)) (passed p)) ⌝ }
 {
     match kind {
         Kind::Lf => lf_value(bytes, p),
@@ -100,25 +78,26 @@ fn read_value(bytes: &[u8], p: Place, kind: Kind) -> Step
     }
 }
 
-// n values one after the other.
-fn read_values(bytes: &[u8], from: Place, kind: Kind, n: u32) -> Thresholds
-    requires { ⌜ (n ≤ 15) × (from .bit < 8) × (passed from ≤ 3000) ⌝ }
-    ensures { λ r. ⌜ r ≡ thresholdsOf (readValues (readValue kind (now (bytes .entry))) n (passed from)) ⌝ }
+// n values one after the other, of a list that starts at start.
+fn read_values(bytes: &[u8], start: Place, from: Place, kind: Kind, n: u32) -> Thresholds
+    requires { ⌜ (n ≤ 15) × (from .bit < 8) × (passed from ≡ passed start + 4) ⌝ }
+    ensures { λ r. ⌜ r ≡ thresholdsOf (passed start) (readValues (readValue kind (now (bytes .entry))) n (passed from)) ⌝ }
 {
     let end = n as usize;
     let mut values = [0u32; 15];
     let mut p = from;
     let mut k = 0;
     while k < end {
-        let step = read_value(bytes, p, kind);
-        match step {
-            Step::End(at) => {
+        let got = read_value(bytes, p, kind);
+        match got {
+            Got::End(taken) => {
+                let before = std::num::wrapping_sub_usize(p.bits_read(), start.bits_read());
                 return Thresholds {
-                    step: ListStep::End(at),
+                    step: ListStep::End(before + taken as usize),
                     values: [0u32; 15],
                 };
             }
-            Step::Value(v, next) => {
+            Got::Value(v, next) => {
                 values[k] = v;
                 p = next;
             }
@@ -133,15 +112,14 @@ fn read_values(bytes: &[u8], from: Place, kind: Kind, n: u32) -> Thresholds
 
 // Four bits give the length.
 pub fn read_list(bytes: &[u8], p: Place, kind: Kind) -> Thresholds
-    requires { ⌜ (p .bit < 8) × (passed p ≤ 2900) ⌝ }
-    ensures { λ r. ⌜ r ≡ thresholdsOf (readList (now (bytes .entry)) (readValue kind (now (bytes .entry))) (passed p)) ⌝ }
+    ensures { λ r. ⌜ r ≡ thresholdsOf (passed p) (readList (now (bytes .entry)) (readValue kind (now (bytes .entry))) (passed p)) ⌝ }
 {
-    let length = field(bytes, p, 4);
+    let length = bits::read_bits(bytes, p, 4);
     match length {
-        Step::End(at) => Thresholds {
-            step: ListStep::End(at),
+        Got::End(taken) => Thresholds {
+            step: ListStep::End(taken as usize),
             values: [0u32; 15],
         },
-        Step::Value(n, next) => read_values(bytes, next, kind, n),
+        Got::Value(n, next) => read_values(bytes, p, next, kind, n),
     }
 }

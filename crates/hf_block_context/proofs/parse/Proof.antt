@@ -1,12 +1,11 @@
-use Prim.Native.Nat.{_%_, ℕ, _-_}
+use Prim.Native.Nat.{ℕ}
+use Rattle.refusal.specs.declared.Refusal.the-variants.{BitsEnd}
 use Rattle.bits.specs.declared.Place.{Place}
 use Rattle.bits.specs.Bits.{readBits}
-use Rattle.bits.specs.Reads.{passed}
-use Rattle.bits.specs.Laws.{WasValue, passed-at, value-at}
+use Rattle.bits.specs.Reads.{passed, gotOf}
+use Rattle.bits.specs.Laws.{WasValue, was-value, was-end, passed-at, value-at}
 use Rattle.thresholds.specs.Reading.{readLists}
-use Rattle.hf_block_context.specs.Call.{judgedLists, orEnded, accepted, stored, noLists, DEFAULT-MAP}
-use Rattle.thresholds.specs.Steps.{stepOf}
-use Rattle.thresholds.specs.StepLaws.{stepped, ended}
+use Rattle.hf_block_context.specs.Call.{judgedLists, orEnded, accepted, refused, stored, noLists, DEFAULT-MAP}
 use Rattle.hf_block_context.specs.CallLaws.{parsed-ended, parsed-default, parsed-lists}
 use borrow.Author.Needs.{needs}
 use native.Mathlib.Omega.{arith}
@@ -19,8 +18,8 @@ bit : (c : tie.After-first2) → WasValue (readBits (c .before .before .before .
 bit c =
     let s = c .before .before .before .before .before .before .args .bytes .now in
     let g = c .first2 .given in
-    stepped (readBits s 0 1) (g .0 .0) (g .0 .1 .0)
-    (ap (λ (p : Place). stepOf (readBits s (passed p) 1)) (sym (c .before .before .before .start .ensures)) ∙ sym (c .before .before .field .ensures) ∙ g .1)
+    was-value 0 (readBits s 0 1) (g .0 .0) (g .0 .1 .0)
+    (ap (λ (p : Place). gotOf (passed p) (readBits s (passed p) 1)) (sym (c .before .before .before .start .ensures)) ∙ sym (c .before .before .read-bits .ensures) ∙ g .1)
 
 bit-near : (c : tie.After-first2) → (passed (c .first2 .given .0 .1 .0) ≡ bit c .at) × (bit c .at ≡ 1)
 bit-near c =
@@ -30,12 +29,14 @@ bit-near c =
 start-requires : tie.Need-start-requires
 start-requires c κs = search needs
 
-field-requires : tie.Need-field-requires
-field-requires c κs =
-    (rw (c .start .ensures) (omega arith), omega arith)
+read-bits-requires : tie.Need-read-bits-requires
+read-bits-requires c κs = search needs
 
 enum-known-first : tie.Need-enum-known-first
 enum-known-first c = search needs
+
+cast-t10 : tie.Need-cast-t10
+cast-t10 c = search needs
 
 refuse-requires : tie.Need-refuse-requires
 refuse-requires c κs = search needs
@@ -60,20 +61,18 @@ returns c =
     ∙ parsed-default (a .bytes .now) (a .num-clusters) (a .map .now) (f .first2 .given .0 .0) (b .at) (b .is) (c .before .before .if1 .taken)
 
 by-lists-requires : tie.Need-by-lists-requires
-by-lists-requires c κs =
-    let f = c .before .before in
-    let e : f .first2 .given .0 .1 .0 .bit ≡ bit f .at % 8 = ap (λ (p : Place). p .bit) (bit f .place) in
-    (omega (arith, e), omega (arith, bit-near f))
+by-lists-requires c κs = omega (arith, bit-near (c .before .before))
 
 returns-2 : tie.Need-returns-2
 returns-2 c =
     let a = c .before .before .before .before .before .before .before .before .args in
     let s = a .bytes .now in
     let g = c .before .before .first .given in
-    c .refuse .ensures
-    ∙ parsed-ended s (a .num-clusters) (a .map .now) (g .0 .0)
-    (ended (readBits s 0 1) (g .0 .0)
-    (ap (λ (p : Place). stepOf (readBits s (passed p) 1)) (sym (c .before .before .before .before .before .start .ensures)) ∙ sym (c .before .before .before .before .field .ensures) ∙ g .1))
+    let e = was-end 0 (readBits s 0 1) (g .0 .0)
+    (ap (λ (p : Place). gotOf (passed p) (readBits s (passed p) 1)) (sym (c .before .before .before .before .before .start .ensures)) ∙ sym (c .before .before .before .before .read-bits .ensures) ∙ g .1)
+    in
+    let t : g .0 .0 ≡ e .at = omega (arith, e .taken) in
+    c .refuse .ensures ∙ ap (λ (n : ℕ). refused (BitsEnd n)) t ∙ parsed-ended s (a .num-clusters) (a .map .now) (e .at) (e .is)
 
 returns-3 : tie.Need-returns-3
 returns-3 c =
@@ -89,8 +88,9 @@ parse-spec =
     tie.close
     (tie.spec
     start-requires
-    field-requires
+    read-bits-requires
     enum-known-first
+    cast-t10
     refuse-requires
     enum-known-first-2
     bits-read-requires

@@ -1,7 +1,5 @@
-use mathlib.Core.Path.{_≡_, _∙_, sym, ap}
-use lib.ListN.{length}
+use mathlib.Core.Path.{_∙_, sym, ap}
 use borrow.Author.Tests.{not-true, not-false}
-use Rattle.layout.specs.Cut.{groupWide, groupHigh}
 use Rattle.block_check.specs.declared.Group.{Group}
 use Rattle.block_check.specs.Calls.{lengthsFit}
 use Rattle.block_check.specs.Laws.{in-limits, lent-cells}
