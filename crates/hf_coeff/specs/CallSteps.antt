@@ -27,7 +27,7 @@ use Rattle.hf_coeff_checks.specs.declared.preset.PresetAnswer.{PresetAnswer}
 use Rattle.hf_coeff_checks.specs.declared.preset.PresetAnswer.the-variants as preset
 use Rattle.hf_coeff_checks.specs.Checks.{readFit, writtenFit}
 use Rattle.hf_coeff_checks.specs.Preset.{presetOf}
-use Rattle.hf_coeff_work.specs.Work.{readingBy, WorkReady}
+use Rattle.hf_coeff_group.specs.Work.{readingBy, WorkReady}
 use Rattle.hf_coeff.specs.Call.{Lent, blocks, clustersOf, sidesFit, parametersFit, lengthsFit, layoutFits, reading, outcome, answered, leaves, refuse, readPreset, withPreset, call}
 use Rattle.hf_coeff.specs.Fits.{sides-fit, parameters-fit, lengths-fit}
 
@@ -105,16 +105,13 @@ call-done L p q n e f r v log g0 g1 g2 a d =
     ap (λ (w : CoeffAnswer). leaves w log g0 g1 g2) a ∙ outcome-by r log (g0 ∷ g1 ∷ g2 ∷ []) (reading L n) d ∙ call-read L p q n e f
 
 pub work-ready : (L : Lent) → Passed L → (n : ℕ) → n < L .presets
-    → WorkReady (L .pass) (length (L .clusterMap)) (L .shift) (length (L .log)) (length (getD (L .grids) 0 [])) (length (getD (L .grids) 1 [])) (length (getD (L .grids) 2 [])) n
+    → WorkReady (L .pass) (length (L .clusterMap)) (L .shift) (length (L .log)) n
 work-ready L p n h =
     let P = L .pass in
     let s = sides-fit P (p .sides) in
     let t = parameters-fit (L .shift) (L .presets) (p .parameters) in
     let l = lengths-fit L (p .lengths) in
     let k = few-clusters (P .contexts) (p .contexts) in
-    let g0 = l .grids 0 (omega arith) in
-    let g1 = l .grids 1 (omega arith) in
-    let g2 = l .grids 2 (omega arith) in
     record {
       clusters = k;
       stretch = within (495 * clustersOf P) n (L .presets) (length (L .clusterMap)) h (l .map);
@@ -127,14 +124,10 @@ work-ready L p n h =
         clustered = refl;
         few = k;
         whole = l .store;
-        stored = p .places;
         entries = e;
         shifts = t .0;
         room = rw (mul-comm (P .width) (P .height)) (l .log);
-        sized = g0;
       };
-      same1 = g1 ∙ sym g0;
-      same2 = g2 ∙ sym g0;
     }
   where
     within : (w n m k : ℕ) → n < m → k ≡ w * m → w * n + w ≤ k

@@ -47,7 +47,7 @@ abbrev pub itemsBy : Plan → ℕ → List ℕ → List Item
 itemsBy p width store = itemBy p width store 0 1 ∷ itemBy p width store 1 0 ∷ itemBy p width store 2 2 ∷ []
 
 -- what the reading of a planned varblock requires
-pub record PlanReady (p : Plan) (width clusters : ℕ) (map store : List ℕ) (symbols at shift log cells : ℕ) : Type 0 where
+pub record PlanReady (p : Plan) (width clusters : ℕ) (map store : List ℕ) (symbols at shift log : ℕ) : Type 0 where
   pub left : p .at .x < 32
   pub column : p .at .x < width
   pub top : p .at .y < 32
@@ -61,7 +61,6 @@ pub record PlanReady (p : Plan) (width clusters : ℕ) (map store : List ℕ) (s
   pub begins : at ≤ symbols
   pub shifts : shift ≤ 3
   pub room : at + 192 * 2 ^ (p .at .log) ≤ log
-  pub inside : (n c k : ℕ) → c < 3 → k < 63 * 2 ^ (p .at .log) → getD (itemBy p width store n c .places) k 0 < cells
 
 -- by way of the transform
 number-lt : (t : TransformType) → numberOf t < 27

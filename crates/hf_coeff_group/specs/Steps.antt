@@ -12,7 +12,6 @@ use Rattle.hf_coeff_walk.specs.declared.Walk.the-variants.{Ended, Stopped}
 use Rattle.hf_coeff_walk.specs.Walk.{Walked, ended, stopped}
 use Rattle.hf_coeff_walk.specs.Outcome.{answerOf, logOf, gridOf, Handed}
 use Rattle.hf_coeff_walk.specs.Item.{rowOf}
-use Rattle.hf_coeff_walk.specs.Counts.{Counts}
 use Rattle.hf_coeff_group.specs.Group.{Grids, Reading, going, refused}
 
 abbrev pub isStopped : Walk → Bool
@@ -32,7 +31,6 @@ pub record InGrid (c : ℕ) (G : Grids) (r : Walk) (log : List ℕ) (G′ : Grid
 -- three rows of counts
 pub record Rows (rows : Grids) : Type 0 where
   pub three : length rows ≡ 3
-  pub counts : (c : ℕ) → Counts (getD rows c [])
 
 -- the part of the rows that a group of this width uses
 abbrev pub cut : ℕ → Grids → Grids

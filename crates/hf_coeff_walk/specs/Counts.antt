@@ -31,6 +31,13 @@ index-cases : (p : ℕ) (b : Bool) → leb 8 p ≡ b → p ≤ 63 → cond b (4 
 index-cases p true e h = omega arith
 index-cases p false e h = omega (arith, leb-false 8 p e)
 
+pub index-small : (p : ℕ) → p ≤ 4294967295 → countIndex p ≤ 4294967295
+index-small p h = go (leb 8 p)
+  where
+    go : (b : Bool) → cond b (4 + p / 2) p ≤ 4294967295
+    go true = omega arith
+    go false = h
+
 pub index-le : (p : ℕ) → p ≤ 63 → countIndex p ≤ 35
 index-le p h = index-cases p (leb 8 p) refl h
 
@@ -111,9 +118,9 @@ few-no n m h = rw (lt-leb n m h)
 pub power-le : (log : ℕ) → log ≤ 10 → 2 ^ log ≤ 1024
 power-le log h = pow-mono h
 
-pub shifted-left : (a log : ℕ) → a ≤ 64 → log ≤ 10 → a * 2 ^ log % 2 ^ 64 ≡ a * 2 ^ log
+pub shifted-left : (a log : ℕ) → a ≤ 128 → log ≤ 10 → a * 2 ^ log % 2 ^ 64 ≡ a * 2 ^ log
 shifted-left a log h l =
-    mod-eq-of-lt (let b : a * 2 ^ log ≤ 64 * 1024 = mul-le-mul {n₁ = a} {m₁ = 2 ^ log} {n₂ = 64} {m₂ = 1024} h (power-le log l) in omega arith)
+    mod-eq-of-lt (let b : a * 2 ^ log ≤ 128 * 1024 = mul-le-mul {n₁ = a} {m₁ = 2 ^ log} {n₂ = 128} {m₂ = 1024} h (power-le log l) in omega arith)
 
 pub few-le : (n m : ℕ) → cond (leb n m) 1 0 ≤ 1
 few-le n m = go (leb n m)

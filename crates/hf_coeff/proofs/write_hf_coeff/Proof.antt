@@ -1,7 +1,7 @@
 use borrow.Author.Tests.{not-true, not-false}
 use mathlib.Core.Bool.{true}
 use Rattle.block_context.specs.Record.{fit}
-use Rattle.hf_coeff_work.specs.Work.{passWith}
+use Rattle.hf_coeff_group.specs.Work.{passWith}
 use Rattle.hf_coeff.specs.Call.{Lent, lent, sidesFit, parametersFit, lengthsFit, layoutFits}
 use Rattle.hf_coeff.specs.CallLaws.{call-size, call-parameter, call-context, call-length, call-layout, call-place}
 use Rattle.hf_coeff.specs.CallSteps.{Passed, lengths-are, most-blocks, few-clusters, below, work-ready, call-refused, call-done}
