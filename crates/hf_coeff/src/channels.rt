@@ -9,7 +9,7 @@ use hf_coeff_walk::item::Varblock;
 use hf_pass_store::order;
 ghost use mathlib.Core.Path.{_≡_};
 ghost use mathlib.Core.List.{[], _∷_};
-ghost use Prim.Native.Nat.{ℕ, _+_, _*_, _^_, _≤_, _<_};
+ghost use Prim.Native.Nat.{ℕ, _+_, _*_, _^_, _<_};
 ghost use lib.ListN.{length, getD, drop};
 ghost use Rattle.hf_coeff_walk.specs.Item.{counted};
 ghost use Rattle.hf_coeff_walk.specs.Items.{ItemReady, itemAt};

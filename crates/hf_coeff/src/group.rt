@@ -5,7 +5,6 @@ use crate::rows::rewritten_all;
 use crate::walked::is_stopped;
 use crate::walked::symbols_read;
 use hf_coeff_walk::Walk;
-ghost use mathlib.Core.Path.{_≡_};
 ghost use mathlib.Core.List.{[], _∷_};
 ghost use lib.ListN.{length};
 ghost use Rattle.hf_coeff_group.specs.Group.{going, group};

@@ -5,39 +5,32 @@ use mathlib.Core.List.{List, [], _∷_}
 use Prim.Native.Nat.{ℕ, zero, suc, _+_, _*_, _-_, _^_, _<_, _≤_}
 use native.Mathlib.Omega.{arith}
 use native.Mathlib.Nat.{mul-mul-mul-comm, mul-comm}
-use lib.Arith.{digits-lt}
 use lib.Dec.{leb}
-use lib.ListN.{length, getD, set, take, drop, replicate, length-drop}
-use lib.Seq.{getD-drop}
+use lib.ListN.{length, getD, take, drop, replicate}
 use borrow.Author.Tests.{le-leb, lt-leb}
 use Rattle.refusal.specs.declared.Refusal.{Refusal}
 use Rattle.dct_select.specs.Transforms.{wide, high, orderOf, turns}
 use Rattle.dct_select.specs.BlockSizes.{widthOf, heightOf}
-use Rattle.natural_order.specs.Places.{Place}
 use Rattle.layout.specs.Grid.{at}
-use Rattle.layout.specs.Kinds.{wide-sized, high-sized}
 use Rattle.layout.specs.Valid.{Cells, Fits, Layout}
-use Rattle.layout.specs.Varblocks.{addVarblock, cornersRow, cornersFrom, area}
+use Rattle.layout.specs.Varblocks.{cornersRow, cornersFrom, area}
 use Rattle.layout.specs.Varblocks as layout
 use Rattle.layout.specs.Theorems.{layout-area}
-use Rattle.hf_pass_store.specs.Store.{PLACES, stretch, placesFit}
-use Rattle.block_context.specs.declared.HfBlockContext.{HfBlockContext}
+use Rattle.hf_pass_store.specs.Store.{PLACES, stretch}
 use Rattle.block_context.specs.Record.{fit}
-use Rattle.block_context_index.specs.Lists.{used}
 use Rattle.block_context_index.specs.Bounds.{context-lt}
 use Rattle.hf_coeff_walk.specs.declared.Walk.{Walk}
 use Rattle.hf_coeff_walk.specs.declared.Walk.the-variants.{Ended, Stopped}
-use Rattle.hf_coeff_walk.specs.Places.{across, down, cellOf, paired, placesOf}
-use Rattle.hf_coeff_walk.specs.PlaceLaws.{length-paired, place-at}
+use Rattle.hf_coeff_walk.specs.Places.{across}
 use Rattle.hf_coeff_walk.specs.Item.{Item}
 use Rattle.hf_coeff_group.specs.declared.plan.Plan.{Plan}
-use Rattle.hf_coeff_group.specs.Pass.{Pass, varblocks, blocksOf, placesAt, itemOf, channels}
+use Rattle.hf_coeff_group.specs.Pass.{Pass, varblocks, itemOf, channels}
 use Rattle.hf_coeff_group.specs.Group.{Grids, Reading, going, refused, item, read, varblock, group}
 use Rattle.hf_coeff_group.specs.Sizes.{logOf, order-lt, log-blocks, log-le, Sides, swapped, straight, sides-of}
-use Rattle.hf_coeff_group.specs.Stored.{stretch-long, place-inside}
+use Rattle.hf_coeff_group.specs.Stored.{stretch-long}
 use Rattle.hf_coeff_group.specs.Steps.{isStopped, readBy, Rows, cut, Shown}
-use Rattle.hf_coeff_group.specs.StepLaws.{On, shown-on}
-use Rattle.hf_coeff_group.specs.Plans.{varblockOf, planBy, itemBy, itemsBy, PlanReady}
+use Rattle.hf_coeff_group.specs.StepLaws.{shown-on}
+use Rattle.hf_coeff_group.specs.Plans.{planBy, itemsBy, PlanReady}
 
 -- the pass of what is lent
 abbrev pub passOf : ℕ → ℕ → List ℕ → List ℕ → ℕ → List ℕ → List ℕ → List ℕ → List ℕ → Bool → List ℕ → List ℕ → List ℕ → List ℕ → Pass

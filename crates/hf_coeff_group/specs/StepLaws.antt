@@ -1,31 +1,28 @@
 -- One channel's step of the reading, as the code takes it.
-use mathlib.Core.Path.{_≡_, refl, ap, ap₂, sym, subst, _∙_}
-use mathlib.Core.Bool.{Bool, true, false, cond}
+use mathlib.Core.Path.{_≡_, refl, ap, sym, subst, _∙_}
+use mathlib.Core.Bool.{true, false}
 use mathlib.Core.List.{List, [], _∷_}
 use Prim.Native.Nat.{ℕ, zero, suc, _+_, _*_, _^_, _-_, _<_, _≤_}
 use native.Mathlib.Omega.{arith}
-use native.Mathlib.Decide.{ℕ-discrete, decLt, decLe}
-use borrow.Author.Tests.{leb-true}
-use lib.Dec.{leb}
-use lib.Pow.{pow-pos}
-use lib.ListN.{length, getD, set, take, drop, length-set, drop-of-length-le, length-drop}
-use lib.Seq.{drop-cons, drop-drop, getD-set-same, getD-set-other, set-out}
+use native.Mathlib.Decide.{decLt, decLe}
+use lib.ListN.{length, getD, set, take, drop, length-set, length-drop}
+use lib.Seq.{drop-cons, drop-drop, getD-set-other}
 use Rattle.refusal.specs.declared.Refusal.{Refusal}
 use Rattle.refusal.specs.declared.Refusal.the-variants.{SymbolsEnd, Count}
 use Rattle.hf_coeff_walk.specs.declared.Walk.{Walk}
 use Rattle.hf_coeff_walk.specs.declared.Walk.the-variants.{Ended, Stopped}
 use Rattle.hf_coeff_walk.specs.Walk.{Walked, ended, stopped, walk}
 use Rattle.hf_coeff_walk.specs.Outcome.{answerOf, logOf, gridOf}
-use Rattle.hf_coeff_walk.specs.Item.{Item, newRow, countOver, rowOf, countCluster, coeffPart, counted}
+use Rattle.hf_coeff_walk.specs.Item.{Item, newRow, countOver, rowOf, countCluster, counted}
 use Rattle.hf_coeff_walk.specs.declared.item.Varblock.{Varblock}
 use Rattle.hf_coeff_walk.specs.Places.{paired}
 use Rattle.hf_coeff_walk.specs.PlaceLaws.{length-paired, length-places}
 use Rattle.hf_coeff_walk.specs.Items.{itemAt, ItemReady, counted-15, counted-16}
-use Rattle.hf_coeff_walk.specs.Counts.{Counts, predicted-take, row-take, row-le, count-over}
-use Rattle.hf_coeff_walk.specs.Kept.{Kept, KeptBy, counted-kept}
+use Rattle.hf_coeff_walk.specs.Counts.{predicted-take, row-take}
+use Rattle.hf_coeff_walk.specs.Kept.{KeptBy, counted-kept}
 use Rattle.hf_coeff_group.specs.Group.{Grids, Reading, going, refused, after, item, read}
-use Rattle.hf_coeff_group.specs.Steps.{isStopped, readBy, InGrid, Rows, cut, rowBy, Going, Ends, Shown}
-use Rattle.hf_coeff_group.specs.Plans.{inChannel, itemBy, PlanReady}
+use Rattle.hf_coeff_group.specs.Steps.{isStopped, readBy, InGrid, Rows, cut, rowBy, Shown}
+use Rattle.hf_coeff_group.specs.Plans.{inChannel, PlanReady}
 use Rattle.hf_coeff_group.specs.declared.plan.Plan.{Plan}
 use Rattle.hf_pass_store.specs.Store as kept
 

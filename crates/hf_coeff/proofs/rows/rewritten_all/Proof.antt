@@ -1,5 +1,4 @@
 use borrow.Author.Needs.{needs}
-use mathlib.Core.Path.{refl}
 use Rattle.hf_coeff.proofs.rows.rewritten_all.Statement.{statement}
 use Rattle.hf_coeff.proofs.rows.rewritten_all.Tie as tie
 

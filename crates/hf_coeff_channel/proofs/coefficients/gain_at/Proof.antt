@@ -2,9 +2,9 @@ use Rattle.hf_coeff_walk.specs.Places.{paired, placesOf}
 use Rattle.hf_coeff_walk.specs.Outcome.{gain-none, gain-more, gain-out}
 use borrow.Author.Needs.{needs}
 use native.Mathlib.Omega.{arith}
-use mathlib.Core.Path.{ap, sym}
+use mathlib.Core.Path.{sym}
 use Prim.Native.Nat.{_-_}
-use lib.ListN.{length, getD, take}
+use lib.ListN.{getD}
 use Rattle.hf_coeff_channel.proofs.coefficients.gain_at.Statement.{statement}
 use Rattle.hf_coeff_channel.proofs.coefficients.gain_at.Tie as tie
 use Rattle.bits.proofs.unpack_signed.Reads as unpack-signed-reads

@@ -6,7 +6,7 @@ use Rattle.hf_coeff_walk.specs.PlaceLaws.{places-count}
 use Rattle.hf_coeff_walk.specs.Outcome.{walk-used, walk-done, walk-17, walk-15, walk-zero, walk-more, ends}
 use borrow.Author.Needs.{needs}
 use native.Mathlib.Omega.{arith}
-use lib.ListN.{length, getD, take, drop, set, length-set}
+use lib.ListN.{length, drop, length-set}
 use Rattle.hf_coeff_channel.proofs.coefficients.walk_places.Statement.{statement}
 use Rattle.hf_coeff_channel.proofs.coefficients.walk_places.Tie as tie
 use Rattle.hf_coeff_channel.proofs.context.coeff_context.Reads as coeff-context-reads
