@@ -19,7 +19,7 @@ use Rattle.hf_coeff.specs.declared.CoeffAnswer.the-variants.{Accepted, R
 use Rattle.hf_coeff_group.specs.Pass.{Pass, varblocks}
 use Rattle.hf_coeff_group.specs.Group.{Grids, Reading, going, refused, group, leftOf}
 pub use Rattle.hf_coeff_checks.specs.Checks.{parametersFit}
-pub use Rattle.hf_coeff_work.specs.Work.{passWith, clustersOf, rowsOf}
+pub use Rattle.hf_coeff_group.specs.Work.{passWith, clustersOf, rowsOf}
 
 -- what is lent
 pub record Lent : Type 0 where

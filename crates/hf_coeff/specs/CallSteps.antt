@@ -25,24 +25,31 @@ use Rattle.hf_coeff.specs.declared.CoeffAnswer.{CoeffAnswer}
 use Rattle.hf_coeff.specs.declared.CoeffAnswer.the-variants.{Accepted, Refused}
 use Rattle.hf_coeff_checks.specs.declared.preset.PresetAnswer.{PresetAnswer}
 use Rattle.hf_coeff_checks.specs.declared.preset.PresetAnswer.the-variants as preset
-use Rattle.hf_coeff_checks.specs.Checks.{readFit, writtenFit}
+use Rattle.hf_coeff_checks.specs.Checks.{readFit, writtenFit, groupPasses}
+use Rattle.hf_coeff_checks.specs.ChecksLaws.{written-is, passes-is}
 use Rattle.hf_coeff_checks.specs.Preset.{presetOf}
-use Rattle.hf_coeff_work.specs.Work.{readingBy, WorkReady}
+use Rattle.hf_coeff_group.specs.Work.{readingBy, WorkReady}
 use Rattle.hf_coeff.specs.Call.{Lent, blocks, clustersOf, sidesFit, parametersFit, lengthsFit, layoutFits, reading, outcome, answered, leaves, refuse, readPreset, withPreset, call}
 use Rattle.hf_coeff.specs.Fits.{sides-fit, parameters-fit, lengths-fit}
 
-pub lengths-are : (L : Lent) (first r : Bool)
+pub lengths-are : (L : Lent) (first r : Bool) → clustersOf (L .pass) ≤ 16 → L .presets ≤ 256 → blocks (L .pass) ≤ 1024
     → first ≡ readFit (length (L .pass .kinds)) (length (L .pass .muls)) (L .pass .lfThere) (length (L .pass .lf0)) (length (L .pass .lf1)) (length (L .pass .lf2)) (length (L .pass .store)) (blocks (L .pass))
     → r ≡ writtenFit (clustersOf (L .pass)) (L .presets) (length (L .clusterMap)) (length (getD (L .grids) 0 [])) (length (getD (L .grids) 1 [])) (length (getD (L .grids) 2 [])) (length (L .log)) (blocks (L .pass)) first
     → lengthsFit L ≡ r
-lengths-are L first r e f =
-    sym (f ∙ ap (writtenFit (clustersOf (L .pass)) (L .presets) (length (L .clusterMap)) (length (getD (L .grids) 0 [])) (length (getD (L .grids) 1 [])) (length (getD (L .grids) 2 [])) (length (L .log)) (blocks (L .pass))) e)
+lengths-are L first r c p n e f =
+    sym (f
+    ∙ written-is (clustersOf (L .pass)) (L .presets) (length (L .clusterMap)) (length (getD (L .grids) 0 [])) (length (getD (L .grids) 1 [])) (length (getD (L .grids) 2 [])) (length (L .log)) (blocks (L .pass)) first c p n
+    ∙ rw e)
 
 pub most-blocks : (P : Pass) → sidesFit P ≡ true → blocks P ≤ 1024
 most-blocks P e = let s = sides-fit P e in mul-le-mul (s .high) (s .wide)
 
 pub few-clusters : (R : HfBlockContext) → fit R ≡ true → R .«num_block_clusters» ≤ 16
 few-clusters R e = is-fit R e .few
+
+-- 18, once sides and lengths fit
+pub layout-is : (L : Lent) → sidesFit (L .pass) ≡ true → lengthsFit L ≡ true → groupPasses (L .pass .width) (L .pass .height) (L .pass .kinds) (L .pass .muls) ≡ layoutFits (L .pass)
+layout-is L a b = let l = lengths-fit L b in passes-is (L .pass .width) (L .pass .height) (L .pass .kinds) (L .pass .muls) a (l .kinds) (l .muls)
 
 -- what the checks before work leave
 pub record Passed (L : Lent) : Type 0 where
@@ -105,16 +112,13 @@ call-done L p q n e f r v log g0 g1 g2 a d =
     ap (λ (w : CoeffAnswer). leaves w log g0 g1 g2) a ∙ outcome-by r log (g0 ∷ g1 ∷ g2 ∷ []) (reading L n) d ∙ call-read L p q n e f
 
 pub work-ready : (L : Lent) → Passed L → (n : ℕ) → n < L .presets
-    → WorkReady (L .pass) (length (L .clusterMap)) (L .shift) (length (L .log)) (length (getD (L .grids) 0 [])) (length (getD (L .grids) 1 [])) (length (getD (L .grids) 2 [])) n
+    → WorkReady (L .pass) (length (L .clusterMap)) (L .shift) (length (L .log)) n
 work-ready L p n h =
     let P = L .pass in
     let s = sides-fit P (p .sides) in
     let t = parameters-fit (L .shift) (L .presets) (p .parameters) in
     let l = lengths-fit L (p .lengths) in
     let k = few-clusters (P .contexts) (p .contexts) in
-    let g0 = l .grids 0 (omega arith) in
-    let g1 = l .grids 1 (omega arith) in
-    let g2 = l .grids 2 (omega arith) in
     record {
       clusters = k;
       stretch = within (495 * clustersOf P) n (L .presets) (length (L .clusterMap)) h (l .map);
@@ -127,14 +131,10 @@ work-ready L p n h =
         clustered = refl;
         few = k;
         whole = l .store;
-        stored = p .places;
         entries = e;
         shifts = t .0;
         room = rw (mul-comm (P .width) (P .height)) (l .log);
-        sized = g0;
       };
-      same1 = g1 ∙ sym g0;
-      same2 = g2 ∙ sym g0;
     }
   where
     within : (w n m k : ℕ) → n < m → k ≡ w * m → w * n + w ≤ k

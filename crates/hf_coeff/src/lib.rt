@@ -1,4 +1,5 @@
 // The coefficients of a pass group (`hf_coeff.rs`).
+use crate::work::read_with;
 use block_check::Group;
 use block_context::HfBlockContext;
 use block_context::fit::is_fit;
@@ -6,9 +7,16 @@ use hf_coeff_checks::checks;
 use hf_coeff_checks::preset;
 use hf_coeff_checks::preset::PresetAnswer;
 use hf_coeff_walk::Walk;
-use hf_coeff_work::read_with;
 use hf_pass_store::places_fit;
 use refusal::Refusal;
+
+pub mod channels;
+pub mod group;
+pub mod plan;
+pub mod rows;
+pub mod walked;
+pub mod work;
+
 ghost use mathlib.Core.Path.{_≡_};
 ghost use Rattle.hf_coeff.specs.Call.{passWith, lent, leaves, call};
 ghost use Rattle.hf_coeff.specs.CallSteps.{answerBy};

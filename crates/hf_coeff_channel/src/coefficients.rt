@@ -1,11 +1,11 @@
 // The coefficients of one channel of a varblock (`hf_coeff.rs`).
 use bits::unpack_signed;
+use crate::context::COEFF_FREQ_CONTEXT;
+use crate::context::COEFF_NUM_NONZERO_CONTEXT;
+use crate::context::coeff_context;
+use crate::place::cell;
 use hf_coeff_walk::Walk;
-use hf_coeff_walk::context::COEFF_FREQ_CONTEXT;
-use hf_coeff_walk::context::COEFF_NUM_NONZERO_CONTEXT;
-use hf_coeff_walk::context::coeff_context;
 use hf_coeff_walk::place::Spot;
-use hf_coeff_walk::place::cell;
 use refusal::Refusal;
 ghost use mathlib.Core.Path.{_≡_};
 ghost use Prim.Native.Nat.{_/_, _*_, _%_, _^_, _≤_, _<_};
@@ -21,15 +21,18 @@ fn shifted(x: u32, shift: u32) -> u32
     x << shift
 }
 
-// The cell of place k gains what symbol u says, shifted.
+// The cell of place k gains what symbol u says, shifted, if the grid has that cell.
 fn gain_at(order: &[u16], k: usize, spot: Spot, u: u32, shift: u32, grid: &mut [u32])
-    requires { ⌜ (k < length (now order) / 2) × (spot .row ≤ 256) × (spot .x ≤ 256) × (spot .y ≤ 256) × (shift ≤ 3) × (getD (spotPlaces spot (now order)) k 0 < length (now grid)) ⌝ }
+    requires { ⌜ (k < length (now order) / 2) × (spot .row ≤ 256) × (spot .x ≤ 256) × (spot .y ≤ 256) × (shift ≤ 3) ⌝ }
     ensures { λ r. ⌜ now (grid .exit) ≡ gain shift (now (grid .entry)) (getD (spotPlaces spot (now (order .entry))) k 0) u ⌝ }
 {
     if u == 0 {
         return;
     }
     let p = cell(order, k, spot);
+    if grid.len() <= p {
+        return;
+    }
     let v = std::num::wrapping_add_u32(grid[p], shifted(unpack_signed(u), shift));
     grid[p] = v;
 }
@@ -49,7 +52,7 @@ fn walk_places(
     log: &mut [u8],
     grid: &mut [u32],
 ) -> Walk
-    requires { ⌜ (now nonzeros ≡ NUM-NONZERO) × (now frequencies ≡ FREQ) × Ready spot (now order) (length (now symbols)) start count first (length (now part)) shift (length (now log)) (length (now grid)) ⌝ }
+    requires { ⌜ (now nonzeros ≡ NUM-NONZERO) × (now frequencies ≡ FREQ) × Ready spot (now order) (length (now symbols)) start count first (length (now part)) shift (length (now log)) ⌝ }
     ensures { λ r. ⌜ Handed r (now (log .exit)) (now (grid .exit)) (walk shift (2 ^ (spot .log)) (now (part .entry)) (placesOf (spot .turn) (spot .row) (spot .x) (spot .y) (paired (now (order .entry)))) 0 first count (drop start (now (symbols .entry))) start (now (log .entry)) (now (grid .entry))) ⌝ }
 {
     let mut at = start;
@@ -98,7 +101,7 @@ pub(crate) fn coefficients(
     log: &mut [u8],
     grid: &mut [u32],
 ) -> Walk
-    requires { ⌜ Ready spot (now order) (length (now symbols)) start count first (length (now part)) shift (length (now log)) (length (now grid)) ⌝ }
+    requires { ⌜ Ready spot (now order) (length (now symbols)) start count first (length (now part)) shift (length (now log)) ⌝ }
     ensures { λ r. ⌜ Handed r (now (log .exit)) (now (grid .exit)) (walk shift (2 ^ (spot .log)) (now (part .entry)) (placesOf (spot .turn) (spot .row) (spot .x) (spot .y) (paired (now (order .entry)))) 0 first count (drop start (now (symbols .entry))) start (now (log .entry)) (now (grid .entry))) ⌝ }
 {
     let nonzeros = COEFF_NUM_NONZERO_CONTEXT;

@@ -4,12 +4,8 @@ use block_check::Group;
 use block_check::check::check_group;
 use hf_pass_store::NUMBERS;
 ghost use mathlib.Core.Path.{_≡_};
-ghost use mathlib.Core.Bool.{true};
-ghost use Prim.Native.Nat.{_*_, _≤_};
-ghost use lib.ListN.{length};
-ghost use Rattle.layout.specs.Check.{isLayout};
 ghost use Rattle.block_check.specs.Calls.{inLimits};
-ghost use Rattle.hf_coeff_checks.specs.Checks.{parametersFit, threeFit, lfLengthsFit, readFit, writtenFit};
+ghost use Rattle.hf_coeff_checks.specs.Checks.{parametersFit, threeFit, lfLengthsFit, readFit, writtenFit, groupPasses};
 
 // Both sides are 1 to 32 blocks.
 pub fn sides_fit(wide: usize, high: usize) -> bool
@@ -84,7 +80,7 @@ pub fn read_fit(
     store == NUMBERS
 }
 
-// Lengths of the cluster map, the three grids and the log, once the others fit.
+// Lengths of the cluster map, the three grids and the log, once limits and the other lengths fit.
 pub fn written_fit(
     clusters: usize,
     presets: usize,
@@ -96,9 +92,17 @@ pub fn written_fit(
     n: usize,
     first: bool,
 ) -> bool
-    requires { ⌜ (clusters ≤ 16) × (presets ≤ 256) × (n ≤ 1024) ⌝ }
     ensures { λ r. ⌜ r ≡ writtenFit clusters presets map g0 g1 g2 log n first ⌝ }
 {
+    if 16 < clusters {
+        return false;
+    }
+    if 256 < presets {
+        return false;
+    }
+    if 1024 < n {
+        return false;
+    }
     if !first {
         return false;
     }
@@ -112,10 +116,9 @@ pub fn written_fit(
     192 * n <= log
 }
 
-// 18, once sides and lengths fit.
+// The check of a group lets it pass.
 pub fn layout_fits(wide: usize, high: usize, kinds: &[u8], muls: &[u32]) -> bool
-    requires { ⌜ (inLimits 32 wide high ≡ true) × (length (now kinds) ≡ high * wide) × (length (now muls) ≡ high * wide) ⌝ }
-    ensures { λ r. ⌜ r ≡ isLayout wide high (now (kinds .entry)) (now (muls .entry)) ⌝ }
+    ensures { λ r. ⌜ r ≡ groupPasses wide high (now (kinds .entry)) (now (muls .entry)) ⌝ }
 {
     let checked = check_group(Group { wide, high }, kinds, muls);
     match checked {

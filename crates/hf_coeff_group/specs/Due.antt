@@ -5,39 +5,32 @@ use mathlib.Core.List.{List, [], _∷_}
 use Prim.Native.Nat.{ℕ, zero, suc, _+_, _*_, _-_, _^_, _<_, _≤_}
 use native.Mathlib.Omega.{arith}
 use native.Mathlib.Nat.{mul-mul-mul-comm, mul-comm}
-use lib.Arith.{digits-lt}
 use lib.Dec.{leb}
-use lib.ListN.{length, getD, set, take, drop, replicate, length-drop}
-use lib.Seq.{getD-drop}
+use lib.ListN.{length, getD, take, drop, replicate}
 use borrow.Author.Tests.{le-leb, lt-leb}
 use Rattle.refusal.specs.declared.Refusal.{Refusal}
 use Rattle.dct_select.specs.Transforms.{wide, high, orderOf, turns}
 use Rattle.dct_select.specs.BlockSizes.{widthOf, heightOf}
-use Rattle.natural_order.specs.Places.{Place}
 use Rattle.layout.specs.Grid.{at}
-use Rattle.layout.specs.Kinds.{wide-sized, high-sized}
 use Rattle.layout.specs.Valid.{Cells, Fits, Layout}
-use Rattle.layout.specs.Varblocks.{addVarblock, cornersRow, cornersFrom, area}
+use Rattle.layout.specs.Varblocks.{cornersRow, cornersFrom, area}
 use Rattle.layout.specs.Varblocks as layout
 use Rattle.layout.specs.Theorems.{layout-area}
-use Rattle.hf_pass_store.specs.Store.{PLACES, stretch, placesFit}
-use Rattle.block_context.specs.declared.HfBlockContext.{HfBlockContext}
+use Rattle.hf_pass_store.specs.Store.{PLACES, stretch}
 use Rattle.block_context.specs.Record.{fit}
-use Rattle.block_context_index.specs.Lists.{used}
 use Rattle.block_context_index.specs.Bounds.{context-lt}
 use Rattle.hf_coeff_walk.specs.declared.Walk.{Walk}
 use Rattle.hf_coeff_walk.specs.declared.Walk.the-variants.{Ended, Stopped}
-use Rattle.hf_coeff_walk.specs.Places.{across, down, cellOf, paired, placesOf}
-use Rattle.hf_coeff_walk.specs.PlaceLaws.{length-paired, place-at}
+use Rattle.hf_coeff_walk.specs.Places.{across}
 use Rattle.hf_coeff_walk.specs.Item.{Item}
 use Rattle.hf_coeff_group.specs.declared.plan.Plan.{Plan}
-use Rattle.hf_coeff_group.specs.Pass.{Pass, varblocks, blocksOf, placesAt, itemOf, channels}
+use Rattle.hf_coeff_group.specs.Pass.{Pass, varblocks, itemOf, channels}
 use Rattle.hf_coeff_group.specs.Group.{Grids, Reading, going, refused, item, read, varblock, group}
 use Rattle.hf_coeff_group.specs.Sizes.{logOf, order-lt, log-blocks, log-le, Sides, swapped, straight, sides-of}
-use Rattle.hf_coeff_group.specs.Stored.{stretch-long, place-inside}
+use Rattle.hf_coeff_group.specs.Stored.{stretch-long}
 use Rattle.hf_coeff_group.specs.Steps.{isStopped, readBy, Rows, cut, Shown}
-use Rattle.hf_coeff_group.specs.StepLaws.{On, shown-on}
-use Rattle.hf_coeff_group.specs.Plans.{varblockOf, planBy, itemBy, itemsBy, PlanReady}
+use Rattle.hf_coeff_group.specs.StepLaws.{shown-on}
+use Rattle.hf_coeff_group.specs.Plans.{planBy, itemsBy, PlanReady}
 
 -- the pass of what is lent
 abbrev pub passOf : ℕ → ℕ → List ℕ → List ℕ → ℕ → List ℕ → List ℕ → List ℕ → List ℕ → Bool → List ℕ → List ℕ → List ℕ → List ℕ → Pass
@@ -82,7 +75,7 @@ pub record Read (r : Walk) (log : List ℕ) (G : Grids) (R : Reading) : Type 0 w
   pub cells : G ≡ gridsBy R
 
 -- what the checks before work leave
-pub record GroupReady (P : Pass) (clusters map shift log cells : ℕ) : Type 0 where
+pub record GroupReady (P : Pass) (clusters map shift log : ℕ) : Type 0 where
   pub across : P .width ≤ 32
   pub below : P .height ≤ 32
   pub layout : Layout (P .width) (P .height) (P .kinds) (P .muls)
@@ -90,11 +83,9 @@ pub record GroupReady (P : Pass) (clusters map shift log cells : ℕ) : Type 0 w
   pub clustered : clusters ≡ P .contexts .«num_block_clusters»
   pub few : clusters ≤ 16
   pub whole : length (P .store) ≡ 2 * PLACES
-  pub stored : placesFit (P .store) ≡ true
   pub entries : map ≡ 495 * clusters
   pub shifts : shift ≤ 3
   pub room : 192 * (P .width * P .height) ≤ log
-  pub sized : cells ≡ 64 * (P .height * P .width)
 
 module _ (P : Pass) where
   abbrev pub K : Cells
@@ -128,7 +119,7 @@ pub few-is : (P : Pass) (x y at₀ : ℕ) (p : Plan) → p ≡ planAt P x y → 
 few-is P x y at₀ p e h = rw (e, log-blocks (K P x y - 2) h)
 
 -- one corner
-module _ (P : Pass) (clusters map shift log cells : ℕ) (r : GroupReady P clusters map shift log cells) (x y : ℕ) (hx : x < P .width) (hy : y < P .height) (corner : 2 ≤ K P x y) where
+module _ (P : Pass) (clusters map shift log : ℕ) (r : GroupReady P clusters map shift log) (x y : ℕ) (hx : x < P .width) (hy : y < P .height) (corner : 2 ≤ K P x y) where
   abbrev t : ℕ
   t = K P x y - 2
 
@@ -164,26 +155,8 @@ module _ (P : Pass) (clusters map shift log cells : ℕ) (r : GroupReady P clust
         let e = log-blocks t known in
         omega arith
 
-    in-sides : (bw bh : ℕ) (q : Place) → Sides (turns t) (wide t) (high t) bw bh → q .0 < bw → q .1 < bh → (across (turns t) q < 8 * wide t) × (down (turns t) q < 8 * high t)
-    in-sides bw bh q (swapped e a b) h k = rw e (omega arith, omega arith)
-    in-sides bw bh q (straight e a b) h k = rw e (omega arith, omega arith)
-
-    place-lt : (k : ℕ) → k < 63 * 2 ^ logOf t → getD (placesOf (turns t) (8 * P .width) (8 * x) (8 * y) (drop (2 ^ logOf t) (paired order))) k 0 < cells
-    place-lt k h =
-        let n = 2 ^ logOf t in
-        let l : length (paired order) ≡ 64 * 2 ^ logOf t = (let e = length-paired order in let f = order-long in omega arith) in
-        let m : k < length (drop (2 ^ logOf t) (paired order)) = rw (length-drop (2 ^ logOf t) (paired order)) (omega arith) in
-        let q = getD (paired order) (2 ^ logOf t + k) (0, 0) in
-        let i = place-inside (P .store) (r .stored) (orderOf t) c (order-lt t known) hc (2 ^ logOf t + k) (omega arith) in
-        let s = in-sides (widthOf (orderOf t)) (heightOf (orderOf t)) q (sides-of t known) (i .0) (i .1) in
-        let u : across (turns t) q < 8 * wide t = s .0 in
-        let v : down (turns t) q < 8 * high t = s .1 in
-        let w = right in let z = bottom in
-        let g : cells ≡ 8 * P .height * (8 * P .width) = r .sized ∙ sym (mul-mul-mul-comm 8 (P .height) 8 (P .width)) in
-        rw (place-at (turns t) (8 * P .width) (8 * x) (8 * y) (drop (2 ^ logOf t) (paired order)) k m, getD-drop (2 ^ logOf t) (paired order) k (0, 0), g) (digits-lt (omega arith) (omega arith))
-
   pub plan-ready : (stretch₀ : List ℕ) → length stretch₀ ≡ map → (symbols at₀ : ℕ) → at₀ ≤ symbols → at₀ + 192 * (wide t * high t) ≤ log
-      → PlanReady (planAt P x y) (P .width) clusters stretch₀ (P .store) symbols at₀ shift log cells
+      → PlanReady (planAt P x y) (P .width) clusters stretch₀ (P .store) symbols at₀ shift log
   plan-ready stretch₀ e symbols at₀ b m =
       let w = r .across in let h = r .below in let p = right in let l = log-blocks t known in
       record {
@@ -200,7 +173,6 @@ module _ (P : Pass) (clusters map shift log cells : ℕ) (r : GroupReady P clust
         begins = b;
         shifts = r .shifts;
         room = omega arith;
-        inside = λ n c k hc j. place-lt c hc k j;
       }
     where
       context : (n : ℕ) → n < 3 → getD (planAt P x y .contexts) n 0 < P .contexts .«num_block_clusters»
@@ -313,22 +285,11 @@ take-zeros zero n h = refl
 take-zeros (suc w) zero h = absurd (omega arith)
 take-zeros (suc w) (suc n) h = ap (λ (l : List ℕ). 0 ∷ l) (take-zeros w n (omega arith))
 
-zeros-at : (n i : ℕ) → getD {A = ℕ} (replicate n 0) i 0 ≡ 0
-zeros-at zero i = refl
-zeros-at (suc n) zero = refl
-zeros-at (suc n) (suc i) = zeros-at n i
-
 pub zeros-cut : (w : ℕ) → w ≤ 32 → cut w (replicate 3 (replicate 32 0)) ≡ zeroRows w
 zeros-cut w h = rw (take-zeros w 32 h)
 
 pub zeros-fine : Rows (replicate 3 (replicate 32 0))
-zeros-fine = record { three = refl; counts = at-row }
-  where
-    at-row : (c i : ℕ) → getD (getD (replicate 3 (replicate 32 0)) c []) i 0 ≤ 63
-    at-row zero i = omega (arith, zeros-at 32 i)
-    at-row (suc zero) i = omega (arith, zeros-at 32 i)
-    at-row (suc (suc zero)) i = omega (arith, zeros-at 32 i)
-    at-row (suc (suc (suc c))) i = omega arith
+zeros-fine = record { three = refl }
 
 pub due-start : (shift clusters : ℕ) (stretch₀ : List ℕ) (P : Pass) (symbols log : List ℕ) (G : Grids) → P .width ≤ 32 → Layout (P .width) (P .height) (P .kinds) (P .muls)
     → Due shift clusters stretch₀ P symbols (192 * (P .width * P .height)) (group shift clusters stretch₀ P (varblocks P) (going symbols 0 log G (zeroRows (P .width)) 0))

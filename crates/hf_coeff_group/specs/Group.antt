@@ -1,5 +1,5 @@
 -- Reading a pass group: its varblocks in turn (document 01, Coefficients; `write_hf_coeff`).
-use mathlib.Core.Path.{_≡_, refl, _∙_}
+use mathlib.Core.Path.{_≡_, refl}
 use mathlib.Core.List.{List, [], _∷_, _++_}
 use Prim.Native.Nat.{ℕ, _+_}
 use lib.ListN.{getD, set}

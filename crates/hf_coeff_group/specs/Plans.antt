@@ -2,13 +2,13 @@
 use mathlib.Core.Path.{_≡_, refl, ap, sym, _∙_}
 use mathlib.Core.Bool.{Bool, true, false, not, _&&_, _||_}
 use mathlib.Core.List.{List, [], _∷_, map}
-use Prim.Native.Nat.{ℕ, zero, suc, _+_, _*_, _^_, _-_, _<_, _≤_}
+use Prim.Native.Nat.{ℕ, _+_, _*_, _^_, _-_, _<_, _≤_}
 use native.Mathlib.Omega.{arith}
 use native.Mathlib.Decide.{decLt}
 use borrow.Author.Tests.{lt-leb}
 use lib.Dec.{leb}
-use lib.ListN.{length, getD, drop, List·getD-eq-default}
-use Rattle.laws.specs.Lists.{getD-map, tabulate, getD-tabulate}
+use lib.ListN.{length, getD, List·getD-eq-default}
+use Rattle.laws.specs.Lists.{getD-map, getD-tabulate}
 use Rattle.dct_select.specs.declared.TransformType.{TransformType}
 use Rattle.dct_select.specs.declared.TransformType.the-variants.{Dct8, Hornuss, Dct2, Dct4, Dct16, Dct32, Dct16x8, Dct8x16, Dct32x8, Dct8x32, Dct32x16, Dct16x32, Dct4x8, Dct8x4, Afv0, Afv1, Afv2, Afv3, Dct64, Dct64x32, Dct32x64, Dct128, Dct128x64, Dct64x128, Dct256, Dct256x128, Dct128x256}
 use Rattle.refusal.specs.Said as refusals
@@ -47,7 +47,7 @@ abbrev pub itemsBy : Plan → ℕ → List ℕ → List Item
 itemsBy p width store = itemBy p width store 0 1 ∷ itemBy p width store 1 0 ∷ itemBy p width store 2 2 ∷ []
 
 -- what the reading of a planned varblock requires
-pub record PlanReady (p : Plan) (width clusters : ℕ) (map store : List ℕ) (symbols at shift log cells : ℕ) : Type 0 where
+pub record PlanReady (p : Plan) (width clusters : ℕ) (map store : List ℕ) (symbols at shift log : ℕ) : Type 0 where
   pub left : p .at .x < 32
   pub column : p .at .x < width
   pub top : p .at .y < 32
@@ -61,7 +61,6 @@ pub record PlanReady (p : Plan) (width clusters : ℕ) (map store : List ℕ) (s
   pub begins : at ≤ symbols
   pub shifts : shift ≤ 3
   pub room : at + 192 * 2 ^ (p .at .log) ≤ log
-  pub inside : (n c k : ℕ) → c < 3 → k < 63 * 2 ^ (p .at .log) → getD (itemBy p width store n c .places) k 0 < cells
 
 -- by way of the transform
 number-lt : (t : TransformType) → numberOf t < 27

@@ -1,9 +1,8 @@
 -- How the sizes of transforms and orders hang together.
-use mathlib.Core.Path.{_≡_, refl, ap, sym, _∙_}
+use mathlib.Core.Path.{_≡_, refl}
 use mathlib.Core.Bool.{Bool, true, false, _&&_}
 use mathlib.Core.List.{List, [], _∷_}
-use Prim.Native.Nat.{ℕ, _+_, _*_, _^_, _<_, _≤_}
-use native.Mathlib.Omega.{arith}
+use Prim.Native.Nat.{ℕ, _*_, _^_, _<_, _≤_}
 use lib.Dec.{T, ltb, leb, eqb, eqb→eq, ltb→lt, leb→le}
 use lib.Ieee.Fits.{and-l, and-r}
 use lib.ListN.{getD}

@@ -1,31 +1,28 @@
 -- One channel's step of the reading, as the code takes it.
-use mathlib.Core.Path.{_≡_, refl, ap, ap₂, sym, subst, _∙_}
-use mathlib.Core.Bool.{Bool, true, false, cond}
+use mathlib.Core.Path.{_≡_, refl, ap, sym, subst, _∙_}
+use mathlib.Core.Bool.{true, false}
 use mathlib.Core.List.{List, [], _∷_}
 use Prim.Native.Nat.{ℕ, zero, suc, _+_, _*_, _^_, _-_, _<_, _≤_}
 use native.Mathlib.Omega.{arith}
-use native.Mathlib.Decide.{ℕ-discrete, decLt, decLe}
-use borrow.Author.Tests.{leb-true}
-use lib.Dec.{leb}
-use lib.Pow.{pow-pos}
-use lib.ListN.{length, getD, set, take, drop, length-set, drop-of-length-le, length-drop}
-use lib.Seq.{drop-cons, drop-drop, getD-set-same, getD-set-other, set-out}
+use native.Mathlib.Decide.{decLt, decLe}
+use lib.ListN.{length, getD, set, take, drop, length-set, length-drop}
+use lib.Seq.{drop-cons, drop-drop, getD-set-other}
 use Rattle.refusal.specs.declared.Refusal.{Refusal}
 use Rattle.refusal.specs.declared.Refusal.the-variants.{SymbolsEnd, Count}
 use Rattle.hf_coeff_walk.specs.declared.Walk.{Walk}
 use Rattle.hf_coeff_walk.specs.declared.Walk.the-variants.{Ended, Stopped}
 use Rattle.hf_coeff_walk.specs.Walk.{Walked, ended, stopped, walk}
 use Rattle.hf_coeff_walk.specs.Outcome.{answerOf, logOf, gridOf}
-use Rattle.hf_coeff_walk.specs.Item.{Item, newRow, countOver, rowOf, countCluster, coeffPart, counted}
+use Rattle.hf_coeff_walk.specs.Item.{Item, newRow, countOver, rowOf, countCluster, counted}
 use Rattle.hf_coeff_walk.specs.declared.item.Varblock.{Varblock}
 use Rattle.hf_coeff_walk.specs.Places.{paired}
 use Rattle.hf_coeff_walk.specs.PlaceLaws.{length-paired, length-places}
 use Rattle.hf_coeff_walk.specs.Items.{itemAt, ItemReady, counted-15, counted-16}
-use Rattle.hf_coeff_walk.specs.Counts.{Counts, predicted-take, row-take, row-le, count-over}
-use Rattle.hf_coeff_walk.specs.Kept.{Kept, KeptBy, counted-kept}
+use Rattle.hf_coeff_walk.specs.Counts.{predicted-take, row-take}
+use Rattle.hf_coeff_walk.specs.Kept.{KeptBy, counted-kept}
 use Rattle.hf_coeff_group.specs.Group.{Grids, Reading, going, refused, after, item, read}
-use Rattle.hf_coeff_group.specs.Steps.{isStopped, readBy, InGrid, Rows, cut, rowBy, Going, Ends, Shown}
-use Rattle.hf_coeff_group.specs.Plans.{inChannel, itemBy, PlanReady}
+use Rattle.hf_coeff_group.specs.Steps.{isStopped, readBy, InGrid, Rows, cut, rowBy, Shown}
+use Rattle.hf_coeff_group.specs.Plans.{inChannel, PlanReady}
 use Rattle.hf_coeff_group.specs.declared.plan.Plan.{Plan}
 use Rattle.hf_pass_store.specs.Store as kept
 
@@ -53,13 +50,8 @@ set-cut w (a ∷ []) c row e h = absurd (omega arith)
 set-cut w (a ∷ b ∷ []) c row e h = absurd (omega arith)
 set-cut w (a ∷ b ∷ d ∷ x ∷ l) c row e h = absurd (omega arith)
 
-set-rows : (rows : Grids) (c : ℕ) (row : List ℕ) → Rows rows → Counts row → Rows (set rows c row)
-set-rows rows c row r h = record { three = length-set rows c row ∙ r .three; counts = λ d. at d (ℕ-discrete d c) (decLt c (length rows)) }
-  where
-    at : (d : ℕ) → Dec (d ≡ c) → Dec (c < length rows) → Counts (getD (set rows c row) d [])
-    at d (yes e) (yes l) = rw (e, getD-set-same rows c row [] l) h
-    at d (yes e) (no l) = rw (set-out rows c row (omega arith)) (r .counts d)
-    at d (no n) l = rw (getD-set-other rows c d row [] n) (r .counts d)
+set-rows : (rows : Grids) (c : ℕ) (row : List ℕ) → Rows rows → Rows (set rows c row)
+set-rows rows c row r = record { three = length-set rows c row ∙ r .three }
 
 -- the walk ended: the count was read
 module _ (shift clusters : ℕ) (stretch : List ℕ) (c : ℕ) (it : Item) (row symbols : List ℕ) (at : ℕ) (log : List ℕ) (G : Grids) (r : Walk) (log₁ : List ℕ) (G₁ : Grids)
@@ -113,9 +105,9 @@ module _ (shift clusters : ℕ) (stretch : List ℕ) (c width : ℕ) (it : Item)
         }
 
     -- the walk ended: the row is rewritten
-    item-goes : isStopped r ≡ false → 0 < it .blocks → suc (length (it .places)) ≤ most - at → at ≤ most
+    item-goes : isStopped r ≡ false → suc (length (it .places)) ≤ most - at → at ≤ most
         → (left : ℕ) → Shown width symbols most r (rowBy rows c (it .x) (it .wide) (countOver (getD symbols at 0) (it .blocks))) log₁ G₁ (stepped left)
-    item-goes e pos room start left = rw (stepped-is left) (go w refl (counted-kept shift clusters stretch it (getD rows c []) (drop at symbols) at log (getD G c [])))
+    item-goes e room start left = rw (stepped-is left) (go w refl (counted-kept shift clusters stretch it (getD rows c []) (drop at symbols) at log (getD G c [])))
       where
         v : ℕ
         v = countOver (getD symbols at 0) (it .blocks)
@@ -141,8 +133,7 @@ module _ (shift clusters : ℕ) (stretch : List ℕ) (c width : ℕ) (it : Item)
                 rest = k .rest ∙ drop-drop (k .k) at symbols ∙ ap (λ (j : ℕ). drop j symbols) (sym f);
                 begins = omega arith;
                 few = omega arith;
-                fine = set-rows rows c (rowOf (getD rows c []) (it .x) (it .wide) v) fine
-                    (row-le (getD rows c []) (it .x) (it .wide) v (count-over (getD symbols at 0) (it .blocks) pos (read .1)) (fine .counts c));
+                fine = set-rows rows c (rowOf (getD rows c []) (it .x) (it .wide) v) fine;
                 used = rows-are;
                 logged = sym (got .logged ∙ ap logOf q);
                 cells = sym (got .cells ∙ ap (λ (x : Walked). set G c (gridOf x)) q);
@@ -159,7 +150,7 @@ module _ (shift clusters : ℕ) (stretch : List ℕ) (c width : ℕ) (it : Item)
       → Shown width symbols most r rows₁ log₁ G₁ (item shift clusters stretch (inChannel c it) (going (drop at symbols) at log G (cut width rows) left))
   row-stopped = item-stopped shift clusters stretch c width it rows symbols at log G hc col fine most r log₁ G₁ here
 
-  pub row-goes : isStopped r ≡ false → 0 < it .blocks → suc (length (it .places)) ≤ most - at → at ≤ most
+  pub row-goes : isStopped r ≡ false → suc (length (it .places)) ≤ most - at → at ≤ most
       → (left : ℕ) → Shown width symbols most r (rowBy rows c (it .x) (it .wide) (countOver (getD symbols at 0) (it .blocks))) log₁ G₁
       (item shift clusters stretch (inChannel c it) (going (drop at symbols) at log G (cut width rows) left))
   row-goes = item-goes shift clusters stretch c width it rows symbols at log G hc col fine most r log₁ G₁ here
@@ -237,13 +228,13 @@ module _ (width : ℕ) (symbols : List ℕ) where
     unfolding read
     read-one c r = refl
 
--- what a planned varblock gives each of its channels
-pub item-ready : (p : Plan) (width clusters : ℕ) (map store : List ℕ) (symbols at shift log cells : ℕ) → PlanReady p width clusters map store symbols at shift log cells
-    → (n c at₁ : ℕ) (row order : List ℕ) → n < 3 → c < 3 → at₁ ≤ symbols → at₁ ≤ at + 128 * 2 ^ (p .at .log) → Counts row → order ≡ kept.stretch store (p .order) c
-    → ItemReady (p .at) width (getD (p .contexts) n 0) clusters map order row symbols at₁ shift log cells
-item-ready p width clusters map store symbols at shift log cells r n c at₁ row order hn hc b m f e =
+-- what each channel of a planned varblock is asked
+pub item-asks : (p : Plan) (width clusters : ℕ) (map store : List ℕ) (symbols at shift log : ℕ) → PlanReady p width clusters map store symbols at shift log
+    → (n c at₁ : ℕ) (order : List ℕ) (log₁ : ℕ) → n < 3 → c < 3 → at₁ ≤ symbols → at₁ ≤ at + 128 * 2 ^ (p .at .log) → order ≡ kept.stretch store (p .order) c → log₁ ≡ log
+    → (c < 3) × (p .at .x < width) × ItemReady (p .at) width (getD (p .contexts) n 0) clusters (length map) (length order) symbols at₁ shift log₁
+item-asks p width clusters map store symbols at shift log r n c at₁ order log₁ hn hc b m e el =
     let room = r .room in
-    rw e (record {
+    (hc, r .column, rw (e, el) (record {
       left = r .left;
       top = r .top;
       power = r .power;
@@ -252,25 +243,10 @@ item-ready p width clusters map store symbols at shift log cells r n c at₁ row
       few = r .few;
       entries = r .entries;
       places = r .places c hc;
-      counts = f;
       begins = b;
       shifts = r .shifts;
       room = omega arith;
-      inside = λ k h. r .inside n c k hc h;
-    })
-
--- what each channel of a planned varblock is asked
-module _ (p : Plan) (width clusters : ℕ) (map store : List ℕ) (symbols at shift log cells : ℕ) (r : PlanReady p width clusters map store symbols at shift log cells) where
-  pub item-asks : (n c at₁ : ℕ) (row order : List ℕ) (log₁ cells₁ one two : ℕ) → n < 3 → c < 3 → at₁ ≤ symbols → at₁ ≤ at + 128 * 2 ^ (p .at .log) → Counts row → order ≡ kept.stretch store (p .order) c
-      → log₁ ≡ log → cells₁ ≡ cells → one ≡ cells → two ≡ cells
-      → (c < 3) × (p .at .x < width) × ItemReady (p .at) width (getD (p .contexts) n 0) clusters map order row symbols at₁ shift log₁ cells₁ × (one ≡ cells₁) × (two ≡ cells₁)
-  item-asks n c at₁ row order log₁ cells₁ one two hn hc b m f e el ec e₁ e₂ = (
-    hc,
-    r .column,
-    rw (el, ec) (item-ready p width clusters map store symbols at shift log cells r n c at₁ row order hn hc b m f e),
-    e₁ ∙ sym ec,
-    e₂ ∙ sym ec,
-  )
+    }))
 
 -- items in turn
 module _ (width : ℕ) (symbols : List ℕ) (shift clusters : ℕ) (stretch : List ℕ) (i i′ : Item) (e : i ≡ i′) (r : Reading) (most more : ℕ) (w : Walk) (rows : Grids) (log : List ℕ) (G : Grids)

@@ -1,18 +1,15 @@
 -- The reading as the code holds it: rows of 32 counts, a symbol's position, how it ended.
-use mathlib.Core.Path.{_≡_, refl, ap, ap₂, sym, subst, _∙_}
+use mathlib.Core.Path.{_≡_, ap}
 use mathlib.Core.Bool.{Bool, true, false}
 use mathlib.Core.List.{List, [], _∷_}
-use Prim.Native.Nat.{ℕ, zero, suc, _+_, _*_, _<_, _≤_}
-use native.Mathlib.Omega.{arith}
-use lib.ListN.{length, getD, set, take, drop, length-set}
+use Prim.Native.Nat.{ℕ, _≤_}
+use lib.ListN.{length, getD, set, take, drop}
 use Rattle.refusal.specs.declared.Refusal.{Refusal}
-use Rattle.hf_coeff_walk.specs.declared.item.Varblock.{Varblock}
 use Rattle.hf_coeff_walk.specs.declared.Walk.{Walk}
 use Rattle.hf_coeff_walk.specs.declared.Walk.the-variants.{Ended, Stopped}
-use Rattle.hf_coeff_walk.specs.Walk.{Walked, ended, stopped}
+use Rattle.hf_coeff_walk.specs.Walk.{Walked, ended}
 use Rattle.hf_coeff_walk.specs.Outcome.{answerOf, logOf, gridOf, Handed}
 use Rattle.hf_coeff_walk.specs.Item.{rowOf}
-use Rattle.hf_coeff_walk.specs.Counts.{Counts}
 use Rattle.hf_coeff_group.specs.Group.{Grids, Reading, going, refused}
 
 abbrev pub isStopped : Walk → Bool
@@ -32,7 +29,6 @@ pub record InGrid (c : ℕ) (G : Grids) (r : Walk) (log : List ℕ) (G′ : Grid
 -- three rows of counts
 pub record Rows (rows : Grids) : Type 0 where
   pub three : length rows ≡ 3
-  pub counts : (c : ℕ) → Counts (getD rows c [])
 
 -- the part of the rows that a group of this width uses
 abbrev pub cut : ℕ → Grids → Grids

@@ -8,7 +8,7 @@ use native.Mathlib.Nat.{div-lt-iff-lt-mul}
 use lib.Pow.{pow-pos}
 use borrow.Author.Tests.{lt-ltb, le-ltb}
 use lib.ListN.{length, getD, set, drop, drop-of-length-le}
-use lib.Seq.{drop-cons}
+use lib.Seq.{drop-cons, set-out}
 use Rattle.refusal.specs.declared.Refusal.the-variants.{SymbolsEnd, TooManyZeros}
 use Rattle.bits.specs.Signed.{unpackSigned}
 use Rattle.hf_coeff_walk.specs.Walk.{Walked, ended, stopped, walk, coeffContext, flag, less, gain}
@@ -37,7 +37,7 @@ abbrev pub spotPlaces : Spot → List ℕ → List ℕ
 spotPlaces spot order = placesOf (spot .turn) (spot .row) (spot .x) (spot .y) (paired order)
 
 -- what the walk over an order's places requires
-pub record Ready (spot : Spot) (order : List ℕ) (symbols start count first part shift log grid : ℕ) : Type 0 where
+pub record Ready (spot : Spot) (order : List ℕ) (symbols start count first part shift log : ℕ) : Type 0 where
   pub row : spot .row ≤ 256
   pub left : spot .x ≤ 256
   pub top : spot .y ≤ 256
@@ -49,7 +49,6 @@ pub record Ready (spot : Spot) (order : List ℕ) (symbols start count first par
   pub entries : part ≡ 458
   pub shifts : shift ≤ 3
   pub room : start + length order / 2 ≤ log
-  pub inside : (k : ℕ) → k < length order / 2 → getD (spotPlaces spot order) k 0 < grid
 
 -- what it hands back of the reading w
 pub record Handed (r : Walk) (log grid : List ℕ) (w : Walked) : Type 0 where
@@ -155,6 +154,11 @@ gain-none u e shift g p = rw e
 pub gain-more : (shift : ℕ) (g : List ℕ) (p u : ℕ) → (u ≡ 0 → ⊥) → gain shift g p u ≡ set g p ((getD g p 0 + unpackSigned u * 2 ^ shift % 2 ^ 32) % 2 ^ 32)
 gain-more shift g p zero n = absurd (n refl)
 gain-more shift g p (suc u) n = refl
+
+-- a cell outside the grid
+pub gain-out : (shift : ℕ) (g : List ℕ) (p u : ℕ) → length g ≤ p → gain shift g p u ≡ g
+gain-out shift g p zero h = refl
+gain-out shift g p (suc u) h = set-out g p ((getD g p 0 + unpackSigned (suc u) * 2 ^ shift % 2 ^ 32) % 2 ^ 32) h
 
 -- blocks as a power of two
 pub below-63 : (log n : ℕ) → n < 63 * 2 ^ log → n / 2 ^ log < 63

@@ -1,5 +1,5 @@
 -- The coefficients of one channel of a varblock (document 01, Coefficients; `hf_coeff.rs`).
-use mathlib.Core.Bool.{Bool, cond}
+use mathlib.Core.Bool.{cond}
 use mathlib.Core.List.{List, [], _∷_}
 use Prim.Native.Nat.{ℕ, zero, suc, _+_, _*_, _/_, _%_, _^_}
 use lib.Dec.{ltb}

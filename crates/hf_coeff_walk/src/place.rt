@@ -1,9 +1,4 @@
-// The cells of an order's places (`hf_coeff.rs`).
-ghost use mathlib.Core.Path.{_≡_};
-ghost use Prim.Native.Nat.{_/_, _≤_, _<_};
-ghost use lib.ListN.{length, getD};
-ghost use Rattle.hf_coeff_walk.specs.Places.{paired, placesOf};
-
+// Where a varblock lies in a grid of cells.
 // A varblock of 2 to the power `log` blocks in a grid of `row` cells to a row: its first cell x, y, and whether it turns.
 pub struct Spot {
     pub row: usize,
@@ -11,25 +6,4 @@ pub struct Spot {
     pub y: usize,
     pub log: usize,
     pub turn: bool,
-}
-
-fn wide(x: u16) -> usize
-    ensures { λ r. ⌜ (r ≡ x) × (r ≤ 65535) ⌝ }
-{
-    x as usize
-}
-
-// The cell of place k.
-pub fn cell(order: &[u16], k: usize, spot: Spot) -> usize
-    requires { ⌜ (k < length (now order) / 2) × (spot .row ≤ 256) × (spot .x ≤ 256) × (spot .y ≤ 256) ⌝ }
-    ensures { λ r. ⌜ r ≡ getD (placesOf (spot .turn) (spot .row) (spot .x) (spot .y) (paired (now (order .entry)))) k 0 ⌝ }
-{
-    let i = 2 * k;
-    let a = wide(order[i]);
-    let j = i + 1;
-    let b = wide(order[j]);
-    if spot.turn {
-        return (spot.y + a) * spot.row + (spot.x + b);
-    }
-    (spot.y + b) * spot.row + (spot.x + a)
 }

@@ -1,11 +1,11 @@
 use borrow.Author.Tests.{not-true, not-false}
 use mathlib.Core.Bool.{true}
 use Rattle.block_context.specs.Record.{fit}
-use Rattle.hf_coeff_work.specs.Work.{passWith}
+use Rattle.hf_coeff_group.specs.Work.{passWith}
 use Rattle.hf_coeff.specs.Call.{Lent, lent, sidesFit, parametersFit, lengthsFit, layoutFits}
 use Rattle.hf_coeff.specs.CallLaws.{call-size, call-parameter, call-context, call-length, call-layout, call-place}
-use Rattle.hf_coeff.specs.CallSteps.{Passed, lengths-are, most-blocks, few-clusters, below, work-ready, call-refused, call-done}
-use Rattle.hf_coeff.specs.Fits.{parameters-fit, lengths-fit}
+use Rattle.hf_coeff.specs.CallSteps.{Passed, lengths-are, most-blocks, few-clusters, layout-is, below, work-ready, call-refused, call-done}
+use Rattle.hf_coeff.specs.Fits.{parameters-fit}
 use borrow.Author.Needs.{needs}
 use native.Mathlib.Omega.{arith}
 use mathlib.Core.Path.{_≡_, _∙_, sym}
@@ -29,11 +29,12 @@ contexts c = sym (c .before .is-fit .ensures) ∙ not-false (c .before .is-fit .
 
 lengths : (c : tie.Else4) → lengthsFit (lentAt (c .before .before .before .before .before .before .before .before .before .before .before .before .before .before .before .before .before .before .before .before .before .before .before)) ≡ true
 lengths c =
-    lengths-are (lentAt (c .before .before .before .before .before .before .before .before .before .before .before .before .before .before .before .before .before .before .before .before .before .before .before)) (c .before .before .read-fit .result) (c .before .written-fit .result) (c .before .before .read-fit .ensures) (c .before .written-fit .ensures)
+    let L = lentAt (c .before .before .before .before .before .before .before .before .before .before .before .before .before .before .before .before .before .before .before .before .before .before .before) in
+    lengths-are L (c .before .before .read-fit .result) (c .before .written-fit .result) (few-clusters (L .pass .contexts) (contexts (c .before .before .before .before))) (parameters-fit (L .shift) (L .presets) (parameters (c .before .before .before .before .before .before)) .1) (most-blocks (L .pass) (sides (c .before .before .before .before .before .before .before .before))) (c .before .before .read-fit .ensures) (c .before .written-fit .ensures)
     ∙ not-false (c .before .written-fit .result) (c .if4 .left)
 
 layout : (c : tie.Else5) → layoutFits (lentAt (c .before .before .before .before .before .before .before .before .before .before .before .before .before .before .before .before .before .before .before .before .before .before .before .before .before) .pass) ≡ true
-layout c = sym (c .before .layout-fits .ensures) ∙ not-false (c .before .layout-fits .result) (c .if5 .left)
+layout c = sym (layout-is (lentAt (c .before .before .before .before .before .before .before .before .before .before .before .before .before .before .before .before .before .before .before .before .before .before .before .before .before)) (sides (c .before .before .before .before .before .before .before .before .before .before)) (lengths (c .before .before))) ∙ sym (c .before .layout-fits .ensures) ∙ not-false (c .before .layout-fits .result) (c .if5 .left)
 
 passed : (c : tie.Else6) → Passed (lentAt (c .before .before .before .before .before .before .before .before .before .before .before .before .before .before .before .before .before .before .before .before .before .before .before .before .before .before .before))
 passed c = record {
@@ -79,23 +80,20 @@ read-fit-requires : tie.Need-read-fit-requires
 read-fit-requires c κs = search needs
 
 written-fit-requires : tie.Need-written-fit-requires
-written-fit-requires c κs =
-    let L = lentAt (c .before .before .before .before .before .before .before .before .before .before .before .before .before .before .before .before .before .before .before .before .before) in
-    (few-clusters (L .pass .contexts) (contexts (c .before .before)), parameters-fit (L .shift) (L .presets) (parameters (c .before .before .before .before)) .1, most-blocks (L .pass) (sides (c .before .before .before .before .before .before)))
+written-fit-requires c κs = search needs
 
 returns-4 : tie.Need-returns-4
 returns-4 c =
     let L = lentAt (c .before .before .before .before .before .before .before .before .before .before .before .before .before .before .before .before .before .before .before .before .before .before .before) in
-    let l = lengths-are L (c .before .before .read-fit .result) (c .before .written-fit .result) (c .before .before .read-fit .ensures) (c .before .written-fit .ensures) ∙ not-true (c .before .written-fit .result) (c .if4 .taken) in
+    let l = lengths-are L (c .before .before .read-fit .result) (c .before .written-fit .result) (few-clusters (L .pass .contexts) (contexts (c .before .before .before .before))) (parameters-fit (L .shift) (L .presets) (parameters (c .before .before .before .before .before .before)) .1) (most-blocks (L .pass) (sides (c .before .before .before .before .before .before .before .before))) (c .before .before .read-fit .ensures) (c .before .written-fit .ensures) ∙ not-true (c .before .written-fit .result) (c .if4 .taken) in
     sym (call-length L (sides (c .before .before .before .before .before .before .before .before)) (parameters (c .before .before .before .before .before .before)) (contexts (c .before .before .before .before)) l)
 
 layout-fits-requires : tie.Need-layout-fits-requires
-layout-fits-requires c κs =
-    let t = lengths-fit (lentAt (c .before .before .before .before .before .before .before .before .before .before .before .before .before .before .before .before .before .before .before .before .before .before .before)) (lengths c) in (sides (c .before .before .before .before .before .before .before .before), t .kinds, t .muls)
+layout-fits-requires c κs = search needs
 
 returns-5 : tie.Need-returns-5
 returns-5 c =
-    let y = sym (c .before .layout-fits .ensures) ∙ not-true (c .before .layout-fits .result) (c .if5 .taken) in
+    let y = sym (layout-is (lentAt (c .before .before .before .before .before .before .before .before .before .before .before .before .before .before .before .before .before .before .before .before .before .before .before .before .before)) (sides (c .before .before .before .before .before .before .before .before .before .before)) (lengths (c .before .before))) ∙ sym (c .before .layout-fits .ensures) ∙ not-true (c .before .layout-fits .result) (c .if5 .taken) in
     sym (call-layout (lentAt (c .before .before .before .before .before .before .before .before .before .before .before .before .before .before .before .before .before .before .before .before .before .before .before .before .before)) (sides (c .before .before .before .before .before .before .before .before .before .before)) (parameters (c .before .before .before .before .before .before .before .before)) (contexts (c .before .before .before .before .before .before)) (lengths (c .before .before)) y)
 
 places-fit-requires : tie.Need-places-fit-requires

@@ -1,13 +1,14 @@
 use Rattle.hf_coeff_walk.specs.Places.{paired, placesOf}
-use Rattle.hf_coeff_walk.specs.Outcome.{gain-none, gain-more}
+use Rattle.hf_coeff_walk.specs.Outcome.{gain-none, gain-more, gain-out}
 use borrow.Author.Needs.{needs}
-use mathlib.Core.Path.{ap, sym}
+use native.Mathlib.Omega.{arith}
+use mathlib.Core.Path.{sym}
 use Prim.Native.Nat.{_-_}
-use lib.ListN.{length, getD, take}
+use lib.ListN.{getD}
 use Rattle.hf_coeff_channel.proofs.coefficients.gain_at.Statement.{statement}
 use Rattle.hf_coeff_channel.proofs.coefficients.gain_at.Tie as tie
 use Rattle.bits.proofs.unpack_signed.Reads as unpack-signed-reads
-use Rattle.hf_coeff_walk.proofs.place.cell.Reads as cell-reads
+use Rattle.hf_coeff_channel.proofs.place.cell.Reads as cell-reads
 use Rattle.hf_coeff_channel.proofs.coefficients.shifted.Reads as shifted-reads
 use Rattle.std.proofs.num.wrapping_add_u32.Reads as wrapping-add-u32-reads
 
@@ -16,6 +17,9 @@ returns c = let a = c .before .before .before .args in sym (gain-none (a .u) (c 
 
 cell-requires : tie.Need-cell-requires
 cell-requires c κs = search needs
+
+returns-2 : tie.Need-returns-2
+returns-2 c = let a = c .before .before .before .before .before .args in sym (gain-out (a .shift) (a .grid .now) (getD (placesOf (a .spot .turn) (a .spot .row) (a .spot .x) (a .spot .y) (paired (a .order .now))) (a .k) 0) (a .u) (omega (arith, c .before .cell .ensures)))
 
 mul-wrapping-add-u32 : tie.Need-mul-wrapping-add-u32
 mul-wrapping-add-u32 c = search needs
@@ -41,10 +45,10 @@ slice-write-grid c = search needs
 same-length : tie.Need-same-length
 same-length c = search needs
 
-returns-2 : tie.Need-returns-2
-returns-2 c =
-    let a = c .before .before .before .before .before .before .before .before .args in
-    rw (c .wrapping-add-u32 .ensures, c .before .shifted .ensures, c .before .before .unpack-signed .ensures, c .before .before .before .before .cell .ensures) (sym (gain-more (a .shift) (a .grid .now) (getD (placesOf (a .spot .turn) (a .spot .row) (a .spot .x) (a .spot .y) (paired (a .order .now))) (a .k) 0) (a .u) (c .before .before .before .before .before .if1 .left)))
+returns-3 : tie.Need-returns-3
+returns-3 c =
+    let a = c .before .before .before .before .before .before .before .before .before .args in
+    rw (c .wrapping-add-u32 .ensures, c .before .shifted .ensures, c .before .before .unpack-signed .ensures, c .before .before .before .before .before .cell .ensures) (sym (gain-more (a .shift) (a .grid .now) (getD (placesOf (a .spot .turn) (a .spot .row) (a .spot .x) (a .spot .y) (paired (a .order .now))) (a .k) 0) (a .u) (c .before .before .before .before .before .before .if1 .left)))
 
 pub gain-at-spec : {M : Type 1} → statement M
 gain-at-spec =
@@ -52,6 +56,7 @@ gain-at-spec =
     (tie.spec
     returns
     cell-requires
+    returns-2
     mul-wrapping-add-u32
     slice-read-wrapping-add-u32
     unpack-signed-requires
@@ -60,4 +65,4 @@ gain-at-spec =
     mul-grid
     slice-write-grid
     same-length
-    returns-2)
+    returns-3)

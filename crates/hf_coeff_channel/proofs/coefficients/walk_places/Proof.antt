@@ -6,10 +6,10 @@ use Rattle.hf_coeff_walk.specs.PlaceLaws.{places-count}
 use Rattle.hf_coeff_walk.specs.Outcome.{walk-used, walk-done, walk-17, walk-15, walk-zero, walk-more, ends}
 use borrow.Author.Needs.{needs}
 use native.Mathlib.Omega.{arith}
-use lib.ListN.{length, getD, take, drop, set, length-set}
+use lib.ListN.{length, drop, length-set}
 use Rattle.hf_coeff_channel.proofs.coefficients.walk_places.Statement.{statement}
 use Rattle.hf_coeff_channel.proofs.coefficients.walk_places.Tie as tie
-use Rattle.hf_coeff_walk.proofs.context.coeff_context.Reads as coeff-context-reads
+use Rattle.hf_coeff_channel.proofs.context.coeff_context.Reads as coeff-context-reads
 use Rattle.hf_coeff_channel.proofs.coefficients.gain_at.Reads as gain-at-reads
 
 abbrev Inv-loop : tie.InvT-loop
@@ -109,8 +109,7 @@ loop-again c =
 gain-at-requires : tie.Need-gain-at-requires Inv-loop μ-loop
 gain-at-requires c κs =
     let r = c .before .before .before .before .before .before .before .before .before .before .before .before .before .before .before .pre .2 in
-    let l = c .before .before .before .before .before .before .before .before .before .loop in
-    (omega arith, r .row, r .left, r .top, r .shifts, omega (arith, r .inside (l .k) (omega arith)))
+    (omega arith, r .row, r .left, r .top, r .shifts)
 
 sub-left : tie.Need-sub-left Inv-loop μ-loop
 sub-left c = search needs

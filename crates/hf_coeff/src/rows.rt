@@ -1,0 +1,43 @@
+// Rows of counts: a count over blocks, and what a varblock leaves in the rows (`hf_coeff.rs`).
+ghost use mathlib.Core.Path.{_≡_};
+ghost use Prim.Native.Nat.{_+_, _*_, _^_, _≤_};
+ghost use Rattle.hf_coeff_walk.specs.Item.{countOver, rowOf};
+ghost use Rattle.hf_coeff_group.specs.Steps.{rowsBy};
+
+// A count over 2 to the power `log` blocks, rounded up.
+pub(crate) fn count_over(n: usize, log: usize) -> u32
+    requires { ⌜ (log ≤ 10) × (n ≤ 63 * 2 ^ log) ⌝ }
+    ensures { λ r. ⌜ r ≡ countOver n (2 ^ log) ⌝ }
+{
+    let blocks = 1 << log;
+    ((n + blocks - 1) >> log) as u32
+}
+
+// A row gets v from x on, n times.
+fn rewrite(row: &mut [u32; 32], x: usize, n: usize, v: u32)
+    requires { ⌜ x + n ≤ 32 ⌝ }
+    ensures { λ r. ⌜ now (row .exit) ≡ rowOf (now (row .entry)) x n v ⌝ }
+{
+    let mut k = 0;
+    while k < n {
+        row[x + k] = v;
+        k += 1;
+    }
+}
+
+// The rows after a varblock of this corner's column and width.
+pub(crate) fn rewritten_all(
+    rows: [[u32; 32]; 3],
+    x: usize,
+    wide: usize,
+    counts: [u32; 3],
+) -> [[u32; 32]; 3]
+    requires { ⌜ x + wide ≤ 32 ⌝ }
+    ensures { λ r. ⌜ r ≡ rowsBy rows x wide counts ⌝ }
+{
+    let mut out = rows;
+    rewrite(&mut out[1], x, wide, counts[0]);
+    rewrite(&mut out[0], x, wide, counts[1]);
+    rewrite(&mut out[2], x, wide, counts[2]);
+    out
+}

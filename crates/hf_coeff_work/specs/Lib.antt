@@ -1,3 +1,0 @@
--- the work of the coefficient call
-pub mod Work
-pub mod WorkLaws
