@@ -15,7 +15,7 @@ use Rattle.layout.specs.Grid.{at}
 use Rattle.filter_strength.specs.declared.Filter.{Filter}
 use Rattle.filter_strength.specs.Strength.{zero32, dividedFilter}
 use Rattle.layout_column.specs.Columns.{lowBits, hfMulOf, checks}
-use Rattle.varblock_scan.specs.Scan.{Scan, Taking, Left, scan}
+use Rattle.layout_reading.specs.Scan.{Scan, Taking, Left, scan}
 
 -- what is read: a grid of bw x bh blocks, columns, a sharpness number per block, the filter with its multiplier × 65536 / scale,
 -- and the look-up numbers
