@@ -3,3 +3,4 @@ pub mod Scan
 pub mod ScanSteps
 pub mod Reading
 pub mod Places
+pub mod Lengths

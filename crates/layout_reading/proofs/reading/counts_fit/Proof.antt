@@ -1,6 +1,6 @@
 use borrow.Author.Tests.{eq-eqb, ne-eqb}
-use Rattle.hf_metadata.proofs.counts_fit.Statement.{statement}
-use Rattle.hf_metadata.proofs.counts_fit.Tie as tie
+use Rattle.layout_reading.proofs.reading.counts_fit.Statement.{statement}
+use Rattle.layout_reading.proofs.reading.counts_fit.Tie as tie
 
 returns : tie.Need-returns
 returns c =
