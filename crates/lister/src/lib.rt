@@ -115,10 +115,10 @@ fn list_job(
     job: &[u8],
     width: u32,
     height: u32,
-    types: &mut [u32],
-    muls: &mut [u32],
+    types: &mut [u32; 4096],
+    muls: &mut [u32; 4096],
 ) -> usize
-    requires { ⌜ (5 ≤ length (now job)) × (getD (now job) 0 0 ≡ 16) × (width ≡ widthOf (now job)) × (height ≡ heightOf (now job)) × (width ≤ 512) × (height ≤ 512) × (length (now types) ≡ 4096) × (length (now muls) ≡ 4096) ⌝ }
+    requires { ⌜ (5 ≤ length (now job)) × (getD (now job) 0 0 ≡ 16) × (width ≡ widthOf (now job)) × (height ≡ heightOf (now job)) × (width ≤ 512) × (height ≤ 512) ⌝ }
     ensures { λ r. ⌜ Puts (now (out .entry)) 0 (textOf (now (job .entry))) (now (out .exit)) r ⌝ }
 {
     let n = lister_job::read_columns(job, types, muls);
@@ -129,7 +129,9 @@ fn list_job(
     if job[end] != 0 {
         return put_bad(out);
     }
-    list_columns(out, width, height, &types[..n], &muls[..n])
+    let all_types: &[u32] = types;
+    let all_muls: &[u32] = muls;
+    list_columns(out, width, height, &all_types[..n], &all_muls[..n])
 }
 
 // The printed text of a job, as much of it as out holds, and how many bytes that is.

@@ -1,8 +1,8 @@
 use borrow.Author.Needs.{needs}
 use native.Mathlib.Omega.{arith}
 use Prim.Native.Nat.{_+_}
-use Rattle.lister_job.proofs.number16.Statement.{statement}
-use Rattle.lister_job.proofs.number16.Tie as tie
+use Rattle.lister_job.proofs.two_bytes.Statement.{statement}
+use Rattle.lister_job.proofs.two_bytes.Tie as tie
 
 shared-slice-read-wide : tie.Need-shared-slice-read-wide
 shared-slice-read-wide c = search needs
@@ -32,8 +32,8 @@ add-result c =
 returns : tie.Need-returns
 returns c = search needs
 
-pub number16-spec : {M : Type 1} → statement M
-number16-spec =
+pub two-bytes-spec : {M : Type 1} → statement M
+two-bytes-spec =
     tie.close
     (tie.spec
     shared-slice-read-wide

@@ -7,8 +7,8 @@ use native.Mathlib.Omega.{arith}
 use mathlib.Core.Path.{_≡_, _∙_, ap, sym}
 use Prim.Native.Nat.{ℕ, _≤_, _-_}
 use lib.ListN.{length, set, length-set}
-use Rattle.lister_job.proofs.read_columns.Statement.{statement}
-use Rattle.lister_job.proofs.read_columns.Tie as tie
+use Rattle.lister_job.proofs.read_into.Statement.{statement}
+use Rattle.lister_job.proofs.read_into.Tie as tie
 
 abbrev Inv-loop : tie.InvT-loop
 Inv-loop job types₀ muls₀ n₀ types muls n = (n ≤ 4096) × (length types ≡ 4096) × (length muls ≡ 4096) × (types ≡ prefixed (typeAt job) n types₀) × (muls ≡ prefixed (mulAt job) n muls₀) × (columns job ≡ countLeft job n)
@@ -109,8 +109,8 @@ returns-3 c =
     let l = c .before .loop in
     record { count = sym (l .inv .5 ∙ count-full (a .job .now) (l .n) (omega arith)); typesAre = l .inv .3; mulsAre = l .inv .4 }
 
-pub read-columns-spec : {M : Type 1} → statement M
-read-columns-spec =
+pub read-into-spec : {M : Type 1} → statement M
+read-into-spec =
     tie.close
     (tie.spec
     Inv-loop
