@@ -1,4 +1,6 @@
 // The layout lister: from a job's bytes to the printed bytes (document 01, The lister).
+use crate::lines::put_accepted;
+use crate::lines::put_refused;
 use filter_strength::Filter;
 use hf_metadata::LayoutAnswer;
 ghost use mathlib.Core.Path.{_≡_};
@@ -7,8 +9,10 @@ ghost use lib.ListN.{length, getD, take, replicate};
 ghost use Rattle.filter_strength.specs.Strength.{zero32};
 ghost use Rattle.text.specs.Text.{Puts};
 ghost use Rattle.lister_job.specs.Job.{width as widthOf, height as heightOf};
-ghost use Rattle.lister_lines.specs.Texts.{BAD-INPUT};
+ghost use Rattle.lister.specs.Texts.{BAD-INPUT};
 ghost use Rattle.lister.specs.Listing.{bwOf, bhOf, layoutText, textOf};
+
+mod lines;
 
 fn put_bad(out: &mut [u8]) -> usize
     ensures { λ r. ⌜ Puts (now (out .entry)) 0 BAD-INPUT (now (out .exit)) r ⌝ }
@@ -48,8 +52,8 @@ fn list_layout(
         sigma,
     );
     match answer {
-        LayoutAnswer::Accepted(_) => lister_lines::put_accepted(out, kinds, hf_mul, bw, bh),
-        LayoutAnswer::Refused(why) => lister_lines::put_refused(out, why.numbers()),
+        LayoutAnswer::Accepted(_) => put_accepted(out, kinds, hf_mul, bw, bh),
+        LayoutAnswer::Refused(why) => put_refused(out, why.numbers()),
     }
 }
 

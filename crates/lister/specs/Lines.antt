@@ -11,7 +11,7 @@ use Rattle.layout.specs.Grid.{at}
 use Rattle.layout.specs.Varblocks.{varblocksOf}
 use Rattle.layout.specs.Rest.{rest, rest-corner, rest-plain, rest-rows, rest-turn, rest-end}
 use Rattle.text.specs.Text.{Puts, puts-then, puts-none}
-use Rattle.lister_lines.specs.Texts.{linesOf, lineAt}
+use Rattle.lister.specs.Texts.{linesOf, lineAt}
 
 module _ (bw : ℕ) (kinds hfMul : List ℕ) where
   module _ (bh : ℕ) where

@@ -1,6 +1,6 @@
 use mathlib.Core.List.{[], _++_}
-use Rattle.lister_lines.specs.Lines.{linesLeft, lines-start, lines-next, lines-turn, lines-end, Continues, goes-start, goes-same, goes-on, goes-far, goes-end}
-use Rattle.lister_lines.specs.Texts.{lineAt}
+use Rattle.lister.specs.Lines.{linesLeft, lines-start, lines-next, lines-turn, lines-end, Continues, goes-start, goes-same, goes-on, goes-far, goes-end}
+use Rattle.lister.specs.Texts.{lineAt}
 use Rattle.text.specs.Text.{Puts}
 use mathlib.Core.List.{List}
 use mathlib.Core.Path.{subst}
@@ -10,8 +10,8 @@ use mathlib.Core.Path.{_≡_, _∙_, ap, sym}
 use mathlib.Core.List.{_++_}
 use Prim.Native.Nat.{ℕ, _≤_, _-_, _+_}
 use lib.ListN.{length}
-use Rattle.lister_lines.proofs.put_varblocks.Statement.{statement}
-use Rattle.lister_lines.proofs.put_varblocks.Tie as tie
+use Rattle.lister.proofs.lines.put_varblocks.Statement.{statement}
+use Rattle.lister.proofs.lines.put_varblocks.Tie as tie
 
 abbrev Inv-loop2 : tie.InvT-loop2
 Inv-loop2 out₀ at kinds hf-mul bw bh to₀ y x₀ out to x = (x ≤ bw) × (to ≤ length out) × (length out ≡ length out₀) × Continues out₀ to₀ (linesLeft bw kinds hf-mul bh 0 y) out to (linesLeft bw kinds hf-mul bh x y)

@@ -5,7 +5,7 @@ ghost use Prim.Native.Nat.{_*_, _-_, _≤_, _<_};
 ghost use lib.ListN.{length};
 ghost use Rattle.layout.specs.Varblocks.{varblocksOf, area};
 ghost use Rattle.text.specs.Text.{Puts};
-ghost use Rattle.lister_lines.specs.Texts.{lineOf, linesOf, acceptedText, refusedText, varblockOf, lineAt};
+ghost use Rattle.lister.specs.Texts.{lineOf, linesOf, acceptedText, refusedText, varblockOf, lineAt};
 
 fn put_varblock(out: &mut [u8], at: usize, x: usize, y: usize, number: usize, hf_mul: u32) -> usize
     ensures { λ r. ⌜ Puts (now (out .entry)) at (lineOf (varblockOf x y number «hf_mul»)) (now (out .exit)) r ⌝ }
@@ -71,7 +71,13 @@ fn put_varblocks(
 }
 
 // Grid, varblocks, total area: a layout's varblocks fill its grid.
-pub fn put_accepted(out: &mut [u8], kinds: &[u8], hf_mul: &[u32], bw: usize, bh: usize) -> usize
+pub(crate) fn put_accepted(
+    out: &mut [u8],
+    kinds: &[u8],
+    hf_mul: &[u32],
+    bw: usize,
+    bh: usize,
+) -> usize
     requires { ⌜ (length (now kinds) ≡ bh * bw) × (length (now «hf_mul») ≡ bh * bw) × (bw ≤ 256) × (bh ≤ 256) × (area (varblocksOf bw bh (now kinds) (now «hf_mul»)) ≡ bw * bh) ⌝ }
     ensures { λ r. ⌜ Puts (now (out .entry)) 0 (acceptedText bw bh (now (kinds .entry)) (now («hf_mul» .entry))) (now (out .exit)) r ⌝ }
 {
@@ -83,7 +89,7 @@ pub fn put_accepted(out: &mut [u8], kinds: &[u8], hf_mul: &[u32], bw: usize, bh:
     text::put_last(out, behind_area, (bw * bh) as u64)
 }
 
-pub fn put_refused(out: &mut [u8], said: Said) -> usize
+pub(crate) fn put_refused(out: &mut [u8], said: Said) -> usize
     ensures { λ r. ⌜ Puts (now (out .entry)) 0 (refusedText said) (now (out .exit)) r ⌝ }
 {
     let behind_refused = text::put_bytes(out, 0, b"refused ");

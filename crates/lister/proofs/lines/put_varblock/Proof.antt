@@ -1,7 +1,7 @@
 use Rattle.text.specs.Text.{puts-then}
 use borrow.Author.Needs.{needs}
-use Rattle.lister_lines.proofs.put_varblock.Statement.{statement}
-use Rattle.lister_lines.proofs.put_varblock.Tie as tie
+use Rattle.lister.proofs.lines.put_varblock.Statement.{statement}
+use Rattle.lister.proofs.lines.put_varblock.Tie as tie
 
 put-spaced-requires : tie.Need-put-spaced-requires
 put-spaced-requires c κs = search needs

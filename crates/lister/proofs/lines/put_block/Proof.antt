@@ -4,8 +4,8 @@ use borrow.Author.Tests.{le-leb, lt-leb}
 use lib.Arith.{digits-lt}
 use borrow.Author.Needs.{needs}
 use native.Mathlib.Omega.{arith}
-use Rattle.lister_lines.proofs.put_block.Statement.{statement}
-use Rattle.lister_lines.proofs.put_block.Tie as tie
+use Rattle.lister.proofs.lines.put_block.Statement.{statement}
+use Rattle.lister.proofs.lines.put_block.Tie as tie
 
 mul-i : tie.Need-mul-i
 mul-i c =

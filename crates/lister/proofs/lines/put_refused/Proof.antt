@@ -1,7 +1,7 @@
 use Rattle.text.specs.Text.{puts-then}
 use borrow.Author.Needs.{needs}
-use Rattle.lister_lines.proofs.put_refused.Statement.{statement}
-use Rattle.lister_lines.proofs.put_refused.Tie as tie
+use Rattle.lister.proofs.lines.put_refused.Statement.{statement}
+use Rattle.lister.proofs.lines.put_refused.Tie as tie
 
 slice-aggregate-put-bytes : tie.Need-slice-aggregate-put-bytes
 slice-aggregate-put-bytes c = search needs
