@@ -18,7 +18,7 @@ use Rattle.layout.specs.Grid.{at, set-same, set-other}
 use Rattle.layout.specs.Order.{Here}
 use Rattle.filter_strength.specs.Strength.{dividedFilter}
 use Rattle.layout_column.specs.Columns.{lowBits, hfMulOf, positive}
-use Rattle.varblock_scan.specs.Scan.{Scan, Taking, Left, scan}
+use Rattle.layout_reading.specs.Scan.{Scan, Taking, Left, scan}
 use Rattle.layout_reading.specs.Reading.{Job, Placed, Reading, Going, refuseIf, placed, placeIn, judge, column}
 use Rattle.layout_reading.specs.Reading as reading
 use Rattle.accepted_layout.specs.Took.{InRect, Took, took}

@@ -18,7 +18,7 @@ use Rattle.lf_group.specs.Blocks.{sizeFits}
 use Rattle.filter_strength.specs.declared.Filter.{Filter}
 use Rattle.filter_strength.specs.Strength.{zero32, dividedFilter}
 use Rattle.layout_column.specs.Columns.{lowBits, hfMulOf, positive}
-use Rattle.varblock_scan.specs.Scan.{Scan, Taking, Left, isOn, takeCell, scan}
+use Rattle.layout_reading.specs.Scan.{Scan, Taking, Left, isOn, takeCell, scan}
 use Rattle.layout_reading.specs.Reading.{Job, Placed, Reading, Going, Stopped, refuseIf, placed, place, placeIn, judge, column, visit, start, reading}
 use Rattle.hf_metadata.specs.Call.{accepted, refused, Outcome, outcomeOf, Inputs, jobOf, parametersFit, lengthsFit, refuseWith, layoutOf}
 use Rattle.accepted_layout.specs.Puts.{column-put}

@@ -14,7 +14,7 @@ use Rattle.layout.specs.Walk.{forward}
 use Rattle.layout.specs.Grid.{at, set-same, set-other}
 use Rattle.layout.specs.Order.{Here, Before, last}
 use Rattle.filter_strength.specs.declared.Filter.{Filter}
-use Rattle.varblock_scan.specs.Scan.{Scan, Taking, Left, isOn, sigmaWith, takeCell, scan}
+use Rattle.layout_reading.specs.Scan.{Scan, Taking, Left, isOn, sigmaWith, takeCell, scan}
 
 -- a cell (a, b) of the rectangle of w x h blocks at (x, y)
 abbrev pub InRect : ℕ → ℕ → ℕ → ℕ → ℕ → ℕ → Type 0

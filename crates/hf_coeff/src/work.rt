@@ -1,6 +1,6 @@
 // The work of the call: a group read with the stretch of a preset.
-use block_context::HfBlockContext;
 use crate::group::read_group;
+use block_context::HfBlockContext;
 use hf_coeff_walk::Walk;
 ghost use mathlib.Core.List.{[], _∷_};
 ghost use lib.ListN.{length};

@@ -1,9 +1,9 @@
 // The coefficients of one channel of a varblock (`hf_coeff.rs`).
-use bits::unpack_signed;
 use crate::context::COEFF_FREQ_CONTEXT;
 use crate::context::COEFF_NUM_NONZERO_CONTEXT;
 use crate::context::coeff_context;
 use crate::place::cell;
+use bits::unpack_signed;
 use hf_coeff_walk::Walk;
 use hf_coeff_walk::place::Spot;
 use refusal::Refusal;

@@ -233,20 +233,23 @@ pub item-asks : (p : Plan) (width clusters : ℕ) (map store : List ℕ) (symbol
     → (n c at₁ : ℕ) (order : List ℕ) (log₁ : ℕ) → n < 3 → c < 3 → at₁ ≤ symbols → at₁ ≤ at + 128 * 2 ^ (p .at .log) → order ≡ kept.stretch store (p .order) c → log₁ ≡ log
     → (c < 3) × (p .at .x < width) × ItemReady (p .at) width (getD (p .contexts) n 0) clusters (length map) (length order) symbols at₁ shift log₁
 item-asks p width clusters map store symbols at shift log r n c at₁ order log₁ hn hc b m e el =
-    let room = r .room in
-    (hc, r .column, rw (e, el) (record {
-      left = r .left;
-      top = r .top;
-      power = r .power;
-      across = r .across;
-      cluster = r .cluster n hn;
-      few = r .few;
-      entries = r .entries;
-      places = r .places c hc;
-      begins = b;
-      shifts = r .shifts;
-      room = omega arith;
-    }))
+    let room = r .room in (
+      hc,
+      r .column,
+      rw (e, el) (record {
+        left = r .left;
+        top = r .top;
+        power = r .power;
+        across = r .across;
+        cluster = r .cluster n hn;
+        few = r .few;
+        entries = r .entries;
+        places = r .places c hc;
+        begins = b;
+        shifts = r .shifts;
+        room = omega arith;
+      }),
+    )
 
 -- items in turn
 module _ (width : ℕ) (symbols : List ℕ) (shift clusters : ℕ) (stretch : List ℕ) (i i′ : Item) (e : i ≡ i′) (r : Reading) (most more : ℕ) (w : Walk) (rows : Grids) (log : List ℕ) (G : Grids)

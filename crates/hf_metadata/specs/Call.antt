@@ -2,7 +2,6 @@
 use mathlib.Core.Bool.{Bool, cond, not, _&&_}
 use mathlib.Core.List.{List}
 use Prim.Native.Nat.{ℕ, _*_}
-use lib.Dec.{eqb}
 use lib.ListN.{length}
 use lib.Ieee.{Float}
 use Rattle.refusal.specs.declared.Said.{Said}
@@ -14,7 +13,7 @@ use Rattle.filter_strength.specs.Strength.{scaledFilter}
 use Rattle.filter_strength.specs.Limits.{paramsFit}
 use Rattle.hf_metadata.specs.declared.LayoutAnswer.{LayoutAnswer}
 use Rattle.hf_metadata.specs.declared.LayoutAnswer.the-variants.{Accepted, Refused}
-use Rattle.layout_reading.specs.Reading.{Job, Reading, Going, Stopped, zeros, zeroSigma, reading}
+use Rattle.layout_reading.specs.Reading.{Job, Reading, Going, Stopped, zeros, zeroSigma, reading, countsFit}
 
 -- accepted with the number of columns used, or refused with a number and a position
 pub data Answer : Type 0 where
@@ -83,11 +82,8 @@ jobOf i =
 abbrev pub parametersFit : Inputs → Bool
 parametersFit i = modesFit (i .modes) && paramsFit (i .filter) (i .lookups) (i .scale)
 
--- 1: a mul for each type; a sharpness number, a kind, an hf_mul and a sigma for each of n blocks
-abbrev pub countsFit : ℕ → ℕ → ℕ → ℕ → ℕ → ℕ → ℕ → Bool
-countsFit types muls sharpness kinds hfMul sigma n = eqb muls types && eqb sharpness n && eqb kinds n && eqb hfMul n && eqb sigma n
-
 module _ (i : Inputs) (kinds hfMul : List ℕ) (sigma : List Float) where
+  -- 1: lent lengths
   abbrev pub lengthsFit : Bool
   lengthsFit =
       countsFit (length (i .types)) (length (i .muls)) (length (i .sharpness)) (length kinds) (length hfMul) (length sigma)

@@ -1,33 +1,38 @@
 -- The layout call as the code goes: one law for each way out.
 use mathlib.Core.Path.{_≡_, ap, sym, _∙_}
-use mathlib.Core.Bool.{true, false, _&&_}
+use mathlib.Core.Bool.{true, false}
 use mathlib.Core.List.{List}
-use Prim.Native.Nat.{ℕ}
-use lib.Dec.{T, eqb, eqb→eq}
+use Prim.Native.Nat.{ℕ, _*_, _≤_}
+use lib.ListN.{length, length-replicate}
 use lib.Ieee.{Float}
-use lib.Ieee.Fits.{and-l, and-r}
 use Rattle.refusal.specs.declared.Refusal.{Refusal}
 use Rattle.lf_group.specs.Blocks.{sizeFits, modesFit, wideIn, highIn}
 use Rattle.filter_strength.specs.declared.Filter.{Filter}
-use Rattle.filter_strength.specs.Strength.{scaledFilter}
+use Rattle.filter_strength.specs.Strength.{zero32, scaledFilter}
 use Rattle.filter_strength.specs.Limits.{paramsFit}
-use Rattle.layout.specs.Walk.{walk}
 use Rattle.hf_metadata.specs.declared.LayoutAnswer.the-variants.{Accepted, Refused}
 use Rattle.layout_reading.specs.declared.column.Step.{Step}
 use Rattle.layout_reading.specs.declared.column.Step.the-variants.{Going as GoesOn, Stopped as Stops}
-use Rattle.layout_reading.specs.Reading.{Job, Going, visit, zeros, zeroSigma, reading}
-use Rattle.layout_reading.specs.Reading.{stateOf, jobWith, stepped}
-use Rattle.hf_metadata.specs.Call.{leaves, outcomeOf, Inputs, countsFit, lengthsFit, refuseWith, layoutOf}
+use Rattle.layout_reading.specs.Reading.{Job, zeros, zeroSigma, reading, jobWith, stepped, countsFit, readOf}
+use Rattle.layout_reading.specs.Lengths.{counts-fit, read-walks}
+use Rattle.hf_metadata.specs.Call.{leaves, outcomeOf, Inputs, lengthsFit, refuseWith, layoutOf}
 
 -- the work, from buffers that were cleared
 module _ (J : Job) (s : Step) (k m k′ m′ : List ℕ) (g g′ : List Float) (zk : k ≡ zeros J) (zm : m ≡ zeros J) (zg : g ≡ zeroSigma J)
-    (e : stepped s k′ m′ g′ ≡ walk (visit J) (J .bw) (J .bh) (Going (stateOf 0 k m g))) where
+    (wide : J .bw ≤ 256) (high : J .bh ≤ 256) (pairs : length (J .muls) ≡ length (J .types)) (sharp : length (J .sharpness) ≡ J .bh * J .bw)
+    (e : stepped s k′ m′ g′ ≡ readOf J k m g) where
+  counted : countsFit (length (J .types)) (length (J .muls)) (length (J .sharpness)) (length (zeros J)) (length (zeros J)) (length (zeroSigma J)) (J .bh * J .bw) ≡ true
+  counted =
+      let z = length-replicate {A = ℕ} (J .bh * J .bw) 0 in
+      counts-fit (length (J .types)) (length (J .muls)) (length (J .sharpness)) (length (zeros J)) (length (zeros J)) (length (zeroSigma J)) (J .bh * J .bw)
+      (record { mulsAre = pairs; sharpnessAre = sharp; kindsAre = z; hfMulAre = z; sigmaAre = length-replicate (J .bh * J .bw) zero32 })
+
   read-all : stepped s k′ m′ g′ ≡ reading J
   unfolding reading
   read-all =
-      e ∙ ap (λ (l : List ℕ). walk (visit J) (J .bw) (J .bh) (Going (stateOf 0 l m g))) zk
-      ∙ ap (λ (l : List ℕ). walk (visit J) (J .bw) (J .bh) (Going (stateOf 0 (zeros J) l g))) zm
-      ∙ ap (λ (l : List Float). walk (visit J) (J .bw) (J .bh) (Going (stateOf 0 (zeros J) (zeros J) l))) zg
+      e ∙ ap (λ (l : List ℕ). readOf J l m g) zk ∙ ap (λ (l : List ℕ). readOf J (zeros J) l g) zm
+      ∙ ap (λ (l : List Float). readOf J (zeros J) (zeros J) l) zg
+      ∙ read-walks J (zeros J) (zeros J) (zeroSigma J) wide high counted
 
   pub fill-accepts : (used : ℕ) → s ≡ GoesOn used → leaves (Accepted used) k′ m′ g′ ≡ outcomeOf J (reading J)
   fill-accepts used d = ap (outcomeOf J) (sym (ap (λ (t : Step). stepped t k′ m′ g′) d) ∙ read-all)
@@ -35,28 +40,6 @@ module _ (J : Job) (s : Step) (k m k′ m′ : List ℕ) (g g′ : List Float) (
   pub fill-refuses : (r : Refusal) (ck cm : List ℕ) (cg : List Float) → s ≡ Stops r → ck ≡ zeros J → cm ≡ zeros J → cg ≡ zeroSigma J
       → leaves (Refused r) ck cm cg ≡ outcomeOf J (reading J)
   fill-refuses r ck cm cg d a b c = rw (a, b, c) (ap (outcomeOf J) (sym (ap (λ (t : Step). stepped t k′ m′ g′) d) ∙ read-all))
-
--- lengths that fit
-pub record Counts (types muls sharpness kinds hfMul sigma n : ℕ) : Type 0 where
-  pub mulsAre : muls ≡ types
-  pub sharpnessAre : sharpness ≡ n
-  pub kindsAre : kinds ≡ n
-  pub hfMulAre : hfMul ≡ n
-  pub sigmaAre : sigma ≡ n
-
-pub counts : (types muls sharpness kinds hfMul sigma n : ℕ) → countsFit types muls sharpness kinds hfMul sigma n ≡ true → Counts types muls sharpness kinds hfMul sigma n
-counts types muls sharpness kinds hfMul sigma n e =
-    let t : T (countsFit types muls sharpness kinds hfMul sigma n) = rw e tt in
-    let a = and-l (eqb muls types && eqb sharpness n && eqb kinds n && eqb hfMul n) (eqb sigma n) t in
-    let b = and-l (eqb muls types && eqb sharpness n && eqb kinds n) (eqb hfMul n) a in
-    let c = and-l (eqb muls types && eqb sharpness n) (eqb kinds n) b in
-    record {
-      mulsAre = eqb→eq muls types (and-l (eqb muls types) (eqb sharpness n) c);
-      sharpnessAre = eqb→eq sharpness n (and-r (eqb muls types) (eqb sharpness n) c);
-      kindsAre = eqb→eq kinds n (and-r (eqb muls types && eqb sharpness n) (eqb kinds n) b);
-      hfMulAre = eqb→eq hfMul n (and-r (eqb muls types && eqb sharpness n && eqb kinds n) (eqb hfMul n) a);
-      sigmaAre = eqb→eq sigma n (and-r (eqb muls types && eqb sharpness n && eqb kinds n && eqb hfMul n) (eqb sigma n) t);
-    }
 
 module _ (i : Inputs) (k m : List ℕ) (g : List Float) where
   pub call-size : sizeFits (i .width) (i .height) ≡ false → refuseWith i k m g 2 ≡ layoutOf i k m g

@@ -1,6 +1,7 @@
 // The layout of an LF group and its filter strengths (`hf_metadata.rs`).
 use filter_strength::Filter;
 use layout_reading::column::Step;
+use layout_reading::reading::counts_fit;
 use layout_reading::reading::read;
 use refusal::Refusal;
 ghost use mathlib.Core.Path.{_≡_};
@@ -8,39 +9,12 @@ ghost use Prim.Native.Nat.{_*_, _≤_};
 ghost use lib.ListN.{length};
 ghost use Rattle.layout_reading.specs.Reading.{reading as readingOf};
 ghost use Rattle.layout_reading.specs.Reading.{jobWith};
-ghost use Rattle.hf_metadata.specs.Call.{countsFit, inputs, leaves, outcomeOf, layoutOf};
+ghost use Rattle.hf_metadata.specs.Call.{inputs, leaves, outcomeOf, layoutOf};
 
 // Accepted with the number of columns used, or refused.
 pub enum LayoutAnswer {
     Accepted(usize),
     Refused(Refusal),
-}
-
-// As many muls as types, and n of each of the others.
-fn counts_fit(
-    types: usize,
-    muls: usize,
-    sharpness: usize,
-    kinds: usize,
-    hf_mul: usize,
-    sigma: usize,
-    n: usize,
-) -> bool
-    ensures { λ r. ⌜ r ≡ countsFit types muls sharpness kinds «hf_mul» sigma n ⌝ }
-{
-    if muls != types {
-        return false;
-    }
-    if sharpness != n {
-        return false;
-    }
-    if kinds != n {
-        return false;
-    }
-    if hf_mul != n {
-        return false;
-    }
-    sigma == n
 }
 
 // The work, once nothing is refused before it. A refusal leaves all three buffers zero.

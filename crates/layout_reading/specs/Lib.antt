@@ -1,3 +1,6 @@
--- the reading of a layout, and laws on it
+-- the scan of a varblock's rectangle, the reading of a layout, and laws on them
+pub mod Scan
+pub mod ScanSteps
 pub mod Reading
 pub mod Places
+pub mod Lengths

@@ -12,13 +12,13 @@ use Rattle.dct_select.specs.Transforms.{wide, high}
 use Rattle.layout.specs.Grid.{at}
 use Rattle.filter_strength.specs.declared.Filter.{Filter}
 use Rattle.filter_strength.specs.Strength.{dividedFilter}
-use Rattle.varblock_scan.specs.declared.Scanned.{Scanned}
+use Rattle.layout_reading.specs.declared.scan.Scanned.{Scanned}
 use Rattle.layout_column.specs.declared.Judged.{Judged}
 use Rattle.layout_reading.specs.declared.column.Step.{Step}
 use Rattle.layout_reading.specs.declared.column.Step.the-variants.{Stopped as Stops}
 use Rattle.layout_column.specs.Columns.{lowBits, hfMulOf, Asking, asks, refuses, saidJudged, varblockOf, judgedOf}
 use Rattle.layout_column.specs.Judged.{checks-by}
-use Rattle.varblock_scan.specs.Scan.{Scan, Taking, scan, scanned}
+use Rattle.layout_reading.specs.Scan.{Scan, Taking, scan, scanned}
 use Rattle.layout_reading.specs.Reading.{Job, Placed, Reading, Going, Stopped, placed, place, placeIn, judge, column, visit, stepped}
 
 module _ (bw bh : ℕ) (filter : Filter) (lookups : List Float) (sharpness : List ℕ) (kind h w n x y : ℕ) (p : Placed) where

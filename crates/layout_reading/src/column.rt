@@ -1,11 +1,11 @@
 // The columns of a layout, placed one after the other.
+use crate::scan::Scanned;
+use crate::scan::scan;
 use filter_strength::Filter;
 use layout_column::Judged;
 use layout_column::Varblock;
 use layout_column::judge;
 use refusal::Refusal;
-use varblock_scan::Scanned;
-use varblock_scan::scan;
 ghost use mathlib.Core.Path.{_≡_};
 ghost use Prim.Native.Nat.{_+_, _*_, _≤_, _<_};
 ghost use lib.ListN.{length};

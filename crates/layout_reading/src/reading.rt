@@ -1,14 +1,43 @@
-// The blocks of a layout, visited row by row.
+// The reading of a layout: its blocks, visited row by row.
 use crate::column::Step;
 use crate::column::visit;
 use filter_strength::Filter;
+use refusal::Refusal;
 ghost use mathlib.Core.Path.{_≡_};
 ghost use Prim.Native.Nat.{_*_, _≤_};
 ghost use lib.ListN.{length};
 ghost use Rattle.layout.specs.Walk.{walk};
-ghost use Rattle.layout_reading.specs.Reading.{Going, visit as visitOf, stateOf, stepped, jobWith};
+ghost use Rattle.layout_reading.specs.Reading.{Going, visit as visitOf, stateOf, stepped, jobWith, countsFit, Read};
 
-pub fn read(
+// As many muls as types, and n of each of the others.
+pub fn counts_fit(
+    types: usize,
+    muls: usize,
+    sharpness: usize,
+    kinds: usize,
+    hf_mul: usize,
+    sigma: usize,
+    n: usize,
+) -> bool
+    ensures { λ r. ⌜ r ≡ countsFit types muls sharpness kinds «hf_mul» sigma n ⌝ }
+{
+    if muls != types {
+        return false;
+    }
+    if sharpness != n {
+        return false;
+    }
+    if kinds != n {
+        return false;
+    }
+    if hf_mul != n {
+        return false;
+    }
+    sigma == n
+}
+
+// All blocks, over lengths that fit.
+fn read_blocks(
     kinds: &mut [u8],
     hf_mul: &mut [u32],
     sigma: &mut [f32],
@@ -52,4 +81,50 @@ pub fn read(
         y += 1;
     }
     Step::Going(used)
+}
+
+// Reads a layout into lent buffers. More than 256 blocks either way, or lengths that do not fit: refused, and nothing is written.
+pub fn read(
+    kinds: &mut [u8],
+    hf_mul: &mut [u32],
+    sigma: &mut [f32],
+    types: &[u32],
+    muls: &[u32],
+    sharpness: &[u32],
+    lookups: &[f32; 8],
+    filter: Filter,
+    bw: usize,
+    bh: usize,
+) -> Step
+    ensures { λ r. ⌜ Read (jobWith bw bh (now (types .entry)) (now (muls .entry)) (now (sharpness .entry)) filter (now (lookups .entry))) (now (kinds .entry)) (now («hf_mul» .entry)) (now (sigma .entry)) r (now (kinds .exit)) (now («hf_mul» .exit)) (now (sigma .exit)) ⌝ }
+{
+    if 256 < bw {
+        return Step::Stopped(Refusal::Length);
+    }
+    if 256 < bh {
+        return Step::Stopped(Refusal::Length);
+    }
+    if !counts_fit(
+        types.len(),
+        muls.len(),
+        sharpness.len(),
+        kinds.len(),
+        hf_mul.len(),
+        sigma.len(),
+        bh * bw,
+    ) {
+        return Step::Stopped(Refusal::Length);
+    }
+    read_blocks(
+        kinds,
+        hf_mul,
+        sigma,
+        types,
+        muls,
+        sharpness,
+        lookups,
+        filter,
+        bw,
+        bh,
+    )
 }

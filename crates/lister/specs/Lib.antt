@@ -1,4 +1,6 @@
--- the layout lister: the text that is printed for a job
+-- the layout lister: the printed lines, and the text that is printed for a job
+pub mod Texts
+pub mod Lines
 pub mod Listing
 pub mod ListSteps
 pub mod Longest

@@ -23,7 +23,7 @@ use Rattle.filter_strength.specs.declared.Filter.the-variants.{Off}
 use Rattle.filter_strength.specs.Strength.{zero32}
 use Rattle.lister_job.specs.Job.{prefixed}
 use Rattle.lister_job.specs.Job.{width, height, columnPlace, columns, types, muls, hasSize, hasEnd}
-use Rattle.lister_lines.specs.Texts.{acceptedText, refusedText, BAD-INPUT}
+use Rattle.lister.specs.Texts.{acceptedText, refusedText, BAD-INPUT}
 use Rattle.lister.specs.Listing.{textBy, MODES, bwOf, bhOf, listed, outcome, layoutText, textOf}
 use Rattle.lister.specs.Listing as listing
 

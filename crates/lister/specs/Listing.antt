@@ -8,7 +8,7 @@ use Rattle.lf_group.specs.Blocks.{wideIn, highIn}
 use Rattle.filter_strength.specs.declared.Filter.the-variants.{Off}
 use Rattle.filter_strength.specs.Strength.{zero32}
 use Rattle.hf_metadata.specs.Call.{Answer, accepted, refused, Outcome, Inputs, inputs, layoutOf}
-use Rattle.lister_lines.specs.Texts.{BAD-INPUT, acceptedText, refusedText}
+use Rattle.lister.specs.Texts.{BAD-INPUT, acceptedText, refusedText}
 use Rattle.lister_job.specs.Job.{width, height, types, muls, hasSize, hasEnd}
 
 abbrev pub textBy : ℕ → ℕ → Outcome → Answer → List ℕ

@@ -22,7 +22,7 @@ use Rattle.hf_metadata.specs.Call.{Answer, accepted, refused}
 use Rattle.accepted_layout.specs.Theorems.{accepted-layout}
 use Rattle.text.specs.Text.{digitsOf, decimal, Puts}
 use Rattle.lister_job.specs.Job.{width, height, types, muls, hasSize, hasEnd}
-use Rattle.lister_lines.specs.Texts.{BLOCKS, AREA, REFUSED, BAD-INPUT, spaced, last, lineOf, linesOf, acceptedText, refusedText}
+use Rattle.lister.specs.Texts.{BLOCKS, AREA, REFUSED, BAD-INPUT, spaced, last, lineOf, linesOf, acceptedText, refusedText}
 use Rattle.lister.specs.Listing.{textBy, bwOf, bhOf, blocks, listed, outcome, layoutText, textOf}
 use Rattle.lister.specs.ListSteps.{few-wide, few-high}
 

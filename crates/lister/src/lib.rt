@@ -1,4 +1,6 @@
 // The layout lister: from a job's bytes to the printed bytes (document 01, The lister).
+use crate::lines::put_accepted;
+use crate::lines::put_refused;
 use filter_strength::Filter;
 use hf_metadata::LayoutAnswer;
 ghost use mathlib.Core.Path.{_≡_};
@@ -7,8 +9,10 @@ ghost use lib.ListN.{length, getD, take, replicate};
 ghost use Rattle.filter_strength.specs.Strength.{zero32};
 ghost use Rattle.text.specs.Text.{Puts};
 ghost use Rattle.lister_job.specs.Job.{width as widthOf, height as heightOf};
-ghost use Rattle.lister_lines.specs.Texts.{BAD-INPUT};
+ghost use Rattle.lister.specs.Texts.{BAD-INPUT};
 ghost use Rattle.lister.specs.Listing.{bwOf, bhOf, layoutText, textOf};
+
+mod lines;
 
 fn put_bad(out: &mut [u8]) -> usize
     ensures { λ r. ⌜ Puts (now (out .entry)) 0 BAD-INPUT (now (out .exit)) r ⌝ }
@@ -48,8 +52,8 @@ fn list_layout(
         sigma,
     );
     match answer {
-        LayoutAnswer::Accepted(_) => lister_lines::put_accepted(out, kinds, hf_mul, bw, bh),
-        LayoutAnswer::Refused(why) => lister_lines::put_refused(out, why.numbers()),
+        LayoutAnswer::Accepted(_) => put_accepted(out, kinds, hf_mul, bw, bh),
+        LayoutAnswer::Refused(why) => put_refused(out, why.numbers()),
     }
 }
 
@@ -115,10 +119,10 @@ fn list_job(
     job: &[u8],
     width: u32,
     height: u32,
-    types: &mut [u32],
-    muls: &mut [u32],
+    types: &mut [u32; 4096],
+    muls: &mut [u32; 4096],
 ) -> usize
-    requires { ⌜ (5 ≤ length (now job)) × (getD (now job) 0 0 ≡ 16) × (width ≡ widthOf (now job)) × (height ≡ heightOf (now job)) × (width ≤ 512) × (height ≤ 512) × (length (now types) ≡ 4096) × (length (now muls) ≡ 4096) ⌝ }
+    requires { ⌜ (5 ≤ length (now job)) × (getD (now job) 0 0 ≡ 16) × (width ≡ widthOf (now job)) × (height ≡ heightOf (now job)) × (width ≤ 512) × (height ≤ 512) ⌝ }
     ensures { λ r. ⌜ Puts (now (out .entry)) 0 (textOf (now (job .entry))) (now (out .exit)) r ⌝ }
 {
     let n = lister_job::read_columns(job, types, muls);
@@ -129,7 +133,9 @@ fn list_job(
     if job[end] != 0 {
         return put_bad(out);
     }
-    list_columns(out, width, height, &types[..n], &muls[..n])
+    let all_types: &[u32] = types;
+    let all_muls: &[u32] = muls;
+    list_columns(out, width, height, &all_types[..n], &all_muls[..n])
 }
 
 // The printed text of a job, as much of it as out holds, and how many bytes that is.

@@ -12,7 +12,7 @@ abbrev pub columnPlace : ℕ → ℕ
 columnPlace k = 5 + 9 * k
 
 module _ (s : List ℕ) where
-  -- 16 and 32 bits from byte i on
+  -- 16 and 32 bits from byte i on; bytes beyond the end count as 0
   abbrev pub number16 : ℕ → ℕ
   number16 i = getD s i 0 + 256 * getD s (i + 1) 0
 

@@ -4,11 +4,11 @@ use mathlib.Core.Bool.{Bool, true, false, cond}
 use mathlib.Core.List.{List, _∷_, _++_}
 use Prim.Native.Nat.{ℕ, zero, suc, _+_, _-_, _≤_, _<_}
 use native.Mathlib.Omega.{arith}
-use lib.ListN.{length, getD, set, drop}
+use lib.ListN.{length, getD, set, drop, List·getD-eq-default}
 use lib.Seq.{drop-cons, set-at}
 use borrow.Author.Tests.{le-leb, lt-leb, eq-eqb, ne-eqb}
 use Rattle.laws.specs.Lists.{tabulate, length-tabulate}
-use Rattle.lister_job.specs.Job.{columnPlace, isColumn, countFrom, columns, prefixed}
+use Rattle.lister_job.specs.Job.{number16, columnPlace, isColumn, countFrom, columns, prefixed}
 
 -- one more at the end
 tabulate-more : (f : ℕ → ℕ) (n o : ℕ) (r : List ℕ) → tabulate f n o ++ (f (o + n) ∷ r) ≡ tabulate f (suc n) o ++ r
@@ -26,6 +26,13 @@ prefixed-more f n v d h e =
     ∙ ap (λ (k : ℕ). tabulate f n 0 ++ (k ∷ drop (suc n) d)) (e ∙ ap f (sym z))
     ∙ tabulate-more f n 0 (drop (suc n) d)
     ∙ ap (λ (k : ℕ). tabulate f k 0 ++ drop k d) m
+
+-- bytes beyond the end
+pub no-byte : (s : List ℕ) (i : ℕ) → length s ≤ i → 0 ≡ number16 s i
+no-byte s i h = rw (List·getD-eq-default s 0 {n = i} h, List·getD-eq-default s 0 {n = i + 1} (omega arith))
+
+pub one-byte : (s : List ℕ) (i : ℕ) → length s ≡ i + 1 → getD s i 0 ≡ number16 s i
+one-byte s i h = let e : getD s (i + 1) 0 ≡ 0 = List·getD-eq-default s 0 {n = i + 1} (omega arith) in omega arith
 
 module _ (s : List ℕ) where
   abbrev pub countLeft : ℕ → ℕ

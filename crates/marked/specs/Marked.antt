@@ -18,7 +18,7 @@ use Rattle.lf_group.specs.Blocks.{wideIn, highIn}
 use Rattle.filter_strength.specs.declared.Filter.the-variants.{On}
 use Rattle.filter_strength.specs.Strength.{zero32, nearest, scaledFilter, dividedFilter, m8}
 use Rattle.filter_strength.specs.Limits.{inLimits}
-use Rattle.varblock_scan.specs.Scan.{takeCell, scan}
+use Rattle.layout_reading.specs.Scan.{takeCell, scan}
 use Rattle.layout_reading.specs.Reading.{place, judge, column, reading}
 use Rattle.hf_metadata.specs.Call.{Outcome, accepted, refused, inputs, layoutOf}
 use Rattle.accepted_layout.specs.Marked.{off, varblock, m4, m4-varblocks, m4-area, m5, m5-refused, m6, m6-refused}

@@ -22,7 +22,7 @@ use Rattle.lf_group.specs.Blocks.{wideIn, highIn}
 use Rattle.filter_strength.specs.declared.Filter.the-variants.{Off}
 use Rattle.filter_strength.specs.Strength.{zero32, scaledFilter, dividedFilter}
 use Rattle.filter_strength.specs.Limits.{inLimits}
-use Rattle.varblock_scan.specs.Scan.{takeCell, scan}
+use Rattle.layout_reading.specs.Scan.{takeCell, scan}
 use Rattle.layout_reading.specs.Reading.{place, judge, column, reading}
 use Rattle.hf_metadata.specs.Call.{Inputs, inputs, layoutOf, accepted}
 use Rattle.hf_pass_store.specs.Store.{PLACES}

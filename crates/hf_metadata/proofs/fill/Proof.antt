@@ -53,7 +53,7 @@ returns c =
     let ek = h .0 in
     let em = h .1 in
     let es = h .2 in
-    fill-accepts (jobWith (a .bw) (a .bh) (a .types .now) (a .muls .now) (a .sharpness .now) (a .filter) (a .lookups .now)) (v .result) _ _ (v .last .0) (v .last .1 .0) _ (v .last .1 .1 .0) (c .before .before .before .before .before .before .before .before .before .before .before .before .before .before .before .before .before .before .before .before .before .before .before .clear-u8 .ensures ∙ ap (λ (n : ℕ). replicate {A = ℕ} n 0) (ek)) (c .before .before .before .before .before .before .before .before .before .before .before .before .before .before .before .before .before .before .before .clear-u32 .ensures ∙ ap (λ (n : ℕ). replicate {A = ℕ} n 0) (em)) (c .before .before .before .before .before .before .before .before .before .before .before .before .before .before .before .clear-f32 .ensures ∙ ap (λ (n : ℕ). replicate {A = Float} n zero32) (es)) (v .ensures) _ (c .before .step .given .1)
+    fill-accepts (jobWith (a .bw) (a .bh) (a .types .now) (a .muls .now) (a .sharpness .now) (a .filter) (a .lookups .now)) (v .result) _ _ (v .last .0) (v .last .1 .0) _ (v .last .1 .1 .0) (c .before .before .before .before .before .before .before .before .before .before .before .before .before .before .before .before .before .before .before .before .before .before .before .clear-u8 .ensures ∙ ap (λ (n : ℕ). replicate {A = ℕ} n 0) (ek)) (c .before .before .before .before .before .before .before .before .before .before .before .before .before .before .before .before .before .before .before .clear-u32 .ensures ∙ ap (λ (n : ℕ). replicate {A = ℕ} n 0) (em)) (c .before .before .before .before .before .before .before .before .before .before .before .before .before .before .before .clear-f32 .ensures ∙ ap (λ (n : ℕ). replicate {A = Float} n zero32) (es)) (h .5) (h .6) (h .4) (h .3) (v .ensures .reads) _ (c .before .step .given .1)
 
 same-length-4 : tie.Need-same-length-4
 same-length-4 c = search needs
@@ -75,7 +75,7 @@ returns-2 c =
     let fk = c .before .before .before .before .before .before .before .before .before .before .before .before .before .before .before .before .before .before .before .before .kinds2 .given ∙ c .before .before .before .before .before .before .before .before .before .before .before .before .before .before .before .before .before .before .before .before .before .before .before .before .before .before .before .before .before .before .before .before .before .before .kinds .given ∙ ek in
     let fm = c .before .before .before .before .before .before .before .before .before .before .before .before .before .before .before .before .before .before .hf-mul2 .given ∙ c .before .before .before .before .before .before .before .before .before .before .before .before .before .before .before .before .before .before .before .before .before .before .before .before .before .before .before .before .before .before .hf-mul .given ∙ em in
     let fs = c .before .before .before .before .before .before .before .before .before .before .before .before .before .before .before .before .sigma2 .given ∙ c .before .before .before .before .before .before .before .before .before .before .before .before .before .before .before .before .before .before .before .before .before .before .before .before .before .before .sigma .given ∙ es in
-    fill-refuses (jobWith (a .bw) (a .bh) (a .types .now) (a .muls .now) (a .sharpness .now) (a .filter) (a .lookups .now)) (v .result) _ _ (v .last .0) (v .last .1 .0) _ (v .last .1 .1 .0) (c .before .before .before .before .before .before .before .before .before .before .before .before .before .before .before .before .before .before .before .before .before .before .before .before .before .before .before .before .before .before .before .before .before .before .before .clear-u8 .ensures ∙ ap (λ (n : ℕ). replicate {A = ℕ} n 0) (ek)) (c .before .before .before .before .before .before .before .before .before .before .before .before .before .before .before .before .before .before .before .before .before .before .before .before .before .before .before .before .before .before .before .clear-u32 .ensures ∙ ap (λ (n : ℕ). replicate {A = ℕ} n 0) (em)) (c .before .before .before .before .before .before .before .before .before .before .before .before .before .before .before .before .before .before .before .before .before .before .before .before .before .before .before .clear-f32 .ensures ∙ ap (λ (n : ℕ). replicate {A = Float} n zero32) (es)) (v .ensures) _ _ _ _ (c .before .before .before .before .before .before .before .before .before .before .before .before .before .step2 .given .1) (c .before .before .before .before .before .before .before .before .before .before .clear-u82 .ensures ∙ ap (λ (n : ℕ). replicate {A = ℕ} n 0) (fk)) (c .before .before .before .before .before .before .clear-u322 .ensures ∙ ap (λ (n : ℕ). replicate {A = ℕ} n 0) (fm)) (c .before .before .clear-f322 .ensures ∙ ap (λ (n : ℕ). replicate {A = Float} n zero32) (fs))
+    fill-refuses (jobWith (a .bw) (a .bh) (a .types .now) (a .muls .now) (a .sharpness .now) (a .filter) (a .lookups .now)) (v .result) _ _ (v .last .0) (v .last .1 .0) _ (v .last .1 .1 .0) (c .before .before .before .before .before .before .before .before .before .before .before .before .before .before .before .before .before .before .before .before .before .before .before .before .before .before .before .before .before .before .before .before .before .before .before .clear-u8 .ensures ∙ ap (λ (n : ℕ). replicate {A = ℕ} n 0) (ek)) (c .before .before .before .before .before .before .before .before .before .before .before .before .before .before .before .before .before .before .before .before .before .before .before .before .before .before .before .before .before .before .before .clear-u32 .ensures ∙ ap (λ (n : ℕ). replicate {A = ℕ} n 0) (em)) (c .before .before .before .before .before .before .before .before .before .before .before .before .before .before .before .before .before .before .before .before .before .before .before .before .before .before .before .clear-f32 .ensures ∙ ap (λ (n : ℕ). replicate {A = Float} n zero32) (es)) (h .5) (h .6) (h .4) (h .3) (v .ensures .reads) _ _ _ _ (c .before .before .before .before .before .before .before .before .before .before .before .before .before .step2 .given .1) (c .before .before .before .before .before .before .before .before .before .before .clear-u82 .ensures ∙ ap (λ (n : ℕ). replicate {A = ℕ} n 0) (fk)) (c .before .before .before .before .before .before .clear-u322 .ensures ∙ ap (λ (n : ℕ). replicate {A = ℕ} n 0) (fm)) (c .before .before .clear-f322 .ensures ∙ ap (λ (n : ℕ). replicate {A = Float} n zero32) (fs))
 
 pub fill-spec : {M : Type 1} → statement M
 fill-spec =

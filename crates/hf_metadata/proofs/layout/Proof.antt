@@ -1,5 +1,7 @@
-use Rattle.hf_metadata.specs.CallSteps.{counts, call-size, call-modes, call-params, call-lengths, call-works}
-use Rattle.hf_metadata.specs.Call.{inputs, countsFit}
+use Rattle.hf_metadata.specs.CallSteps.{call-size, call-modes, call-params, call-lengths, call-works}
+use Rattle.hf_metadata.specs.Call.{inputs}
+use Rattle.layout_reading.specs.Reading.{countsFit}
+use Rattle.layout_reading.specs.Lengths.{counts}
 use Rattle.lf_group.specs.Blocks.{highIn}
 use Rattle.lf_group.specs.declared.Blocks.{Blocks}
 use Rattle.lf_group.specs.Bounds.{wide-most, high-most}

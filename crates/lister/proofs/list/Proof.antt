@@ -65,12 +65,6 @@ returns-4 c =
     let b = c .before .before .put-bad4 in
     subst (λ (s : List ℕ). Puts (a .out .now) 0 s (b .last .0) (b .result)) (bad-high (a .job .now) (omega arith) (c .before .before .before .before .before .before .before .before .if2 .left) (omega (arith, c .before .before .before .before .before .if3 .left, c .before .before .before .before .before .before .before .number16 .ensures)) (omega (arith, c .before .before .before .before .if4 .taken, c .before .before .before .before .before .before .number162 .ensures))) (b .ensures)
 
-slice-aggregate-list-job : tie.Need-slice-aggregate-list-job
-slice-aggregate-list-job c = search needs
-
-slice-aggregate-list-job-2 : tie.Need-slice-aggregate-list-job-2
-slice-aggregate-list-job-2 c = search needs
-
 list-job-requires : tie.Need-list-job-requires
 list-job-requires c κs = search needs
 
@@ -99,8 +93,6 @@ list-spec =
     put-bad-requires-4
     same-length-4
     returns-4
-    slice-aggregate-list-job
-    slice-aggregate-list-job-2
     list-job-requires
     same-length-5
     returns-5)

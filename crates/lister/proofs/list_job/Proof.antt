@@ -1,15 +1,13 @@
 use Rattle.lister.specs.ListSteps.{bad-cut, bad-end, good, job-text, read-first}
 use Rattle.lister_job.specs.JobSteps.{columns-most}
 use Rattle.lister_job.specs.Job.{typeAt, mulAt}
-use Rattle.laws.specs.Lists.{tabulate}
-use lib.Seq.{length-take-le}
-use lib.ListN.{take}
+use Rattle.laws.specs.Lists.{tabulate, length-tabulate}
 use Rattle.text.specs.Text.{Puts}
 use mathlib.Core.List.{List}
 use mathlib.Core.Path.{subst}
 use borrow.Author.Needs.{needs}
 use native.Mathlib.Omega.{arith}
-use mathlib.Core.Path.{_≡_, _∙_, ap, sym}
+use mathlib.Core.Path.{_∙_, ap, sym}
 use Prim.Native.Nat.{ℕ}
 use lib.ListN.{length, take}
 use Rattle.lister.proofs.list_job.Statement.{statement}
@@ -20,9 +18,9 @@ read-columns-requires c κs = search needs
 
 mul-end : tie.Need-mul-end
 mul-end c =
-    let a = c .before .before .before .before .before .before .before .before .before .before .before .args in
-    let h = c .before .before .before .before .before .before .before .before .before .before .before .pre in
-    let v = c .before .before .before .before .read-columns in
+    let a = c .before .before .before .before .before .args in
+    let h = c .before .before .before .before .before .pre in
+    let v = c .read-columns in
     let r = v .ensures in
     let m = columns-most (a .job .now) in
     let k = r .count in
@@ -30,9 +28,9 @@ mul-end c =
 
 add-end : tie.Need-add-end
 add-end c =
-    let a = c .before .before .before .before .before .before .before .before .before .before .before .args in
-    let h = c .before .before .before .before .before .before .before .before .before .before .before .pre in
-    let v = c .before .before .before .before .read-columns in
+    let a = c .before .before .before .before .before .args in
+    let h = c .before .before .before .before .before .pre in
+    let v = c .read-columns in
     let r = v .ensures in
     let m = columns-most (a .job .now) in
     let k = r .count in
@@ -44,17 +42,11 @@ put-bad-requires c κs = search needs
 same-length : tie.Need-same-length
 same-length c = search needs
 
-same-length-2 : tie.Need-same-length-2
-same-length-2 c = search needs
-
-same-length-3 : tie.Need-same-length-3
-same-length-3 c = search needs
-
 returns : tie.Need-returns
 returns c =
-    let a = c .before .before .before .before .before .before .before .before .before .before .before .before .before .before .before .before .args in
-    let h = c .before .before .before .before .before .before .before .before .before .before .before .before .before .before .before .before .pre in
-    let v = c .before .before .before .before .before .before .before .before .before .read-columns in
+    let a = c .before .before .before .before .before .before .before .before .before .before .args in
+    let h = c .before .before .before .before .before .before .before .before .before .before .pre in
+    let v = c .before .before .before .before .before .read-columns in
     let r = v .ensures in
     let m = columns-most (a .job .now) in
     let k = r .count in
@@ -67,86 +59,50 @@ shared-slice-read-if2 c = search needs
 put-bad-requires-2 : tie.Need-put-bad-requires-2
 put-bad-requires-2 c κs = search needs
 
-same-length-4 : tie.Need-same-length-4
-same-length-4 c = search needs
-
-same-length-5 : tie.Need-same-length-5
-same-length-5 c = search needs
-
-same-length-6 : tie.Need-same-length-6
-same-length-6 c = search needs
+same-length-2 : tie.Need-same-length-2
+same-length-2 c = search needs
 
 returns-2 : tie.Need-returns-2
 returns-2 c =
-    let a = c .before .before .before .before .before .before .before .before .before .before .before .before .before .before .before .before .before .before .args in
-    let h = c .before .before .before .before .before .before .before .before .before .before .before .before .before .before .before .before .before .before .pre in
-    let v = c .before .before .before .before .before .before .before .before .before .before .before .read-columns in
+    let a = c .before .before .before .before .before .before .before .before .before .before .before .before .args in
+    let h = c .before .before .before .before .before .before .before .before .before .before .before .before .pre in
+    let v = c .before .before .before .before .before .before .before .read-columns in
     let r = v .ensures in
     let m = columns-most (a .job .now) in
     let k = r .count in
     let b = c .before .before .put-bad2 in
     subst (λ (s : List ℕ). Puts (a .out .now) 0 s (b .last .0) (b .result)) (bad-end (a .job .now) (h .0) (h .1) (omega (arith, h .2, h .4)) (omega (arith, h .3, h .5)) (v .result) (r .count) (c .before .before .before .before .before .before .if1 .left) (c .before .before .before .before .if2 .taken)) (b .ensures)
 
-slice-reshare-prefix-list-columns : tie.Need-slice-reshare-prefix-list-columns
-slice-reshare-prefix-list-columns c =
-    let a = c .before .before .before .before .before .before .before .before .before .before .before .before .before .before .before .args in
-    let h = c .before .before .before .before .before .before .before .before .before .before .before .before .before .before .before .pre in
-    let v = c .before .before .before .before .before .before .before .before .read-columns in
-    let r = v .ensures in
-    let m = columns-most (a .job .now) in
-    let k = r .count in
-    let l : length (v .last .1 .0) ≡ 4096 = c .before .before .before .before .before .before .before .types .given ∙ h .6 in
-    omega arith
-
 slice-aggregate-list-columns : tie.Need-slice-aggregate-list-columns
 slice-aggregate-list-columns c =
-    let a = c .before .before .before .before .before .before .before .before .before .before .before .before .before .before .before .before .args in
-    let h = c .before .before .before .before .before .before .before .before .before .before .before .before .before .before .before .before .pre in
+    let a = c .before .before .before .before .before .before .before .before .before .before .before .before .before .before .args in
+    let h = c .before .before .before .before .before .before .before .before .before .before .before .before .before .before .pre in
     let v = c .before .before .before .before .before .before .before .before .before .read-columns in
     let r = v .ensures in
     let m = columns-most (a .job .now) in
     let k = r .count in
-    let l : length (v .last .1 .0) ≡ 4096 = c .before .before .before .before .before .before .before .before .types .given ∙ h .6 in
-    sym (length-take-le (v .result) (v .last .1 .0) (omega arith))
-
-slice-reshare-prefix-list-columns-2 : tie.Need-slice-reshare-prefix-list-columns-2
-slice-reshare-prefix-list-columns-2 c =
-    let a = c .before .before .before .before .before .before .before .before .before .before .before .before .before .before .before .before .args in
-    let h = c .before .before .before .before .before .before .before .before .before .before .before .before .before .before .before .before .pre in
-    let v = c .before .before .before .before .before .before .before .before .before .read-columns in
-    let r = v .ensures in
-    let m = columns-most (a .job .now) in
-    let k = r .count in
-    let l : length (v .last .1 .1 .0) ≡ 4096 = c .before .before .before .before .before .before .muls .given ∙ h .7 in
-    omega arith
+    sym (ap length (read-first (typeAt (a .job .now)) (v .result) (a .types .now) (v .last .1 .0) (r .typesAre)) ∙ length-tabulate (typeAt (a .job .now)) (v .result) 0)
 
 slice-aggregate-list-columns-2 : tie.Need-slice-aggregate-list-columns-2
 slice-aggregate-list-columns-2 c =
-    let a = c .before .before .before .before .before .before .before .before .before .before .before .before .before .before .before .before .before .args in
-    let h = c .before .before .before .before .before .before .before .before .before .before .before .before .before .before .before .before .before .pre in
+    let a = c .before .before .before .before .before .before .before .before .before .before .before .before .before .before .before .args in
+    let h = c .before .before .before .before .before .before .before .before .before .before .before .before .before .before .before .pre in
     let v = c .before .before .before .before .before .before .before .before .before .before .read-columns in
     let r = v .ensures in
     let m = columns-most (a .job .now) in
     let k = r .count in
-    let l : length (v .last .1 .1 .0) ≡ 4096 = c .before .before .before .before .before .before .before .muls .given ∙ h .7 in
-    sym (length-take-le (v .result) (v .last .1 .1 .0) (omega arith))
+    sym (ap length (read-first (mulAt (a .job .now)) (v .result) (a .muls .now) (v .last .1 .1 .0) (r .mulsAre)) ∙ length-tabulate (mulAt (a .job .now)) (v .result) 0)
 
 list-columns-requires : tie.Need-list-columns-requires
 list-columns-requires c κs = search needs
 
-same-length-7 : tie.Need-same-length-7
-same-length-7 c = search needs
-
-same-length-8 : tie.Need-same-length-8
-same-length-8 c = search needs
-
-same-length-9 : tie.Need-same-length-9
-same-length-9 c = search needs
+same-length-3 : tie.Need-same-length-3
+same-length-3 c = search needs
 
 returns-3 : tie.Need-returns-3
 returns-3 c =
-    let a = c .before .before .before .before .before .before .before .before .before .before .before .before .before .before .before .before .before .before .before .before .args in
-    let h = c .before .before .before .before .before .before .before .before .before .before .before .before .before .before .before .before .before .before .before .before .pre in
+    let a = c .before .before .before .before .before .before .before .before .before .before .before .before .before .before .before .before .before .before .args in
+    let h = c .before .before .before .before .before .before .before .before .before .before .before .before .before .before .before .before .before .before .pre in
     let v = c .before .before .before .before .before .before .before .before .before .before .before .before .before .read-columns in
     let r = v .ensures in
     let m = columns-most (a .job .now) in
@@ -154,7 +110,7 @@ returns-3 c =
     let b = c .before .before .list-columns in
     let ts = read-first (typeAt (a .job .now)) (v .result) (a .types .now) (v .last .1 .0) (r .typesAre) ∙ ap (λ (i : ℕ). tabulate (typeAt (a .job .now)) i 0) (r .count) in
     let ms = read-first (mulAt (a .job .now)) (v .result) (a .muls .now) (v .last .1 .1 .0) (r .mulsAre) ∙ ap (λ (i : ℕ). tabulate (mulAt (a .job .now)) i 0) (r .count) in
-    let t = job-text (a .job .now) (a .width) (a .height) (take (v .result) (v .last .1 .0)) (take (v .result) (v .last .1 .1 .0)) (h .2) (h .3) ts ms (good (a .job .now) (h .0) (h .1) (omega (arith, h .2, h .4)) (omega (arith, h .3, h .5)) (v .result) (r .count) (c .before .before .before .before .before .before .before .before .if1 .left) (c .before .before .before .before .before .before .if2 .left)) in
+    let t = job-text (a .job .now) (a .width) (a .height) (take (v .result) (v .last .1 .0)) (take (v .result) (v .last .1 .1 .0)) (h .2) (h .3) ts ms (good (a .job .now) (h .0) (h .1) (omega (arith, h .2, h .4)) (omega (arith, h .3, h .5)) (v .result) (r .count) (c .before .before .before .before .before .before .before .before .before .before .before .before .if1 .left) (c .before .before .before .before .before .before .before .before .before .before .if2 .left)) in
     subst (λ (s : List ℕ). Puts (a .out .now) 0 s (b .last .0) (b .result)) t (b .ensures)
 
 pub list-job-spec : {M : Type 1} → statement M
@@ -166,21 +122,13 @@ list-job-spec =
     add-end
     put-bad-requires
     same-length
-    same-length-2
-    same-length-3
     returns
     shared-slice-read-if2
     put-bad-requires-2
-    same-length-4
-    same-length-5
-    same-length-6
+    same-length-2
     returns-2
-    slice-reshare-prefix-list-columns
     slice-aggregate-list-columns
-    slice-reshare-prefix-list-columns-2
     slice-aggregate-list-columns-2
     list-columns-requires
-    same-length-7
-    same-length-8
-    same-length-9
+    same-length-3
     returns-3)

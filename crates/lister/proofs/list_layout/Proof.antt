@@ -1,5 +1,5 @@
 use Rattle.lister.specs.ListSteps.{listed-is, accepts, refuses}
-use Rattle.lister_lines.specs.Texts.{refusedText}
+use Rattle.lister.specs.Texts.{refusedText}
 use Rattle.text.specs.Text.{Puts}
 use Rattle.hf_metadata.specs.Call.{leaves}
 use Rattle.hf_metadata.specs.declared.LayoutAnswer.{LayoutAnswer}

@@ -1,8 +1,16 @@
+use Rattle.lister_job.specs.JobSteps.{no-byte, one-byte}
 use borrow.Author.Needs.{needs}
-use native.Mathlib.Omega.{arith}
-use Prim.Native.Nat.{_+_}
+use mathlib.Core.Path.{_∙_}
 use Rattle.lister_job.proofs.number16.Statement.{statement}
 use Rattle.lister_job.proofs.number16.Tie as tie
+
+returns : tie.Need-returns
+returns c =
+    let a = c .before .before .args in
+    no-byte (a .s .now) (a .i) (c .if1 .taken)
+
+add-if2 : tie.Need-add-if2
+add-if2 c = search needs
 
 shared-slice-read-wide : tie.Need-shared-slice-read-wide
 shared-slice-read-wide c = search needs
@@ -10,37 +18,18 @@ shared-slice-read-wide c = search needs
 wide-requires : tie.Need-wide-requires
 wide-requires c κs = search needs
 
-add-wide : tie.Need-add-wide
-add-wide c = search needs
-
-shared-slice-read-wide-2 : tie.Need-shared-slice-read-wide-2
-shared-slice-read-wide-2 c = search needs
-
-wide-requires-2 : tie.Need-wide-requires-2
-wide-requires-2 c κs = search needs
-
-mul-result : tie.Need-mul-result
-mul-result c =
+returns-2 : tie.Need-returns-2
+returns-2 c =
     let a = c .before .before .before .before .before .args in
-    omega (arith, c .before .before .before .before .shared-slice-known .given (a .i), c .before .before .before .before .shared-slice-known .given (a .i + 1))
+    c .wide .ensures ∙ one-byte (a .s .now) (a .i) (c .before .before .if2 .taken)
 
-add-result : tie.Need-add-result
-add-result c =
-    let a = c .before .before .before .before .before .args in
-    omega (arith, c .before .before .before .before .shared-slice-known .given (a .i), c .before .before .before .before .shared-slice-known .given (a .i + 1))
+two-bytes-requires : tie.Need-two-bytes-requires
+two-bytes-requires c κs = search needs
 
-returns : tie.Need-returns
-returns c = search needs
+returns-3 : tie.Need-returns-3
+returns-3 c = search needs
 
 pub number16-spec : {M : Type 1} → statement M
 number16-spec =
     tie.close
-    (tie.spec
-    shared-slice-read-wide
-    wide-requires
-    add-wide
-    shared-slice-read-wide-2
-    wide-requires-2
-    mul-result
-    add-result
-    returns)
+    (tie.spec returns add-if2 shared-slice-read-wide wide-requires returns-2 two-bytes-requires returns-3)

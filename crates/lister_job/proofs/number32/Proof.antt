@@ -4,14 +4,14 @@ use Prim.Native.Nat.{_+_}
 use Rattle.lister_job.proofs.number32.Statement.{statement}
 use Rattle.lister_job.proofs.number32.Tie as tie
 
-number16-requires : tie.Need-number16-requires
-number16-requires c κs = search needs
+two-bytes-requires : tie.Need-two-bytes-requires
+two-bytes-requires c κs = search needs
 
-add-number16 : tie.Need-add-number16
-add-number16 c = search needs
+add-two-bytes : tie.Need-add-two-bytes
+add-two-bytes c = search needs
 
-number16-requires-2 : tie.Need-number16-requires-2
-number16-requires-2 c κs = search needs
+two-bytes-requires-2 : tie.Need-two-bytes-requires-2
+two-bytes-requires-2 c κs = search needs
 
 mul-result : tie.Need-mul-result
 mul-result c =
@@ -29,4 +29,4 @@ returns c = search needs
 pub number32-spec : {M : Type 1} → statement M
 number32-spec =
     tie.close
-    (tie.spec number16-requires add-number16 number16-requires-2 mul-result add-result returns)
+    (tie.spec two-bytes-requires add-two-bytes two-bytes-requires-2 mul-result add-result returns)

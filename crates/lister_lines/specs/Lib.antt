@@ -1,3 +1,0 @@
--- the printed lines, and laws on them
-pub mod Texts
-pub mod Lines
