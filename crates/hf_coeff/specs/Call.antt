@@ -3,7 +3,7 @@ use mathlib.Core.Bool.{Bool, true, cond, _&&_, not}
 use mathlib.Core.List.{List, [], _∷_}
 use Prim.Native.Nat.{ℕ, _*_}
 use lib.Dec.{ltb, leb, eqb}
-use lib.ListN.{length, getD, take, drop}
+use lib.ListN.{length, getD}
 use Rattle.refusal.specs.declared.Refusal.{Refusal}
 use Rattle.refusal.specs.declared.Said.{Said}
 use Rattle.refusal.specs.Said.{said}
@@ -16,9 +16,10 @@ use Rattle.hf_pass_store.specs.Store.{PLACES, placesFit}
 use Rattle.block_context.specs.Record.{fit}
 use Rattle.hf_coeff.specs.declared.CoeffAnswer.{CoeffAnswer}
 use Rattle.hf_coeff.specs.declared.CoeffAnswer.the-variants.{Accepted, Refused}
-use Rattle.hf_coeff_group.specs.Pass.{Pass, varblocks}
-use Rattle.hf_coeff_group.specs.Group.{Grids, Reading, going, refused, group, leftOf}
+use Rattle.hf_coeff_group.specs.Pass.{Pass}
+use Rattle.hf_coeff_group.specs.Group.{Grids, Reading, going, refused, leftOf}
 pub use Rattle.hf_coeff_checks.specs.Checks.{parametersFit}
+use Rattle.hf_coeff_group.specs.Work.{stretchOf, readingBy}
 pub use Rattle.hf_coeff_group.specs.Work.{passWith, clustersOf, rowsOf}
 
 -- what is lent
@@ -102,12 +103,10 @@ layoutFits P = isLayout (P .width) (P .height) (P .kinds) (P .muls)
 -- The work.
 -- the stretch of a preset in the cluster map
 abbrev pub presetMap : Lent → ℕ → List ℕ
-presetMap L preset = take (495 * clustersOf (L .pass)) (drop (495 * clustersOf (L .pass) * preset) (L .clusterMap))
+presetMap L preset = stretchOf (L .pass) (L .clusterMap) preset
 
 unfoldable pub reading : Lent → ℕ → Reading
-reading L preset =
-    group (L .shift) (clustersOf (L .pass)) (presetMap L preset) (L .pass) (varblocks (L .pass))
-    (going (L .symbols) 0 (L .log) (L .grids) (rowsOf (L .pass)) 0)
+reading L preset = readingBy (L .pass) (L .clusterMap) (L .shift) (L .symbols) (L .log) (L .grids) preset
 
 -- symbols read; 15 to 17 keep what was added and logged
 abbrev pub outcome : Reading → Outcome

@@ -7,9 +7,9 @@ use crate::walked::symbols_read;
 use hf_coeff_walk::Walk;
 ghost use mathlib.Core.List.{[], _∷_};
 ghost use lib.ListN.{length};
-ghost use Rattle.hf_coeff_group.specs.Group.{going, group};
+ghost use Rattle.hf_coeff_group.specs.Group.{going, group, zeroRows};
 ghost use Rattle.hf_coeff_group.specs.Pass.{varblocks};
-ghost use Rattle.hf_coeff_group.specs.Due.{GroupReady, Read, passOf, zeroRows};
+ghost use Rattle.hf_coeff_group.specs.Due.{GroupReady, Read, passOf};
 
 // `width` and `height` in blocks, `map` the preset's stretch of the cluster map.
 pub(crate) fn read_group<'a>(
