@@ -1,7 +1,7 @@
 // The varblocks of a group in turn: corners row by row.
 use crate::channels::read_varblock;
 use crate::plan::plan_of;
-use crate::rows::rewritten_all;
+use crate::rows::rewrite_all;
 use crate::walked::is_stopped;
 use crate::walked::symbols_read;
 use hf_coeff_walk::Walk;
@@ -87,8 +87,7 @@ pub(crate) fn read_group<'a>(
                 return walk;
             }
             at = symbols_read(walk);
-            let next = rewritten_all(rows, v.x, v.wide, counts);
-            rows = next;
+            rewrite_all(&mut rows, v.x, v.wide, counts);
             x += 1;
         }
         y += 1;

@@ -1,6 +1,7 @@
 // The coefficients of a pass group (`hf_coeff.rs`).
 use crate::work::read_with;
 use block_check::Group;
+use block_check::check::in_limits;
 use block_context::HfBlockContext;
 use block_context::fit::is_fit;
 use hf_coeff_checks::checks;
@@ -62,7 +63,7 @@ pub fn write_hf_coeff<'a>(
 {
     let wide = group.wide;
     let high = group.high;
-    if !checks::sides_fit(wide, high) {
+    if !in_limits(32, wide, high) {
         return CoeffAnswer::Refused(Refusal::Size);
     }
     if !checks::parameters_fit(shift, presets) {

@@ -25,19 +25,12 @@ fn rewrite(row: &mut [u32; 32], x: usize, n: usize, v: u32)
     }
 }
 
-// The rows after a varblock of this corner's column and width.
-pub(crate) fn rewritten_all(
-    rows: [[u32; 32]; 3],
-    x: usize,
-    wide: usize,
-    counts: [u32; 3],
-) -> [[u32; 32]; 3]
+// A varblock of this corner's column and width leaves its counts in the rows.
+pub(crate) fn rewrite_all(rows: &mut [[u32; 32]; 3], x: usize, wide: usize, counts: [u32; 3])
     requires { ⌜ x + wide ≤ 32 ⌝ }
-    ensures { λ r. ⌜ r ≡ rowsBy rows x wide counts ⌝ }
+    ensures { λ r. ⌜ now (rows .exit) ≡ rowsBy (now (rows .entry)) x wide counts ⌝ }
 {
-    let mut out = rows;
-    rewrite(&mut out[1], x, wide, counts[0]);
-    rewrite(&mut out[0], x, wide, counts[1]);
-    rewrite(&mut out[2], x, wide, counts[2]);
-    out
+    rewrite(&mut rows[1], x, wide, counts[0]);
+    rewrite(&mut rows[0], x, wide, counts[1]);
+    rewrite(&mut rows[2], x, wide, counts[2]);
 }

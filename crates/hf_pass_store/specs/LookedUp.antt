@@ -1,16 +1,13 @@
 -- Looking a list up (document 01, Orders).
 use mathlib.Core.Path.{_≡_, refl, sym, _∙_}
 use mathlib.Core.Bool.{Bool, true, false, cond, _&&_}
-use mathlib.Core.List.{List, [], _∷_}
+use mathlib.Core.List.{List, []}
 use Prim.Native.Nat.{ℕ, _+_, _*_, _-_, _/_, _<_, _≤_}
 use native.Mathlib.Omega.{arith}
-use lib.Dec.{eqb, eqb→eq, ltb}
-use lib.ListN.{length, getD, take, drop}
+use lib.Dec.{eqb, ltb}
+use lib.ListN.{length, take, drop}
 use borrow.Author.Tests.{lt-ltb, le-ltb, eq-eqb, ne-eqb, ltb-true, eqb-true}
-use Rattle.laws.specs.Tables.{each-at}
-use Rattle.dct_select.specs.declared.Sides.{Sides}
 use Rattle.dct_select.specs.BlockSizes.{BLOCK-SIZES, widthOf, heightOf}
-use Rattle.dct_select.specs.LookUp.{blockSize}
 use Rattle.natural_order.specs.Bools.{and-false}
 use Rattle.hf_pass_store.specs.declared.Stretch.{Stretch}
 use Rattle.hf_pass_store.specs.Store.{PLACES, before, thrice, stretch}
@@ -48,31 +45,22 @@ pub stretch-length : (numbers k c : ℕ) → (numbers ≡ 787968 → ⊥) → st
 unfolding stretchAt
 stretch-length numbers k c h = rw (ne-eqb numbers (2 * PLACES) (λ e. h (e ∙ places-by)), and-false (ltb c 3), and-false (ltb k 13))
 
--- where the orders begin, as a table
-unfoldable pub starts : List ℕ
-starts = 0 ∷ 384 ∷ 768 ∷ 2304 ∷ 8448 ∷ 9216 ∷ 10752 ∷ 13824 ∷ 38400 ∷ 50688 ∷ 148992 ∷ 198144 ∷ 591360 ∷ []
-
-pub starts-at : (k : ℕ) → k < 13 → getD starts k 0 ≡ from (3 * k)
-unfolding starts from BLOCK-SIZES
-starts-at k h = eqb→eq (getD starts k 0) (from (3 * k)) (each-at (λ (j : ℕ). eqb (getD starts j 0) (from (3 * j))) 13 0 tt k (omega arith) (omega arith))
-
-module _ (k c : ℕ) (h : k < 13) (l : c < 3) (s : Sides) (e : s ≡ blockSize k) (a : ℕ) (b : a ≡ from (3 * k)) where
+module _ (k c : ℕ) (h : k < 13) (l : c < 3) (n : ℕ) (e : n ≡ 2 * (widthOf k * heightOf k)) (a : ℕ) (b : a ≡ from (3 * k)) where
   -- the list lies inside the store
   pub record Spot : Type 0 where
-    pub place : a + c * (2 * (s .wide * s .high)) ≡ from (3 * k + c)
-    pub room : a + c * (2 * (s .wide * s .high)) + 2 * (s .wide * s .high) ≤ 787968
+    pub place : a + c * n ≡ from (3 * k + c)
+    pub room : a + c * n + n ≤ 787968
 
   pub spot : Spot
   spot =
-      let p : a + c * (2 * (s .wide * s .high)) ≡ from (3 * k + c) = rw (b, e) (sym (from-channel k c h l)) in
+      let p : a + c * n ≡ from (3 * k + c) = rw (b, e) (sym (from-channel k c h l)) in
       let d : (3 * k + c) / 3 ≡ k = omega arith in
       let f = rw d at (from-step (3 * k + c) (omega arith)) in
-      let g : s .wide * s .high ≡ widthOf k * heightOf k = rw e in
       record { place = p; room = omega (arith, from-most (3 * k + c + 1) (omega arith)) }
 
-  pub found : (numbers : ℕ) → numbers ≡ 787968 → stretchFrom (a + c * (2 * (s .wide * s .high))) (2 * (s .wide * s .high)) ≡ stretchAt numbers k c
+  pub found : (numbers : ℕ) → numbers ≡ 787968 → stretchFrom (a + c * n) n ≡ stretchAt numbers k c
   unfolding stretchAt
-  found numbers n = rw (spot .place, e, lt-ltb k 13 h, lt-ltb c 3 l, eq-eqb numbers (2 * PLACES) (n ∙ sym places-by))
+  found numbers m = rw (spot .place, e, lt-ltb k 13 h, lt-ltb c 3 l, eq-eqb numbers (2 * PLACES) (m ∙ sym places-by))
 
 -- a stretch ends inside its store
 pub stretch-inside : (numbers k c : ℕ) → stretchAt numbers k c .first + stretchAt numbers k c .count ≤ numbers

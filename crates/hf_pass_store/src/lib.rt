@@ -2,8 +2,7 @@
 use dct_select::block_sizes::block_size;
 use natural_order::fill_natural_order;
 ghost use mathlib.Core.Path.{_≡_};
-ghost use mathlib.Core.List.{_++_};
-ghost use Prim.Native.Nat.{ℕ, _+_, _*_, _≤_, _<_};
+ghost use Prim.Native.Nat.{_+_, _*_, _≤_, _<_};
 ghost use lib.ListN.{length};
 ghost use lib.Seq.{paste};
 ghost use Rattle.dct_select.specs.BlockSizes.{widthOf, heightOf};
@@ -17,28 +16,48 @@ ghost use Rattle.hf_pass_store.specs.Naturals.{wholeStore, naturalStore,
 // The numbers of a whole store: two for each of 393,984 places.
 pub const NUMBERS: usize = 787968;
 
-const STARTS: [usize; 13] = [
-    0,
-    384,
-    768,
-    2304,
-    8448,
-    9216,
-    10752,
-    13824,
-    38400,
-    50688,
-    148992,
-    198144,
-    591360,
-];
-
-// Where the three lists of an order begin.
+// Where the three lists of an order begin. A `match`, since a constant array is laid out anew wherever it is named.
 fn start_of(order: usize) -> usize
     requires { ⌜ order < 13 ⌝ }
     ensures { λ r. ⌜ r ≡ from (3 * order) ⌝ }
 {
-    STARTS[order]
+    match order {
+        0 => 0,
+        1 => 384,
+        2 => 768,
+        3 => 2304,
+        4 => 8448,
+        5 => 9216,
+        6 => 10752,
+        7 => 13824,
+        8 => 38400,
+        9 => 50688,
+        10 => 148992,
+        11 => 198144,
+        _ => 591360,
+    }
+}
+
+// The numbers of one list of an order.
+fn numbers_of(order: usize) -> usize
+    requires { ⌜ order < 13 ⌝ }
+    ensures { λ r. ⌜ r ≡ 2 * (widthOf order * heightOf order) ⌝ }
+{
+    match order {
+        0 => 128,
+        1 => 128,
+        2 => 512,
+        3 => 2048,
+        4 => 256,
+        5 => 512,
+        6 => 1024,
+        7 => 8192,
+        8 => 4096,
+        9 => 32768,
+        10 => 16384,
+        11 => 131072,
+        _ => 65536,
+    }
 }
 
 // A part of the store: its first number, and how many.
@@ -60,10 +79,7 @@ pub fn stretch_of(numbers: usize, order: usize, channel: usize) -> Stretch
     if numbers != NUMBERS {
         return Stretch { first: 0, count: 0 };
     }
-    let size = block_size(order);
-    let bw = size.wide;
-    let bh = size.high;
-    let n = 2 * (bw * bh);
+    let n = numbers_of(order);
     let first = start_of(order) + channel * n;
     Stretch { first, count: n }
 }

@@ -19,7 +19,7 @@ lentAt c =
 
 -- What each test leaves.
 sides : (c : tie.Else1) → sidesFit (lentAt (c .before .before .before .before .before .before .before .before .before .before .before .before .before .before .before) .pass) ≡ true
-sides c = sym (c .before .sides-fit .ensures) ∙ not-false (c .before .sides-fit .result) (c .if1 .left)
+sides c = sym (c .before .in-limits .ensures) ∙ not-false (c .before .in-limits .result) (c .if1 .left)
 
 parameters : (c : tie.Else2) → parametersFit (lentAt (c .before .before .before .before .before .before .before .before .before .before .before .before .before .before .before .before .before) .shift) (lentAt (c .before .before .before .before .before .before .before .before .before .before .before .before .before .before .before .before .before) .presets) ≡ true
 parameters c = sym (c .before .parameters-fit .ensures) ∙ not-false (c .before .parameters-fit .result) (c .if2 .left)
@@ -46,12 +46,12 @@ passed c = record {
   places = sym (c .before .places-fit .ensures) ∙ not-false (c .before .places-fit .result) (c .if6 .left);
 }
 
-sides-fit-requires : tie.Need-sides-fit-requires
-sides-fit-requires c κs = search needs
+in-limits-requires : tie.Need-in-limits-requires
+in-limits-requires c κs = search needs
 
 returns : tie.Need-returns
 returns c =
-    let s = sym (c .before .sides-fit .ensures) ∙ not-true (c .before .sides-fit .result) (c .if1 .taken) in
+    let s = sym (c .before .in-limits .ensures) ∙ not-true (c .before .in-limits .result) (c .if1 .taken) in
     sym (call-size (lentAt (c .before .before .before .before .before .before .before .before .before .before .before .before .before .before .before)) s)
 
 parameters-fit-requires : tie.Need-parameters-fit-requires
@@ -158,7 +158,7 @@ pub write-hf-coeff-spec : {M : Type 1} → statement M
 write-hf-coeff-spec =
     tie.close
     (tie.spec
-    sides-fit-requires
+    in-limits-requires
     returns
     parameters-fit-requires
     returns-2

@@ -10,7 +10,7 @@ use borrow.Author.Needs.{needs}
 use native.Mathlib.Omega.{arith}
 use mathlib.Core.Path.{_≡_, _∙_, sym}
 use Prim.Native.Nat.{_≤_, _-_, _+_, _*_}
-use lib.ListN.{length, take, set}
+use lib.ListN.{length}
 use Rattle.hf_pass_store.proofs.fill_natural_orders.Statement.{statement}
 use Rattle.hf_pass_store.proofs.fill_natural_orders.Tie as tie
 use Rattle.dct_select.proofs.block_sizes.block_size.Reads as block-size-reads

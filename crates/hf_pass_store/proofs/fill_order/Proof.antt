@@ -3,7 +3,6 @@ use borrow.Rule.Slice.PartMut.{putMid}
 use mathlib.Core.Path.{refl}
 use borrow.Author.Needs.{needs}
 use Prim.Native.Nat.{_-_}
-use lib.ListN.{length}
 use Rattle.hf_pass_store.proofs.fill_order.Statement.{statement}
 use Rattle.hf_pass_store.proofs.fill_order.Tie as tie
 use Rattle.hf_pass_store.proofs.copy_to.Reads as copy-to-reads

@@ -6,7 +6,6 @@ use borrow.Author.Needs.{needs}
 use native.Mathlib.Omega.{arith}
 use mathlib.Core.Path.{_≡_, _∙_, sym}
 use Prim.Native.Nat.{_≤_, _-_}
-use lib.ListN.{length, take}
 use Rattle.hf_pass_store.proofs.places_fit.Statement.{statement}
 use Rattle.hf_pass_store.proofs.places_fit.Tie as tie
 use Rattle.dct_select.proofs.block_sizes.block_size.Reads as block-size-reads

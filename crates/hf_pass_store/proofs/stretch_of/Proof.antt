@@ -1,12 +1,9 @@
 use Rattle.hf_pass_store.specs.LookedUp.{stretch-order, stretch-channel, stretch-length, spot, found}
-use Rattle.natural_order.specs.Filling.{sided}
 use borrow.Author.Needs.{needs}
 use native.Mathlib.Omega.{arith}
 use Prim.Native.Nat.{_-_}
-use lib.ListN.{length, take}
 use Rattle.hf_pass_store.proofs.stretch_of.Statement.{statement}
 use Rattle.hf_pass_store.proofs.stretch_of.Tie as tie
-use Rattle.dct_select.proofs.block_sizes.block_size.Reads as block-size-reads
 use Rattle.hf_pass_store.proofs.start_of.Reads as start-of-reads
 
 returns : tie.Need-returns
@@ -18,14 +15,8 @@ returns-2 c = let a = c .before .before .args in stretch-channel (a .numbers) (a
 returns-3 : tie.Need-returns-3
 returns-3 c = let a = c .before .before .before .args in stretch-length (a .numbers) (a .order) (a .channel) (c .if3 .taken)
 
-block-size-requires : tie.Need-block-size-requires
-block-size-requires c κs = search needs
-
-mul-n : tie.Need-mul-n
-mul-n c = let s = sided (c .before .before .before .before .args .order) (c .block-size .result) (c .block-size .ensures) (omega arith) in omega (arith, s .small)
-
-mul-n-2 : tie.Need-mul-n-2
-mul-n-2 c = let s = sided (c .before .before .before .before .args .order) (c .block-size .result) (c .block-size .ensures) (omega arith) in omega (arith, s .small)
+numbers-of-requires : tie.Need-numbers-of-requires
+numbers-of-requires c κs = search needs
 
 start-of-requires : tie.Need-start-of-requires
 start-of-requires c κs = search needs
@@ -33,7 +24,7 @@ start-of-requires c κs = search needs
 mul-first : tie.Need-mul-first
 mul-first c =
     let a = c .before .before .before .before .before .args in
-    let t = c .before .block-size in
+    let t = c .before .numbers-of in
     let o = c .start-of in
     let s = spot (a .order) (a .channel) (omega arith) (omega arith) (t .result) (t .ensures) (o .result) (o .ensures) in
     omega (arith, s .room)
@@ -41,7 +32,7 @@ mul-first c =
 add-first : tie.Need-add-first
 add-first c =
     let a = c .before .before .before .before .before .args in
-    let t = c .before .block-size in
+    let t = c .before .numbers-of in
     let o = c .start-of in
     let s = spot (a .order) (a .channel) (omega arith) (omega arith) (t .result) (t .ensures) (o .result) (o .ensures) in
     omega (arith, s .room)
@@ -49,7 +40,7 @@ add-first c =
 returns-4 : tie.Need-returns-4
 returns-4 c =
     let a = c .before .before .before .before .before .args in
-    let t = c .before .block-size in
+    let t = c .before .numbers-of in
     let o = c .start-of in
     found (a .order) (a .channel) (omega arith) (omega arith) (t .result) (t .ensures) (o .result) (o .ensures) (a .numbers) (c .before .before .if3 .left)
 
@@ -60,9 +51,7 @@ stretch-of-spec =
     returns
     returns-2
     returns-3
-    block-size-requires
-    mul-n
-    mul-n-2
+    numbers-of-requires
     start-of-requires
     mul-first
     add-first

@@ -160,36 +160,36 @@ returns c =
 symbols-read-requires : tie.Need-symbols-read-requires Inv-loop2 μ-loop2 Inv-loop μ-loop
 symbols-read-requires c κs = search needs
 
-rewritten-all-requires : tie.Need-rewritten-all-requires Inv-loop2 μ-loop2 Inv-loop μ-loop
-rewritten-all-requires c κs =
-    let a = c .before .before .before .before .before .before .before .before .before .before .before .before .before .before .before .before .before .before .before .before .before .before .before .before .before .before .before .before .before .before .before .before .before .before .before .before .before .before .before .args in
-    let o = c .before .before .before .before .before .before .before .before .before .before .before .before .before .before .before .before .before .before .before .before .before .before .before .before .before .before .loop in
-    let l = c .before .before .before .before .before .before .before .before .before .before .before .before .before .before .before .before .before .before .before .before .before .before .before .before .loop2 in
-    let hx : l .x < a .width = omega (arith, c .before .before .before .before .before .before .before .before .before .before .before .before .before .before .before .before .before .before .before .before .before .before .before .loop2-test) in
-    let hy : o .y < a .height = omega (arith, c .before .before .before .before .before .before .before .before .before .before .before .before .before .before .before .before .before .before .before .before .before .before .before .before .before .loop-test) in
-    let k : 2 ≤ K (passOf (a .width) (a .height) (a .kinds .now) (a .muls .now) (a .clusters) (a .lengths) (a .lf-thresholds .now) (a .qf-thresholds .now) (a .block-ctx-map .now) (a .lf-there) (a .lf0 .now) (a .lf1 .now) (a .lf2 .now) (a .store .now)) (l .x) (o .y) = omega (arith, c .before .before .before .before .before .before .before .before .before .before .before .before .before .before .before .before .before .before .before .before .before .if1 .left) in
-    rw (c .before .before .before .before .before .before .before .before .before .before .before .before .before .before .before .before .before .before .before .plan-of .ensures) (let z = c .before .before .before .before .before .before .before .before .before .before .before .before .before .before .before .before .before .before .before .before .before .before .before .before .before .before .before .before .before .before .before .before .before .before .before .before .before .before .before .pre .across in let p = right (passOf (a .width) (a .height) (a .kinds .now) (a .muls .now) (a .clusters) (a .lengths) (a .lf-thresholds .now) (a .qf-thresholds .now) (a .block-ctx-map .now) (a .lf-there) (a .lf0 .now) (a .lf1 .now) (a .lf2 .now) (a .store .now)) (a .clusters) (length (a .map .now)) (a .shift) (length (a .log .now)) (c .before .before .before .before .before .before .before .before .before .before .before .before .before .before .before .before .before .before .before .before .before .before .before .before .before .before .before .before .before .before .before .before .before .before .before .before .before .before .before .pre) (l .x) (o .y) (omega arith) (omega arith) k in omega arith)
+rewrite-all-requires : tie.Need-rewrite-all-requires Inv-loop2 μ-loop2 Inv-loop μ-loop
+rewrite-all-requires c κs =
+    let a = c .before .before .before .before .before .before .before .before .before .before .before .before .before .before .before .before .before .before .before .before .before .before .before .before .before .before .before .before .before .before .before .before .before .before .before .before .before .before .before .before .args in
+    let o = c .before .before .before .before .before .before .before .before .before .before .before .before .before .before .before .before .before .before .before .before .before .before .before .before .before .before .before .loop in
+    let l = c .before .before .before .before .before .before .before .before .before .before .before .before .before .before .before .before .before .before .before .before .before .before .before .before .before .loop2 in
+    let hx : l .x < a .width = omega (arith, c .before .before .before .before .before .before .before .before .before .before .before .before .before .before .before .before .before .before .before .before .before .before .before .before .loop2-test) in
+    let hy : o .y < a .height = omega (arith, c .before .before .before .before .before .before .before .before .before .before .before .before .before .before .before .before .before .before .before .before .before .before .before .before .before .before .loop-test) in
+    let k : 2 ≤ K (passOf (a .width) (a .height) (a .kinds .now) (a .muls .now) (a .clusters) (a .lengths) (a .lf-thresholds .now) (a .qf-thresholds .now) (a .block-ctx-map .now) (a .lf-there) (a .lf0 .now) (a .lf1 .now) (a .lf2 .now) (a .store .now)) (l .x) (o .y) = omega (arith, c .before .before .before .before .before .before .before .before .before .before .before .before .before .before .before .before .before .before .before .before .before .before .if1 .left) in
+    rw (c .before .before .before .before .before .before .before .before .before .before .before .before .before .before .before .before .before .before .before .before .plan-of .ensures) (let z = c .before .before .before .before .before .before .before .before .before .before .before .before .before .before .before .before .before .before .before .before .before .before .before .before .before .before .before .before .before .before .before .before .before .before .before .before .before .before .before .before .pre .across in let p = right (passOf (a .width) (a .height) (a .kinds .now) (a .muls .now) (a .clusters) (a .lengths) (a .lf-thresholds .now) (a .qf-thresholds .now) (a .block-ctx-map .now) (a .lf-there) (a .lf0 .now) (a .lf1 .now) (a .lf2 .now) (a .store .now)) (a .clusters) (length (a .map .now)) (a .shift) (length (a .log .now)) (c .before .before .before .before .before .before .before .before .before .before .before .before .before .before .before .before .before .before .before .before .before .before .before .before .before .before .before .before .before .before .before .before .before .before .before .before .before .before .before .before .pre) (l .x) (o .y) (omega arith) (omega arith) k in omega arith)
 
 add-x-2 : tie.Need-add-x-2 Inv-loop2 μ-loop2 Inv-loop μ-loop
-add-x-2 c = let u = c .before .before .before .before .before .before .before .before .before .before .before .before .before .before .before .before .before .before .before .before .before .before .before .before .before .before .before .before .before .before .before .before .before .before .before .before .before .before .before .before .pre .across in omega (arith, c .before .before .before .before .before .before .before .before .before .before .before .before .before .before .before .before .before .before .before .before .before .before .before .before .loop2-test)
+add-x-2 c = let u = c .before .before .before .before .before .before .before .before .before .before .before .before .before .before .before .before .before .before .before .before .before .before .before .before .before .before .before .before .before .before .before .before .before .before .before .before .before .before .before .before .before .pre .across in omega (arith, c .before .before .before .before .before .before .before .before .before .before .before .before .before .before .before .before .before .before .before .before .before .before .before .before .before .loop2-test)
 
 loop2-less-2 : tie.Need-loop2-less-2 Inv-loop2 μ-loop2 Inv-loop μ-loop
 loop2-less-2 c = search needs
 
 loop2-again-2 : tie.Need-loop2-again-2 Inv-loop2 μ-loop2 Inv-loop μ-loop
 loop2-again-2 c =
-    let a = c .before .before .before .before .before .before .before .before .before .before .before .before .before .before .before .before .before .before .before .before .before .before .before .before .before .before .before .before .before .before .before .before .before .before .before .before .before .before .before .before .args in
-    let o = c .before .before .before .before .before .before .before .before .before .before .before .before .before .before .before .before .before .before .before .before .before .before .before .before .before .before .before .loop in
-    let l = c .before .before .before .before .before .before .before .before .before .before .before .before .before .before .before .before .before .before .before .before .before .before .before .before .before .loop2 in
-    let hx : l .x < a .width = omega (arith, c .before .before .before .before .before .before .before .before .before .before .before .before .before .before .before .before .before .before .before .before .before .before .before .before .loop2-test) in
-    let hy : o .y < a .height = omega (arith, c .before .before .before .before .before .before .before .before .before .before .before .before .before .before .before .before .before .before .before .before .before .before .before .before .before .before .loop-test) in
-    let k : 2 ≤ K (passOf (a .width) (a .height) (a .kinds .now) (a .muls .now) (a .clusters) (a .lengths) (a .lf-thresholds .now) (a .qf-thresholds .now) (a .block-ctx-map .now) (a .lf-there) (a .lf0 .now) (a .lf1 .now) (a .lf2 .now) (a .store .now)) (l .x) (o .y) = omega (arith, c .before .before .before .before .before .before .before .before .before .before .before .before .before .before .before .before .before .before .before .before .before .before .if1 .left) in (
-      c .before .before .before .before .before .before .before .before .before .before .before .before .log .given ∙ l .inv .0,
-      c .before .before .before .before .before .before .before .before .before .before .g0 .given ∙ l .inv .1,
-      c .before .before .before .before .before .before .before .before .g1 .given ∙ l .inv .2,
-      c .before .before .before .before .before .before .g2 .given ∙ l .inv .3,
+    let a = c .before .before .before .before .before .before .before .before .before .before .before .before .before .before .before .before .before .before .before .before .before .before .before .before .before .before .before .before .before .before .before .before .before .before .before .before .before .before .before .before .before .args in
+    let o = c .before .before .before .before .before .before .before .before .before .before .before .before .before .before .before .before .before .before .before .before .before .before .before .before .before .before .before .before .loop in
+    let l = c .before .before .before .before .before .before .before .before .before .before .before .before .before .before .before .before .before .before .before .before .before .before .before .before .before .before .loop2 in
+    let hx : l .x < a .width = omega (arith, c .before .before .before .before .before .before .before .before .before .before .before .before .before .before .before .before .before .before .before .before .before .before .before .before .before .loop2-test) in
+    let hy : o .y < a .height = omega (arith, c .before .before .before .before .before .before .before .before .before .before .before .before .before .before .before .before .before .before .before .before .before .before .before .before .before .before .before .loop-test) in
+    let k : 2 ≤ K (passOf (a .width) (a .height) (a .kinds .now) (a .muls .now) (a .clusters) (a .lengths) (a .lf-thresholds .now) (a .qf-thresholds .now) (a .block-ctx-map .now) (a .lf-there) (a .lf0 .now) (a .lf1 .now) (a .lf2 .now) (a .store .now)) (l .x) (o .y) = omega (arith, c .before .before .before .before .before .before .before .before .before .before .before .before .before .before .before .before .before .before .before .before .before .before .before .if1 .left) in (
+      c .before .before .before .before .before .before .before .before .before .before .before .before .before .log .given ∙ l .inv .0,
+      c .before .before .before .before .before .before .before .before .before .before .before .g0 .given ∙ l .inv .1,
+      c .before .before .before .before .before .before .before .before .before .g1 .given ∙ l .inv .2,
+      c .before .before .before .before .before .before .before .g2 .given ∙ l .inv .3,
       omega arith,
-      λ W d. rw (c .before .symbols-read .ensures, c .rewritten-all .ensures) (due-step (a .shift) (a .clusters) (a .map .now) (passOf (a .width) (a .height) (a .kinds .now) (a .muls .now) (a .clusters) (a .lengths) (a .lf-thresholds .now) (a .qf-thresholds .now) (a .block-ctx-map .now) (a .lf-there) (a .lf0 .now) (a .lf1 .now) (a .lf2 .now) (a .store .now)) (a .symbols .now) (192 * (a .width * a .height)) W (l .at) (l .rows) (l .log) (l .g0 ∷ l .g1 ∷ l .g2 ∷ []) (l .x) (o .y) (cornersRow (K (passOf (a .width) (a .height) (a .kinds .now) (a .muls .now) (a .clusters) (a .lengths) (a .lf-thresholds .now) (a .qf-thresholds .now) (a .block-ctx-map .now) (a .lf-there) (a .lf0 .now) (a .lf1 .now) (a .lf2 .now) (a .store .now))) (M (passOf (a .width) (a .height) (a .kinds .now) (a .muls .now) (a .clusters) (a .lengths) (a .lf-thresholds .now) (a .qf-thresholds .now) (a .block-ctx-map .now) (a .lf-there) (a .lf0 .now) (a .lf1 .now) (a .lf2 .now) (a .store .now))) (a .width - (l .x + 1)) (l .x + 1) (o .y) (rowsFrom (passOf (a .width) (a .height) (a .kinds .now) (a .muls .now) (a .clusters) (a .lengths) (a .lf-thresholds .now) (a .qf-thresholds .now) (a .block-ctx-map .now) (a .lf-there) (a .lf0 .now) (a .lf1 .now) (a .lf2 .now) (a .store .now)) (o .y + 1))) (due-corner (a .shift) (a .clusters) (a .map .now) (passOf (a .width) (a .height) (a .kinds .now) (a .muls .now) (a .clusters) (a .lengths) (a .lf-thresholds .now) (a .qf-thresholds .now) (a .block-ctx-map .now) (a .lf-there) (a .lf0 .now) (a .lf1 .now) (a .lf2 .now) (a .store .now)) (a .symbols .now) (192 * (a .width * a .height)) W (l .at) (l .rows) (l .log) (l .g0 ∷ l .g1 ∷ l .g2 ∷ []) (l .x) (o .y) (rowsFrom (passOf (a .width) (a .height) (a .kinds .now) (a .muls .now) (a .clusters) (a .lengths) (a .lf-thresholds .now) (a .qf-thresholds .now) (a .block-ctx-map .now) (a .lf-there) (a .lf0 .now) (a .lf1 .now) (a .lf2 .now) (a .store .now)) (o .y + 1)) (omega arith) k (l .inv .5 W d)) (itemsBy (c .before .before .before .before .before .before .before .before .before .before .before .before .before .before .before .before .before .before .before .before .plan-of .result) (a .width) (a .store .now)) (ap (λ (p : Plan). itemsBy p (a .width) (a .store .now)) (c .before .before .before .before .before .before .before .before .before .before .before .before .before .before .before .before .before .before .before .before .plan-of .ensures) ∙ items-are (passOf (a .width) (a .height) (a .kinds .now) (a .muls .now) (a .clusters) (a .lengths) (a .lf-thresholds .now) (a .qf-thresholds .now) (a .block-ctx-map .now) (a .lf-there) (a .lf0 .now) (a .lf1 .now) (a .lf2 .now) (a .store .now)) (a .clusters) (length (a .map .now)) (a .shift) (length (a .log .now)) (c .before .before .before .before .before .before .before .before .before .before .before .before .before .before .before .before .before .before .before .before .before .before .before .before .before .before .before .before .before .before .before .before .before .before .before .before .before .before .before .before .pre) (l .x) (o .y) (omega arith) (omega arith) k) (c .before .before .before .before .before .before .before .before .before .before .before .before .before .read-varblock .result .walk) _ _ _ _ (few-is (passOf (a .width) (a .height) (a .kinds .now) (a .muls .now) (a .clusters) (a .lengths) (a .lf-thresholds .now) (a .qf-thresholds .now) (a .block-ctx-map .now) (a .lf-there) (a .lf0 .now) (a .lf1 .now) (a .lf2 .now) (a .store .now)) (l .x) (o .y) (l .at) (c .before .before .before .before .before .before .before .before .before .before .before .before .before .before .before .before .before .before .before .before .plan-of .result) (c .before .before .before .before .before .before .before .before .before .before .before .before .before .before .before .before .before .before .before .before .plan-of .ensures) (known (passOf (a .width) (a .height) (a .kinds .now) (a .muls .now) (a .clusters) (a .lengths) (a .lf-thresholds .now) (a .qf-thresholds .now) (a .block-ctx-map .now) (a .lf-there) (a .lf0 .now) (a .lf1 .now) (a .lf2 .now) (a .store .now)) (a .clusters) (length (a .map .now)) (a .shift) (length (a .log .now)) (c .before .before .before .before .before .before .before .before .before .before .before .before .before .before .before .before .before .before .before .before .before .before .before .before .before .before .before .before .before .before .before .before .before .before .before .before .before .before .before .before .pre) (l .x) (o .y) (omega arith) (omega arith) k)) (c .before .before .before .before .before .before .before .before .before .before .before .before .before .read-varblock .ensures) (sym (c .before .before .before .is-stopped .ensures) ∙ c .before .before .if2 .left)),
+      λ W d. rw (c .before .before .symbols-read .ensures, c .rewrite-all .ensures) (due-step (a .shift) (a .clusters) (a .map .now) (passOf (a .width) (a .height) (a .kinds .now) (a .muls .now) (a .clusters) (a .lengths) (a .lf-thresholds .now) (a .qf-thresholds .now) (a .block-ctx-map .now) (a .lf-there) (a .lf0 .now) (a .lf1 .now) (a .lf2 .now) (a .store .now)) (a .symbols .now) (192 * (a .width * a .height)) W (l .at) (l .rows) (l .log) (l .g0 ∷ l .g1 ∷ l .g2 ∷ []) (l .x) (o .y) (cornersRow (K (passOf (a .width) (a .height) (a .kinds .now) (a .muls .now) (a .clusters) (a .lengths) (a .lf-thresholds .now) (a .qf-thresholds .now) (a .block-ctx-map .now) (a .lf-there) (a .lf0 .now) (a .lf1 .now) (a .lf2 .now) (a .store .now))) (M (passOf (a .width) (a .height) (a .kinds .now) (a .muls .now) (a .clusters) (a .lengths) (a .lf-thresholds .now) (a .qf-thresholds .now) (a .block-ctx-map .now) (a .lf-there) (a .lf0 .now) (a .lf1 .now) (a .lf2 .now) (a .store .now))) (a .width - (l .x + 1)) (l .x + 1) (o .y) (rowsFrom (passOf (a .width) (a .height) (a .kinds .now) (a .muls .now) (a .clusters) (a .lengths) (a .lf-thresholds .now) (a .qf-thresholds .now) (a .block-ctx-map .now) (a .lf-there) (a .lf0 .now) (a .lf1 .now) (a .lf2 .now) (a .store .now)) (o .y + 1))) (due-corner (a .shift) (a .clusters) (a .map .now) (passOf (a .width) (a .height) (a .kinds .now) (a .muls .now) (a .clusters) (a .lengths) (a .lf-thresholds .now) (a .qf-thresholds .now) (a .block-ctx-map .now) (a .lf-there) (a .lf0 .now) (a .lf1 .now) (a .lf2 .now) (a .store .now)) (a .symbols .now) (192 * (a .width * a .height)) W (l .at) (l .rows) (l .log) (l .g0 ∷ l .g1 ∷ l .g2 ∷ []) (l .x) (o .y) (rowsFrom (passOf (a .width) (a .height) (a .kinds .now) (a .muls .now) (a .clusters) (a .lengths) (a .lf-thresholds .now) (a .qf-thresholds .now) (a .block-ctx-map .now) (a .lf-there) (a .lf0 .now) (a .lf1 .now) (a .lf2 .now) (a .store .now)) (o .y + 1)) (omega arith) k (l .inv .5 W d)) (itemsBy (c .before .before .before .before .before .before .before .before .before .before .before .before .before .before .before .before .before .before .before .before .before .plan-of .result) (a .width) (a .store .now)) (ap (λ (p : Plan). itemsBy p (a .width) (a .store .now)) (c .before .before .before .before .before .before .before .before .before .before .before .before .before .before .before .before .before .before .before .before .before .plan-of .ensures) ∙ items-are (passOf (a .width) (a .height) (a .kinds .now) (a .muls .now) (a .clusters) (a .lengths) (a .lf-thresholds .now) (a .qf-thresholds .now) (a .block-ctx-map .now) (a .lf-there) (a .lf0 .now) (a .lf1 .now) (a .lf2 .now) (a .store .now)) (a .clusters) (length (a .map .now)) (a .shift) (length (a .log .now)) (c .before .before .before .before .before .before .before .before .before .before .before .before .before .before .before .before .before .before .before .before .before .before .before .before .before .before .before .before .before .before .before .before .before .before .before .before .before .before .before .before .before .pre) (l .x) (o .y) (omega arith) (omega arith) k) (c .before .before .before .before .before .before .before .before .before .before .before .before .before .before .read-varblock .result .walk) _ _ _ _ (few-is (passOf (a .width) (a .height) (a .kinds .now) (a .muls .now) (a .clusters) (a .lengths) (a .lf-thresholds .now) (a .qf-thresholds .now) (a .block-ctx-map .now) (a .lf-there) (a .lf0 .now) (a .lf1 .now) (a .lf2 .now) (a .store .now)) (l .x) (o .y) (l .at) (c .before .before .before .before .before .before .before .before .before .before .before .before .before .before .before .before .before .before .before .before .before .plan-of .result) (c .before .before .before .before .before .before .before .before .before .before .before .before .before .before .before .before .before .before .before .before .before .plan-of .ensures) (known (passOf (a .width) (a .height) (a .kinds .now) (a .muls .now) (a .clusters) (a .lengths) (a .lf-thresholds .now) (a .qf-thresholds .now) (a .block-ctx-map .now) (a .lf-there) (a .lf0 .now) (a .lf1 .now) (a .lf2 .now) (a .store .now)) (a .clusters) (length (a .map .now)) (a .shift) (length (a .log .now)) (c .before .before .before .before .before .before .before .before .before .before .before .before .before .before .before .before .before .before .before .before .before .before .before .before .before .before .before .before .before .before .before .before .before .before .before .before .before .before .before .before .before .pre) (l .x) (o .y) (omega arith) (omega arith) k)) (c .before .before .before .before .before .before .before .before .before .before .before .before .before .before .read-varblock .ensures) (sym (c .before .before .before .before .is-stopped .ensures) ∙ c .before .before .before .if2 .left)),
     )
 
 add-y : tie.Need-add-y Inv-loop2 μ-loop2 Inv-loop μ-loop
@@ -256,7 +256,7 @@ read-group-spec =
     same-length-4
     returns
     symbols-read-requires
-    rewritten-all-requires
+    rewrite-all-requires
     add-x-2
     loop2-less-2
     loop2-again-2

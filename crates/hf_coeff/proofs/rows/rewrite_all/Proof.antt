@@ -1,6 +1,6 @@
 use borrow.Author.Needs.{needs}
-use Rattle.hf_coeff.proofs.rows.rewritten_all.Statement.{statement}
-use Rattle.hf_coeff.proofs.rows.rewritten_all.Tie as tie
+use Rattle.hf_coeff.proofs.rows.rewrite_all.Statement.{statement}
+use Rattle.hf_coeff.proofs.rows.rewrite_all.Tie as tie
 
 index-1-rewrite : tie.Need-index-1-rewrite
 index-1-rewrite c = search needs
@@ -32,8 +32,8 @@ rewrite-requires-3 c κs = search needs
 returns : tie.Need-returns
 returns c = rw (c .rewrite3 .ensures, c .before .before .rewrite2 .ensures, c .before .before .before .before .rewrite .ensures)
 
-pub rewritten-all-spec : {M : Type 1} → statement M
-rewritten-all-spec =
+pub rewrite-all-spec : {M : Type 1} → statement M
+rewrite-all-spec =
     tie.close
     (tie.spec
     index-1-rewrite
