@@ -1,7 +1,10 @@
 //! Holds docs/CLAIMS.md against the repository (the folder above `compare/`): every must-fail edit
 //! that it names exists and every edit that exists is named, every name in backquotes behind a
-//! crate's name stands in that crate, and every compared call is one. Ends with 1 where one does not.
+//! crate's name stands in that crate, and every compared call is one. And what the page says of all
+//! public functions: each has a contract, and asks nothing of its caller. Ends with 1 where one does
+//! not.
 
+mod contracts;
 mod repository;
 mod rows;
 
@@ -19,8 +22,12 @@ fn main() -> std::process::ExitCode {
     for problem in &problems {
         println!("docs/CLAIMS.md: {problem}");
     }
-    println!("claims: {} rows, {} wrong", rows.len(), problems.len());
-    u8::from(!problems.is_empty()).into()
+    for fault in repository.faults() {
+        println!("crates/{fault}");
+    }
+    let wrong = problems.len() + repository.faults().len();
+    println!("claims: {} rows, {wrong} wrong", rows.len());
+    u8::from(wrong > 0).into()
 }
 
 fn problems(repository: &Repository, rows: &[Row]) -> Vec<String> {

@@ -2,10 +2,13 @@ use std::collections::{BTreeMap, BTreeSet};
 use std::fs;
 use std::path::Path;
 
+use crate::contracts;
+
 /// The crates of the repository, with what the page may name of them.
 pub struct Repository {
     crates: BTreeMap<String, Crate>,
     calls: BTreeSet<String>,
+    faults: Vec<String>,
 }
 
 #[derive(Default)]
@@ -28,10 +31,25 @@ impl Repository {
             let named = text.split("NAME: &'static str = \"").skip(1);
             calls.extend(named.filter_map(|rest| rest.split('"').next().map(String::from)));
         });
+        let mut faults = Vec::new();
+        each_file(&root.join("crates"), &mut |path| {
+            if path.extension().is_some_and(|kind| kind == "rt") {
+                let text = fs::read_to_string(path).expect("text");
+                let place = path.strip_prefix(root.join("crates")).expect("below");
+                let found = contracts::faults(&text).into_iter();
+                faults.extend(found.map(|fault| format!("{}: {fault}", place.display())));
+            }
+        });
         Self {
             crates: crates.collect(),
             calls,
+            faults,
         }
+    }
+
+    /// Public functions whose contracts are not what the page says of all.
+    pub fn faults(&self) -> &[String] {
+        &self.faults
     }
 
     pub fn has_crate(&self, name: &str) -> bool {
