@@ -119,7 +119,7 @@ module _ (J : Job) (kinds muls : List ℕ) (sigma : List Float) where
   unfoldable pub readOf : Reading
   readOf = cond fits (walk (visit J) (J .bw) (J .bh) (Going (stateOf 0 kinds muls sigma))) (Stopped (refusals.at 1 0 0))
 
-  -- what is answered and left; where lengths do not fit, nothing is written
+  -- what is answered and left; where lengths do not fit, nothing is written; refused at a block, what is left is not said
   pub record Read (r : Step) (kinds′ muls′ : List ℕ) (sigma′ : List Float) : Type 0 where
     pub reads : stepped r kinds′ muls′ sigma′ ≡ readOf
     pub keeps : fits ≡ false → stateOf 0 kinds′ muls′ sigma′ ≡ stateOf 0 kinds muls sigma

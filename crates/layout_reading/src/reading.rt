@@ -83,7 +83,7 @@ fn read_blocks(
     Step::Going(used)
 }
 
-// Reads a layout into lent buffers. More than 256 blocks either way, or lengths that do not fit: refused, and nothing is written.
+// Reads a layout into lent buffers. More than 256 blocks either way, or lengths that do not fit: refused, and nothing is written. Refused at a block: what was written before stays, for the caller to clear.
 pub fn read(
     kinds: &mut [u8],
     hf_mul: &mut [u32],
