@@ -4,7 +4,6 @@ use mathlib.Core.List.{List}
 use Prim.Native.Nat.{ℕ, _*_}
 use lib.ListN.{length}
 use lib.Ieee.{Float}
-use Rattle.refusal.specs.declared.Said.{Said}
 use Rattle.refusal.specs.Said.{said}
 use Rattle.refusal.specs.Said as refusals
 use Rattle.lf_group.specs.Blocks.{sizeFits, modesFit, wideIn, highIn}
@@ -13,32 +12,18 @@ use Rattle.filter_strength.specs.Strength.{scaledFilter}
 use Rattle.filter_strength.specs.Limits.{paramsFit}
 use Rattle.hf_metadata.specs.declared.LayoutAnswer.{LayoutAnswer}
 use Rattle.hf_metadata.specs.declared.LayoutAnswer.the-variants.{Accepted, Refused}
-use Rattle.layout_reading.specs.Reading.{Job, Reading, Going, Stopped, zeros, zeroSigma, reading, countsFit}
-
--- accepted with the number of columns used, or refused with a number and a position
-pub data Answer : Type 0 where
-  accepted : ℕ → Answer
-  refused : Said → Answer
+use Rattle.layout_reading.specs.Reading.{Job, reading}
+use Rattle.layout_reading.specs.Outcome.{outcome, countsFit}
+pub use Rattle.layout_reading.specs.Outcome.{Answer, accepted, refused, Outcome, outcomeOf}
 
 -- the paper's number and values of each answer
 abbrev pub answered : LayoutAnswer → Answer
 answered (Accepted used) = accepted used
 answered (Refused r) = refused (said r)
 
-pub record Outcome : Type 0 where
-  pub answer : Answer
-  pub kinds : List ℕ
-  pub hfMul : List ℕ
-  pub sigma : List Float
-
 -- what a call leaves
 abbrev pub leaves : LayoutAnswer → List ℕ → List ℕ → List Float → Outcome
-leaves r kinds hfMul sigma = record { answer = answered r; kinds = kinds; hfMul = hfMul; sigma = sigma }
-
--- 4 to 10 leave layout and sigma all zero
-abbrev pub outcomeOf : (J : Job) → Reading → Outcome
-outcomeOf J (Going p) = record { answer = accepted (p .used); kinds = p .kinds; hfMul = p .muls; sigma = p .sigma }
-outcomeOf J (Stopped r) = record { answer = refused r; kinds = zeros J; hfMul = zeros J; sigma = zeroSigma J }
+leaves r kinds hfMul sigma = outcome (answered r) kinds hfMul sigma
 
 -- what is lent to be read
 pub record Inputs : Type 0 where
@@ -91,7 +76,7 @@ module _ (i : Inputs) (kinds hfMul : List ℕ) (sigma : List Float) where
 
   -- before work: nothing is written
   abbrev pub refuseWith : ℕ → Outcome
-  refuseWith n = record { answer = refused (refusals.at n 0 0); kinds = kinds; hfMul = hfMul; sigma = sigma }
+  refuseWith n = outcome (refused (refusals.at n 0 0)) kinds hfMul sigma
 
   -- what the layout call answers and leaves in the three lent buffers
   unfoldable pub layoutOf : Outcome

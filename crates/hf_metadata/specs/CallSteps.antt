@@ -1,45 +1,37 @@
 -- The layout call as the code goes: one law for each way out.
-use mathlib.Core.Path.{_≡_, ap, sym, _∙_}
-use mathlib.Core.Bool.{true, false}
+use mathlib.Core.Path.{_≡_, refl, ap, _∙_}
+use mathlib.Core.Bool.{Bool, true, false, cond, not}
 use mathlib.Core.List.{List}
-use Prim.Native.Nat.{ℕ, _*_, _≤_}
-use lib.ListN.{length, length-replicate}
+use Prim.Native.Nat.{ℕ, _≤_}
+use native.Mathlib.Omega.{arith}
 use lib.Ieee.{Float}
-use Rattle.refusal.specs.declared.Refusal.{Refusal}
-use Rattle.lf_group.specs.Blocks.{sizeFits, modesFit, wideIn, highIn}
+use borrow.Author.Tests.{le-leb}
+use Rattle.lf_group.specs.declared.Blocks.{Blocks}
+use Rattle.lf_group.specs.Blocks.{sizeFits, modesFit, wideIn, highIn, blocksOf}
+use Rattle.lf_group.specs.Bounds.{wide-most, high-most}
 use Rattle.filter_strength.specs.declared.Filter.{Filter}
-use Rattle.filter_strength.specs.Strength.{zero32, scaledFilter}
+use Rattle.filter_strength.specs.Strength.{scaledFilter}
 use Rattle.filter_strength.specs.Limits.{paramsFit}
-use Rattle.hf_metadata.specs.declared.LayoutAnswer.the-variants.{Accepted, Refused}
 use Rattle.layout_reading.specs.declared.column.Step.{Step}
 use Rattle.layout_reading.specs.declared.column.Step.the-variants.{Going as GoesOn, Stopped as Stops}
-use Rattle.layout_reading.specs.Reading.{Job, zeros, zeroSigma, reading, jobWith, stepped, countsFit, readOf}
-use Rattle.layout_reading.specs.Lengths.{counts-fit, read-walks}
-use Rattle.hf_metadata.specs.Call.{leaves, outcomeOf, Inputs, lengthsFit, refuseWith, layoutOf}
+use Rattle.layout_reading.specs.Reading.{jobWith, reading}
+use Rattle.layout_reading.specs.Outcome.{Outcome, outcomeOf, handed, readOf}
+use Rattle.hf_metadata.specs.declared.LayoutAnswer.{LayoutAnswer}
+use Rattle.hf_metadata.specs.declared.LayoutAnswer.the-variants.{Accepted, Refused}
+use Rattle.hf_metadata.specs.Call.{leaves, Inputs, jobOf, lengthsFit, refuseWith, layoutOf}
 
--- the work, from buffers that were cleared
-module _ (J : Job) (s : Step) (k m k′ m′ : List ℕ) (g g′ : List Float) (zk : k ≡ zeros J) (zm : m ≡ zeros J) (zg : g ≡ zeroSigma J)
-    (wide : J .bw ≤ 256) (high : J .bh ≤ 256) (pairs : length (J .muls) ≡ length (J .types)) (sharp : length (J .sharpness) ≡ J .bh * J .bw)
-    (e : stepped s k′ m′ g′ ≡ readOf J k m g) where
-  counted : countsFit (length (J .types)) (length (J .muls)) (length (J .sharpness)) (length (zeros J)) (length (zeros J)) (length (zeroSigma J)) (J .bh * J .bw) ≡ true
-  counted =
-      let z = length-replicate {A = ℕ} (J .bh * J .bw) 0 in
-      counts-fit (length (J .types)) (length (J .muls)) (length (J .sharpness)) (length (zeros J)) (length (zeros J)) (length (zeroSigma J)) (J .bh * J .bw)
-      (record { mulsAre = pairs; sharpnessAre = sharp; kindsAre = z; hfMulAre = z; sigmaAre = length-replicate (J .bh * J .bw) zero32 })
+-- what a reading answers is the call's answer
+abbrev pub answerBy : Step → LayoutAnswer
+answerBy (GoesOn used) = Accepted used
+answerBy (Stops r) = Refused r
 
-  read-all : stepped s k′ m′ g′ ≡ reading J
-  unfolding reading
-  read-all =
-      e ∙ ap (λ (l : List ℕ). readOf J l m g) zk ∙ ap (λ (l : List ℕ). readOf J (zeros J) l g) zm
-      ∙ ap (λ (l : List Float). readOf J (zeros J) (zeros J) l) zg
-      ∙ read-walks J (zeros J) (zeros J) (zeroSigma J) wide high counted
+hands-on : (s : Step) (k m : List ℕ) (g : List Float) → leaves (answerBy s) k m g ≡ handed s k m g
+hands-on (GoesOn used) k m g = refl
+hands-on (Stops r) k m g = refl
 
-  pub fill-accepts : (used : ℕ) → s ≡ GoesOn used → leaves (Accepted used) k′ m′ g′ ≡ outcomeOf J (reading J)
-  fill-accepts used d = ap (outcomeOf J) (sym (ap (λ (t : Step). stepped t k′ m′ g′) d) ∙ read-all)
-
-  pub fill-refuses : (r : Refusal) (ck cm : List ℕ) (cg : List Float) → s ≡ Stops r → ck ≡ zeros J → cm ≡ zeros J → cg ≡ zeroSigma J
-      → leaves (Refused r) ck cm cg ≡ outcomeOf J (reading J)
-  fill-refuses r ck cm cg d a b c = rw (a, b, c) (ap (outcomeOf J) (sym (ap (λ (t : Step). stepped t k′ m′ g′) d) ∙ read-all))
+turned : (t : Bool) (x y : Outcome) → cond t x y ≡ cond (not t) y x
+turned true x y = refl
+turned false x y = refl
 
 module _ (i : Inputs) (k m : List ℕ) (g : List Float) where
   pub call-size : sizeFits (i .width) (i .height) ≡ false → refuseWith i k m g 2 ≡ layoutOf i k m g
@@ -57,11 +49,21 @@ module _ (i : Inputs) (k m : List ℕ) (g : List Float) where
       call-params c = rw (a, b, c)
 
       module _ (c : paramsFit (i .filter) (i .lookups) (i .scale) ≡ true) where
-        pub call-lengths : lengthsFit i k m g ≡ false → refuseWith i k m g 1 ≡ layoutOf i k m g
-        unfolding layoutOf
-        call-lengths d = rw (a, b, c, d)
+        -- the reading refuses lengths that do not fit
+        reads : (bw bh : ℕ) (f : Filter) → bw ≤ 256 → bh ≤ 256 → bw ≡ wideIn (i .width) (i .modes) → bh ≡ highIn (i .height) (i .modes) → f ≡ scaledFilter (i .filter) (i .scale)
+            → readOf (jobWith bw bh (i .types) (i .muls) (i .sharpness) f (i .lookups)) k m g ≡ layoutOf i k m g
+        unfolding layoutOf readOf
+        reads bw bh f w h p q r =
+            rw (a, b, c, le-leb bw 256 w, le-leb bh 256 h)
+            (rw (p, q, r) (turned (lengthsFit i k m g) (outcomeOf (jobOf i) (reading (jobOf i))) (refuseWith i k m g 1)))
 
-        pub call-works : lengthsFit i k m g ≡ true → (bw bh : ℕ) (f : Filter) → bw ≡ wideIn (i .width) (i .modes) → bh ≡ highIn (i .height) (i .modes) → f ≡ scaledFilter (i .filter) (i .scale)
-            → outcomeOf (jobWith bw bh (i .types) (i .muls) (i .sharpness) f (i .lookups)) (reading (jobWith bw bh (i .types) (i .muls) (i .sharpness) f (i .lookups))) ≡ layoutOf i k m g
-        unfolding layoutOf
-        call-works d bw bh f p q r = rw (a, b, c, d, p, q, r)
+        pub call-reads : (blocks : Blocks) (f : Filter) → blocks ≡ blocksOf (i .width) (i .height) (i .modes) → f ≡ scaledFilter (i .filter) (i .scale)
+            → (r : LayoutAnswer) (s : Step) (k′ m′ : List ℕ) (g′ : List Float) → r ≡ answerBy s
+            → handed s k′ m′ g′ ≡ readOf (jobWith (blocks .bw) (blocks .bh) (i .types) (i .muls) (i .sharpness) f (i .lookups)) k m g
+            → leaves r k′ m′ g′ ≡ layoutOf i k m g
+        call-reads blocks f p q r s k′ m′ g′ e h =
+            let w : blocks .bw ≡ wideIn (i .width) (i .modes) = ap (λ (z : Blocks). z .bw) p in
+            let v : blocks .bh ≡ highIn (i .height) (i .modes) = ap (λ (z : Blocks). z .bh) p in
+            rw e
+            (hands-on s k′ m′ g′ ∙ h
+            ∙ reads (blocks .bw) (blocks .bh) f (omega (arith, wide-most (i .width) (i .height) a (i .modes))) (omega (arith, high-most (i .width) (i .height) a (i .modes))) w v q)

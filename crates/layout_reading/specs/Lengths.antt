@@ -1,19 +1,20 @@
--- Laws on lent lengths: which ones fit, and what the reading does with them.
-use mathlib.Core.Path.{_≡_, refl, sym, _∙_}
+-- Laws on lent lengths that fit, and the reading as the code goes.
+use mathlib.Core.Path.{_≡_, ap, sym, _∙_}
 use mathlib.Core.Bool.{Bool, true, false, _&&_}
 use mathlib.Core.List.{List}
 use Prim.Native.Nat.{ℕ, _*_, _≤_, _<_}
-use native.Mathlib.Omega.{arith}
 use lib.Dec.{T, eqb, eqb→eq}
 use lib.ListN.{length}
 use lib.Ieee.{Float}
 use lib.Ieee.Fits.{and-l, and-r}
-use borrow.Author.Tests.{le-leb, lt-leb, eq-eqb}
+use borrow.Author.Tests.{le-leb, lt-leb}
+use Rattle.refusal.specs.declared.Refusal.{Refusal}
 use Rattle.refusal.specs.declared.Refusal.the-variants.{Length}
 use Rattle.layout.specs.Walk.{walk}
 use Rattle.layout_reading.specs.declared.column.Step.{Step}
-use Rattle.layout_reading.specs.declared.column.Step.the-variants.{Stopped as Stops}
-use Rattle.layout_reading.specs.Reading.{Job, Going, visit, stateOf, stepped, countsFit, fits, readOf, Read}
+use Rattle.layout_reading.specs.declared.column.Step.the-variants.{Going as GoesOn, Stopped as Stops}
+use Rattle.layout_reading.specs.Reading.{Job, Going, visit, zeros, zeroSigma, reading, stateOf, stepped}
+use Rattle.layout_reading.specs.Outcome.{handed, outcomeOf, countsFit, fits, readOf}
 
 -- lengths that fit
 pub record Counts (types muls sharpness kinds hfMul sigma n : ℕ) : Type 0 where
@@ -37,38 +38,40 @@ counts types muls sharpness kinds hfMul sigma n e =
       sigmaAre = eqb→eq sigma n (and-r (eqb muls types && eqb sharpness n && eqb kinds n && eqb hfMul n) (eqb sigma n) t);
     }
 
-pub counts-fit : (types muls sharpness kinds hfMul sigma n : ℕ) → Counts types muls sharpness kinds hfMul sigma n → countsFit types muls sharpness kinds hfMul sigma n ≡ true
-counts-fit types muls sharpness kinds hfMul sigma n c =
-    rw (eq-eqb muls types (c .mulsAre), eq-eqb sharpness n (c .sharpnessAre), eq-eqb kinds n (c .kindsAre), eq-eqb hfMul n (c .hfMulAre), eq-eqb sigma n (c .sigmaAre))
-
+-- one law for each way out of the reading
 module _ (J : Job) (k m : List ℕ) (s : List Float) where
-  refused : fits J k m s ≡ false → Read J k m s (Stops Length) k m s
+  refused : fits J k m s ≡ false → handed (Stops Length) k m s ≡ readOf J k m s
   unfolding readOf
-  refused e = record { reads = rw e; keeps = λ f. refl }
+  refused e = rw e
 
-  pub read-wide : 256 < J .bw → Read J k m s (Stops Length) k m s
+  pub read-wide : 256 < J .bw → handed (Stops Length) k m s ≡ readOf J k m s
   read-wide a = refused (rw (lt-leb (J .bw) 256 a))
 
   module _ (a : J .bw ≤ 256) where
-    pub read-high : 256 < J .bh → Read J k m s (Stops Length) k m s
+    pub read-high : 256 < J .bh → handed (Stops Length) k m s ≡ readOf J k m s
     read-high b = refused (rw (le-leb (J .bw) 256 a, lt-leb (J .bh) 256 b))
 
     module _ (b : J .bh ≤ 256) where
       abbrev pub lent : Bool
       lent = countsFit (length (J .types)) (length (J .muls)) (length (J .sharpness)) (length k) (length m) (length s) (J .bh * J .bw)
 
-      pub read-lengths : lent ≡ false → Read J k m s (Stops Length) k m s
+      pub read-lengths : lent ≡ false → handed (Stops Length) k m s ≡ readOf J k m s
       read-lengths c = refused (rw (le-leb (J .bw) 256 a, le-leb (J .bh) 256 b, c))
 
-      module _ (c : lent ≡ true) where
-        fitting : fits J k m s ≡ true
-        fitting = rw (le-leb (J .bw) 256 a, le-leb (J .bh) 256 b, c)
+      pub read-works : lent ≡ true → outcomeOf J (reading J) ≡ readOf J k m s
+      unfolding readOf
+      read-works c = rw (le-leb (J .bw) 256 a, le-leb (J .bh) 256 b, c)
 
-        -- under lengths that fit the blocks are visited
-        pub read-walks : readOf J k m s ≡ walk (visit J) (J .bw) (J .bh) (Going (stateOf 0 k m s))
-        unfolding readOf
-        read-walks = rw fitting
+-- the blocks visited from cleared buffers
+module _ (J : Job) (t : Step) (k m k′ m′ : List ℕ) (g g′ : List Float) (zk : k ≡ zeros J) (zm : m ≡ zeros J) (zg : g ≡ zeroSigma J)
+    (e : stepped t k′ m′ g′ ≡ walk (visit J) (J .bw) (J .bh) (Going (stateOf 0 k m g))) where
+  read-all : stepped t k′ m′ g′ ≡ reading J
+  unfolding reading
+  read-all = e ∙ rw (zk, zm, zg)
 
-        pub read-works : (r : Step) (k′ m′ : List ℕ) (s′ : List Float) → stepped r k′ m′ s′ ≡ walk (visit J) (J .bw) (J .bh) (Going (stateOf 0 k m s))
-            → Read J k m s r k′ m′ s′
-        read-works r k′ m′ s′ e = record { reads = e ∙ sym read-walks; keeps = λ f. absurd (let z : true ≡ false = sym fitting ∙ f in let n : _≡_ {A = ℕ} 0 1 = cc in omega arith) }
+  pub read-accepts : (used : ℕ) → t ≡ GoesOn used → handed t k′ m′ g′ ≡ outcomeOf J (reading J)
+  read-accepts used d = ap (λ (z : Step). handed z k′ m′ g′) d ∙ ap (outcomeOf J) (sym (ap (λ (z : Step). stepped z k′ m′ g′) d) ∙ read-all)
+
+  pub read-refuses : (r : Refusal) (ck cm : List ℕ) (cg : List Float) → t ≡ Stops r → ck ≡ zeros J → cm ≡ zeros J → cg ≡ zeroSigma J
+      → handed (Stops r) ck cm cg ≡ outcomeOf J (reading J)
+  read-refuses r ck cm cg d a b c = rw (a, b, c) (ap (outcomeOf J) (sym (ap (λ (z : Step). stepped z k′ m′ g′) d) ∙ read-all))

@@ -103,23 +103,3 @@ jobWith bw bh types muls sharpness filter lookups =
 abbrev pub stepped : Step → List ℕ → List ℕ → List Float → Reading
 stepped (GoesOn used) kinds muls sigma = Going (stateOf used kinds muls sigma)
 stepped (Stops r) kinds muls sigma = Stopped (refusals.said r)
-
--- 1: a mul for each type; a sharpness number, a kind, an hf_mul and a sigma for each of n blocks
-abbrev pub countsFit : ℕ → ℕ → ℕ → ℕ → ℕ → ℕ → ℕ → Bool
-countsFit types muls sharpness kinds hfMul sigma n = eqb muls types && eqb sharpness n && eqb kinds n && eqb hfMul n && eqb sigma n
-
-module _ (J : Job) (kinds muls : List ℕ) (sigma : List Float) where
-  -- at most 256 blocks each way, and lent lengths that fit
-  abbrev pub fits : Bool
-  fits =
-      leb (J .bw) 256 && leb (J .bh) 256
-      && countsFit (length (J .types)) (length (J .muls)) (length (J .sharpness)) (length kinds) (length muls) (length sigma) (J .bh * J .bw)
-
-  -- from what the lent buffers hold: the blocks are visited, or refused with 1
-  unfoldable pub readOf : Reading
-  readOf = cond fits (walk (visit J) (J .bw) (J .bh) (Going (stateOf 0 kinds muls sigma))) (Stopped (refusals.at 1 0 0))
-
-  -- what is answered and left; where lengths do not fit, nothing is written; refused at a block, what is left is not said
-  pub record Read (r : Step) (kinds′ muls′ : List ℕ) (sigma′ : List Float) : Type 0 where
-    pub reads : stepped r kinds′ muls′ sigma′ ≡ readOf
-    pub keeps : fits ≡ false → stateOf 0 kinds′ muls′ sigma′ ≡ stateOf 0 kinds muls sigma

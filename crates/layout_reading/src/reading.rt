@@ -7,10 +7,11 @@ ghost use mathlib.Core.Path.{_≡_};
 ghost use Prim.Native.Nat.{_*_, _≤_};
 ghost use lib.ListN.{length};
 ghost use Rattle.layout.specs.Walk.{walk};
-ghost use Rattle.layout_reading.specs.Reading.{Going, visit as visitOf, stateOf, stepped, jobWith, countsFit, Read};
+ghost use Rattle.layout_reading.specs.Reading.{Going, visit as visitOf, reading as readingOf, stateOf, stepped, jobWith};
+ghost use Rattle.layout_reading.specs.Outcome.{handed, outcomeOf, countsFit, readOf};
 
 // As many muls as types, and n of each of the others.
-pub fn counts_fit(
+fn counts_fit(
     types: usize,
     muls: usize,
     sharpness: usize,
@@ -83,7 +84,47 @@ fn read_blocks(
     Step::Going(used)
 }
 
-// Reads a layout into lent buffers. More than 256 blocks either way, or lengths that do not fit: refused, and nothing is written. Refused at a block: what was written before stays, for the caller to clear.
+// All blocks, whatever the buffers held. A refusal leaves all three zero.
+fn read_cleared(
+    kinds: &mut [u8],
+    hf_mul: &mut [u32],
+    sigma: &mut [f32],
+    types: &[u32],
+    muls: &[u32],
+    sharpness: &[u32],
+    lookups: &[f32; 8],
+    filter: Filter,
+    bw: usize,
+    bh: usize,
+) -> Step
+    requires { ⌜ (length (now kinds) ≡ bh * bw) × (length (now «hf_mul») ≡ bh * bw) × (length (now sigma) ≡ bh * bw) × (length (now sharpness) ≡ bh * bw) × (length (now muls) ≡ length (now types)) × (bw ≤ 256) × (bh ≤ 256) ⌝ }
+    ensures { λ r. ⌜ handed r (now (kinds .exit)) (now («hf_mul» .exit)) (now (sigma .exit)) ≡ outcomeOf (jobWith bw bh (now (types .entry)) (now (muls .entry)) (now (sharpness .entry)) filter (now (lookups .entry))) (readingOf (jobWith bw bh (now (types .entry)) (now (muls .entry)) (now (sharpness .entry)) filter (now (lookups .entry)))) ⌝ }
+{
+    zeros::clear_u8(kinds);
+    zeros::clear_u32(hf_mul);
+    zeros::clear_f32(sigma);
+    let step = read_blocks(
+        kinds,
+        hf_mul,
+        sigma,
+        types,
+        muls,
+        sharpness,
+        lookups,
+        filter,
+        bw,
+        bh,
+    );
+    let Step::Stopped(why) = step else {
+        return step;
+    };
+    zeros::clear_u8(kinds);
+    zeros::clear_u32(hf_mul);
+    zeros::clear_f32(sigma);
+    Step::Stopped(why)
+}
+
+// Reads a layout into lent buffers. More than 256 blocks either way, or lengths that do not fit: refused, and nothing is written.
 pub fn read(
     kinds: &mut [u8],
     hf_mul: &mut [u32],
@@ -96,7 +137,7 @@ pub fn read(
     bw: usize,
     bh: usize,
 ) -> Step
-    ensures { λ r. ⌜ Read (jobWith bw bh (now (types .entry)) (now (muls .entry)) (now (sharpness .entry)) filter (now (lookups .entry))) (now (kinds .entry)) (now («hf_mul» .entry)) (now (sigma .entry)) r (now (kinds .exit)) (now («hf_mul» .exit)) (now (sigma .exit)) ⌝ }
+    ensures { λ r. ⌜ handed r (now (kinds .exit)) (now («hf_mul» .exit)) (now (sigma .exit)) ≡ readOf (jobWith bw bh (now (types .entry)) (now (muls .entry)) (now (sharpness .entry)) filter (now (lookups .entry))) (now (kinds .entry)) (now («hf_mul» .entry)) (now (sigma .entry)) ⌝ }
 {
     if 256 < bw {
         return Step::Stopped(Refusal::Length);
@@ -115,7 +156,7 @@ pub fn read(
     ) {
         return Step::Stopped(Refusal::Length);
     }
-    read_blocks(
+    read_cleared(
         kinds,
         hf_mul,
         sigma,

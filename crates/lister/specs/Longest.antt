@@ -8,8 +8,8 @@ use native.Mathlib.Nat.{suc-mul, mul-le-mul}
 use native.Mathlib.Omega.{arith}
 use lib.Pow.{pow-add}
 use lib.Dec.{leb, eqb}
-use lib.ListN.{length, getD, take, drop, replicate, length-append}
-use lib.Seq.{length-sets, sets-eq, take-at}
+use lib.ListN.{length, getD, drop, replicate, length-append}
+use lib.Seq.{length-sets, sets-eq}
 use borrow.Author.Tests.{lt-ltb, le-ltb, le-leb, lt-leb, leb-true}
 use Rattle.laws.specs.Cases.{le-or-lt}
 use Rattle.refusal.specs.declared.Said.{Said}
@@ -140,11 +140,12 @@ text-most s = go (hasSize s && hasEnd s) refl
         let w = and-true (leb 5 (length s) && eqb (getD s 0 0) 16) (leb (width s) 512) (h .0) in
         layout-most (width s) (height s) (types s) (muls s) (leb-true (width s) 512 (w .1)) (leb-true (height s) 512 (h .1))
 
--- so into as many bytes all of it is put: the first r bytes are the text
-pub text-whole : (s d d′ : List ℕ) (r : ℕ) → 90000 ≤ length d → Puts d 0 (textOf s) d′ r → (r ≤ length d′) × (take r d′ ≡ textOf s)
+-- so into as many bytes all of it is put, and later ones stay
+pub text-whole : (s d d′ : List ℕ) (r : ℕ) → 90000 ≤ length d → Puts d 0 (textOf s) d′ r → (r ≤ length d′) × (r ≡ length (textOf s)) × (d′ ≡ textOf s ++ drop r d)
 text-whole s d d′ r l p =
     let m = text-most s in
     let z = p .place in
     let e : r ≡ length (textOf s) = omega arith in
+    let f : 0 + length (textOf s) ≡ r = omega arith in
     let n : length d′ ≡ length d = ap length (p .bytes) ∙ length-sets d 0 (textOf s) in
-    (omega arith, ap (take r) (p .bytes ∙ sets-eq (textOf s) d 0 (omega arith)) ∙ take-at (textOf s) (drop (0 + length (textOf s)) d) r (sym e))
+    (omega arith, e, p .bytes ∙ sets-eq (textOf s) d 0 (omega arith) ∙ ap (λ (k : ℕ). textOf s ++ drop k d) f)

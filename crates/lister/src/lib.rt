@@ -4,8 +4,9 @@ use crate::lines::put_refused;
 use filter_strength::Filter;
 use hf_metadata::LayoutAnswer;
 ghost use mathlib.Core.Path.{_≡_};
+ghost use mathlib.Core.List.{_++_};
 ghost use Prim.Native.Nat.{_*_, _≤_};
-ghost use lib.ListN.{length, getD, take, replicate};
+ghost use lib.ListN.{length, getD, drop, replicate};
 ghost use Rattle.filter_strength.specs.Strength.{zero32};
 ghost use Rattle.text.specs.Text.{Puts};
 ghost use Rattle.lister_job.specs.Job.{width as widthOf, height as heightOf};
@@ -161,9 +162,9 @@ fn list(job: &[u8], out: &mut [u8]) -> usize
     list_job(out, job, width, height, &mut types, &mut muls)
 }
 
-// All of a job's text, which is at most 90,000 bytes, and how many bytes it is.
+// All of a job's text, which is at most 90,000 bytes, and how many bytes it is. Later bytes stay as they were.
 pub fn list_whole(job: &[u8], out: &mut [u8; 90000]) -> usize
-    ensures { λ r. ⌜ (r ≤ length (now (out .exit))) × (take r (now (out .exit)) ≡ textOf (now (job .entry))) ⌝ }
+    ensures { λ r. ⌜ (r ≤ length (now (out .exit))) × (r ≡ length (textOf (now (job .entry)))) × (now (out .exit) ≡ textOf (now (job .entry)) ++ drop r (now (out .entry))) ⌝ }
 {
     list(job, out)
 }

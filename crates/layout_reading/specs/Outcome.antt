@@ -1,0 +1,51 @@
+-- What a reading answers and leaves in kinds, hf_mul and sigma (document 01, Layout and filter strength; Refused).
+use mathlib.Core.Bool.{Bool, cond, _&&_}
+use mathlib.Core.List.{List}
+use Prim.Native.Nat.{ℕ, _*_}
+use lib.Dec.{leb, eqb}
+use lib.ListN.{length}
+use lib.Ieee.{Float}
+use Rattle.refusal.specs.declared.Said.{Said}
+use Rattle.refusal.specs.Said as refusals
+use Rattle.layout_reading.specs.declared.column.Step.{Step}
+use Rattle.layout_reading.specs.declared.column.Step.the-variants.{Going as GoesOn, Stopped as Stops}
+use Rattle.layout_reading.specs.Reading.{Job, Reading, Going, Stopped, zeros, zeroSigma, reading}
+
+-- accepted with the number of columns used, or refused with a number and a position
+pub data Answer : Type 0 where
+  accepted : ℕ → Answer
+  refused : Said → Answer
+
+pub record Outcome : Type 0 where
+  pub answer : Answer
+  pub kinds : List ℕ
+  pub hfMul : List ℕ
+  pub sigma : List Float
+
+abbrev pub outcome : Answer → List ℕ → List ℕ → List Float → Outcome
+outcome answer kinds hfMul sigma = record { answer = answer; kinds = kinds; hfMul = hfMul; sigma = sigma }
+
+-- what the code answers and leaves
+abbrev pub handed : Step → List ℕ → List ℕ → List Float → Outcome
+handed (GoesOn used) kinds hfMul sigma = outcome (accepted used) kinds hfMul sigma
+handed (Stops r) kinds hfMul sigma = outcome (refused (refusals.said r)) kinds hfMul sigma
+
+-- 4 to 10 leave layout and sigma all zero
+abbrev pub outcomeOf : (J : Job) → Reading → Outcome
+outcomeOf J (Going p) = outcome (accepted (p .used)) (p .kinds) (p .muls) (p .sigma)
+outcomeOf J (Stopped r) = outcome (refused r) (zeros J) (zeros J) (zeroSigma J)
+
+-- 1: a mul for each type; a sharpness number, a kind, an hf_mul and a sigma for each of n blocks
+abbrev pub countsFit : ℕ → ℕ → ℕ → ℕ → ℕ → ℕ → ℕ → Bool
+countsFit types muls sharpness kinds hfMul sigma n = eqb muls types && eqb sharpness n && eqb kinds n && eqb hfMul n && eqb sigma n
+
+module _ (J : Job) (kinds hfMul : List ℕ) (sigma : List Float) where
+  -- at most 256 blocks each way, and lent lengths that fit
+  abbrev pub fits : Bool
+  fits =
+      leb (J .bw) 256 && leb (J .bh) 256
+      && countsFit (length (J .types)) (length (J .muls)) (length (J .sharpness)) (length kinds) (length hfMul) (length sigma) (J .bh * J .bw)
+
+  -- whatever the lent buffers held; where lengths do not fit, 1, and nothing is written
+  unfoldable pub readOf : Outcome
+  readOf = cond fits (outcomeOf J (reading J)) (outcome (refused (refusals.at 1 0 0)) kinds hfMul sigma)
