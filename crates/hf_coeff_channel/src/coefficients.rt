@@ -11,7 +11,8 @@ ghost use mathlib.Core.Path.{_≡_};
 ghost use Prim.Native.Nat.{_/_, _*_, _%_, _^_, _≤_, _<_};
 ghost use lib.ListN.{length, getD, drop};
 ghost use Rattle.hf_coeff_walk.specs.Walk.{FREQ, NUM-NONZERO, gain, walk};
-ghost use Rattle.hf_coeff_walk.specs.Places.{paired, placesOf};
+ghost use Rattle.natural_order.specs.Places.{paired};
+ghost use Rattle.hf_coeff_walk.specs.Places.{placesOf};
 ghost use Rattle.hf_coeff_walk.specs.Outcome.{Ready, Handed, spotPlaces};
 
 fn shifted(x: u32, shift: u32) -> u32

@@ -15,7 +15,7 @@ use Rattle.hf_coeff_walk.specs.Walk.{Walked, ended, stopped, walk}
 use Rattle.hf_coeff_walk.specs.Outcome.{answerOf, logOf, gridOf}
 use Rattle.hf_coeff_walk.specs.Item.{Item, newRow, countOver, rowOf, countCluster, counted}
 use Rattle.hf_coeff_walk.specs.declared.item.Varblock.{Varblock}
-use Rattle.hf_coeff_walk.specs.Places.{paired}
+use Rattle.natural_order.specs.Places.{paired}
 use Rattle.hf_coeff_walk.specs.PlaceLaws.{length-paired, length-places}
 use Rattle.hf_coeff_walk.specs.Items.{itemAt, ItemReady, counted-15, counted-16}
 use Rattle.hf_coeff_walk.specs.Counts.{predicted-take, row-take}

@@ -12,7 +12,8 @@ use lib.Pow.{pow-pos}
 use lib.Seq.{drop-cons, length-take-le, take-all}
 use Rattle.refusal.specs.declared.Refusal.the-variants.{Length, SymbolsEnd, Count}
 use Rattle.hf_coeff_walk.specs.Walk.{Walked, ended, stopped, walk}
-use Rattle.hf_coeff_walk.specs.Places.{paired, placesOf}
+use Rattle.natural_order.specs.Places.{paired}
+use Rattle.hf_coeff_walk.specs.Places.{placesOf}
 use Rattle.hf_coeff_walk.specs.Item.{Item, predicted, countIndex, countCluster, coeffPart, counted}
 use Rattle.hf_coeff_walk.specs.Counts.{part-entry}
 use Rattle.hf_coeff_walk.specs.Outcome.{Ready, Handed, walk-used}

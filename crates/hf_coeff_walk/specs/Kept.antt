@@ -29,7 +29,7 @@ KeptBy n us at log g (stopped why at′ log′ g′) = Unit
 none : (n : ℕ) (us : List ℕ) (at : ℕ) (log g : List ℕ) → Kept n us at log g us at log g
 none n us at log g = record { k = 0; most = omega arith; there = omega arith; read = omega arith; rest = refl; logged = refl; cells = refl }
 
-length-gain : (shift : ℕ) (g : List ℕ) (p u : ℕ) → length (gain shift g p u) ≡ length g
+pub length-gain : (shift : ℕ) (g : List ℕ) (p u : ℕ) → length (gain shift g p u) ≡ length g
 length-gain shift g p zero = refl
 length-gain shift g p (suc u) = length-set g p ((getD g p 0 + unpackSigned (suc u) * 2 ^ shift % 2 ^ 32) % 2 ^ 32)
 

@@ -12,7 +12,8 @@ use lib.Seq.{drop-cons, set-out}
 use Rattle.refusal.specs.declared.Refusal.the-variants.{SymbolsEnd, TooManyZeros}
 use Rattle.bits.specs.Signed.{unpackSigned}
 use Rattle.hf_coeff_walk.specs.Walk.{Walked, ended, stopped, walk, coeffContext, flag, less, gain}
-use Rattle.hf_coeff_walk.specs.Places.{paired, placesOf}
+use Rattle.natural_order.specs.Places.{paired}
+use Rattle.hf_coeff_walk.specs.Places.{placesOf}
 use Rattle.hf_coeff_walk.specs.declared.Walk.{Walk}
 use Rattle.hf_coeff_walk.specs.declared.Walk.the-variants.{Ended, Stopped}
 use Rattle.hf_coeff_walk.specs.declared.place.Spot.{Spot}

@@ -6,8 +6,8 @@ use Prim.Native.Nat.{ℕ, zero, suc, _+_, _*_, _/_, _<_, _≤_}
 use native.Mathlib.Omega.{arith}
 use native.Mathlib.Nat.{mul-le-mul}
 use lib.ListN.{length, getD, drop}
-use Rattle.natural_order.specs.Places.{Place, flat}
-use Rattle.hf_coeff_walk.specs.Places.{paired, placesOf, cellOf}
+use Rattle.natural_order.specs.Places.{Place, flat, paired}
+use Rattle.hf_coeff_walk.specs.Places.{placesOf, cellOf}
 
 pub length-paired : (l : List ℕ) → length (paired l) ≡ length l / 2
 unfolding paired

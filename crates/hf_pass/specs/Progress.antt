@@ -19,7 +19,7 @@ use Rattle.natural_order.specs.Turns.{flat-length, natural-numbers}
 use Rattle.natural_order.specs.Listing.{listing-length}
 use Rattle.natural_order.specs.Filling.{Sided, sided}
 use Rattle.hf_pass_store.specs.Store.{stored, PLACES}
-use Rattle.hf_pass_store.specs.Offsets.{from, from-start, from-step, from-most, from-end, sizes-13, places-by}
+use Rattle.hf_pass_store.specs.Offsets.{from, from-start, from-step, from-most, from-end, sizes-13, third, places-by}
 use Rattle.hf_pass_store.specs.Naturals.{naturals, whole-long}
 use Rattle.hf_pass.specs.declared.OrdersAnswer.{OrdersAnswer}
 use Rattle.hf_pass.specs.declared.OrdersAnswer.the-variants as answer
@@ -68,9 +68,6 @@ onward-start used us = go (lists (plan used 0 BLOCK-SIZES) us 0)
 onward-end : (done : List (List Place)) (us : List ℕ) (at : ℕ) → onward [] done us at ≡ Given done us at
 unfolding onward
 onward-end done us at = ap (λ (ls : List (List Place)). give ls us at) (append-nil done)
-
-third : (i : ℕ) → 3 * (i / 3) + i % 3 ≡ i
-third i = omega arith
 
 entry-at : (used i : ℕ) → i < 39 → drop i (plan used 0 BLOCK-SIZES) ≡ entry (wanted used (i / 3)) (getD BLOCK-SIZES (i / 3) (0, 0)) ∷ drop (i + 1) (plan used 0 BLOCK-SIZES)
 entry-at used i h =

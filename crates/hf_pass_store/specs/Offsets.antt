@@ -66,7 +66,7 @@ pub places-by : 2 * PLACES ≡ 787968
 unfolding PLACES
 places-by = refl
 
-third : (i : ℕ) → 3 * (i / 3) + i % 3 ≡ i
+pub third : (i : ℕ) → 3 * (i / 3) + i % 3 ≡ i
 third i = omega arith
 
 -- the size of list i

@@ -20,14 +20,12 @@ use Rattle.layout.specs.Varblocks.{Varblock, varblocksOf, area, cornersRow, cor
 use Rattle.filter_strength.specs.Strength.{zero32}
 use Rattle.hf_metadata.specs.Call.{Answer, accepted, refused}
 use Rattle.accepted_layout.specs.Theorems.{accepted-layout}
+use Rattle.text.specs.Decimal.{ten}
 use Rattle.text.specs.Text.{digitsOf, decimal, Puts}
 use Rattle.lister_job.specs.Job.{width, height, types, muls, hasSize, hasEnd}
 use Rattle.lister.specs.Texts.{BLOCKS, AREA, REFUSED, BAD-INPUT, spaced, last, lineOf, linesOf, acceptedText, refusedText}
 use Rattle.lister.specs.Listing.{textBy, bwOf, bhOf, blocks, listed, outcome, layoutText, textOf}
 use Rattle.lister.specs.ListSteps.{few-wide, few-high}
-
-ten : (k : ℕ) → 10 ^ suc k ≡ 10 * 10 ^ k
-ten k = let e : suc k ≡ 1 + k = omega arith in ap (λ (j : ℕ). 10 ^ j) e ∙ pow-add 10 1 k
 
 -- a number below 10^k has at most k digits, and every number that is printed has at most 20
 digits-most : (j k n : ℕ) → n < 10 ^ suc k → length (digitsOf j n) ≤ suc k

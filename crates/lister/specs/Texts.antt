@@ -5,7 +5,7 @@ use Prim.Native.Nat.{ℕ, _-_}
 use lib.Dec.{leb}
 use Rattle.layout.specs.Grid.{at}
 use Rattle.refusal.specs.declared.Said.{Said}
-use Rattle.layout.specs.Varblocks.{Varblock, varblocksOf, area}
+use Rattle.layout.specs.Varblocks.{Varblock, varblock, varblocksOf, area}
 use Rattle.text.specs.Text.{decimal}
 
 -- "blocks ", "area ", "refused " and "bad input" with a line end
@@ -45,10 +45,6 @@ acceptedText bw bh kinds hfMul =
 abbrev pub refusedText : Said → List ℕ
 refusedText r = REFUSED ++ (spaced (r .number) ++ (spaced (r .x) ++ last (r .y)))
 
--- The lines block by block.
-abbrev pub varblockOf : ℕ → ℕ → ℕ → ℕ → Varblock
-varblockOf x y t m = record { x = x; y = y; type = t; mul = m }
-
 -- the line of a block, nothing where it is no corner
 abbrev pub lineAt : ℕ → List ℕ → List ℕ → ℕ → ℕ → List ℕ
-lineAt bw kinds hfMul x y = cond (leb 2 (at kinds bw x y)) (lineOf (varblockOf x y (at kinds bw x y - 2) (at hfMul bw x y))) []
+lineAt bw kinds hfMul x y = cond (leb 2 (at kinds bw x y)) (lineOf (varblock x y (at kinds bw x y - 2) (at hfMul bw x y))) []

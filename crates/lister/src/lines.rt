@@ -3,12 +3,12 @@ use refusal::Said;
 ghost use mathlib.Core.Path.{_≡_};
 ghost use Prim.Native.Nat.{_*_, _-_, _≤_, _<_};
 ghost use lib.ListN.{length};
-ghost use Rattle.layout.specs.Varblocks.{varblocksOf, area};
+ghost use Rattle.layout.specs.Varblocks.{varblock, varblocksOf, area};
 ghost use Rattle.text.specs.Text.{Puts};
-ghost use Rattle.lister.specs.Texts.{lineOf, linesOf, acceptedText, refusedText, varblockOf, lineAt};
+ghost use Rattle.lister.specs.Texts.{lineOf, linesOf, acceptedText, refusedText, lineAt};
 
 fn put_varblock(out: &mut [u8], at: usize, x: usize, y: usize, number: usize, hf_mul: u32) -> usize
-    ensures { λ r. ⌜ Puts (now (out .entry)) at (lineOf (varblockOf x y number «hf_mul»)) (now (out .exit)) r ⌝ }
+    ensures { λ r. ⌜ Puts (now (out .entry)) at (lineOf (varblock x y number «hf_mul»)) (now (out .exit)) r ⌝ }
 {
     let behind_x = text::put_spaced(out, at, x as u64);
     let behind_y = text::put_spaced(out, behind_x, y as u64);

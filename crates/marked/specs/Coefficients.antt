@@ -24,7 +24,8 @@ use Rattle.block_context_index.specs.Contexts.{sizeOf, above, lfIndexIn, placeO
 use Rattle.hf_block_context.specs.Call.{stored as contextsOf}
 use Rattle.hf_pass_store.specs.Store.{PLACES}
 use Rattle.hf_coeff_walk.specs.Walk.{walk, coeffContext, FREQ, NUM-NONZERO}
-use Rattle.hf_coeff_walk.specs.Places.{paired, placesOf}
+use Rattle.natural_order.specs.Places.{paired}
+use Rattle.hf_coeff_walk.specs.Places.{placesOf}
 use Rattle.hf_coeff_walk.specs.Item.{counted}
 use Rattle.hf_coeff_group.specs.Pass.{Pass, varblocks, itemOf, itemsOf}
 use Rattle.hf_coeff_group.specs.Group.{Reading, going, item, read, group-items}

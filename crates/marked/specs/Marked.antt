@@ -13,7 +13,7 @@ use Rattle.bits.specs.Bits.{Value}
 use Rattle.dct_select.specs.Transforms.{TRANSFORMS, wide, high}
 use Rattle.natural_order.specs.Natural.{natural}
 use Rattle.layout.specs.Walk.{cells, rows}
-use Rattle.layout.specs.Varblocks.{varblocksOf, area}
+use Rattle.layout.specs.Varblocks.{varblock, varblocksOf, area}
 use Rattle.lf_group.specs.Blocks.{wideIn, highIn}
 use Rattle.filter_strength.specs.declared.Filter.the-variants.{On}
 use Rattle.filter_strength.specs.Strength.{zero32, nearest, scaledFilter, dividedFilter, m8}
@@ -21,7 +21,7 @@ use Rattle.filter_strength.specs.Limits.{inLimits}
 use Rattle.layout_reading.specs.Scan.{takeCell, scan}
 use Rattle.layout_reading.specs.Reading.{place, judge, column, reading}
 use Rattle.hf_metadata.specs.Call.{Outcome, accepted, refused, inputs, layoutOf}
-use Rattle.accepted_layout.specs.Marked.{off, varblock, m4, m4-varblocks, m4-area, m5, m5-refused, m6, m6-refused}
+use Rattle.accepted_layout.specs.Marked.{off, m4, m4-varblocks, m4-area, m5, m5-refused, m6, m6-refused}
 use Rattle.hf_pass_store.specs.Store.{PLACES, stretch}
 use Rattle.hf_pass.specs.Call.{parsed}
 use Rattle.hf_pass.specs.Marked.{m1, m2}

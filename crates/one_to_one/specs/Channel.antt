@@ -15,6 +15,7 @@ use Rattle.bits.specs.Signed.{unpackSigned}
 use Rattle.one_to_one.specs.Filling.{Words, Fills}
 use Rattle.one_to_one.specs.Symbols.{unpack-lt, symbol, symbol-same, symbol-zero, symbol-adds, symbol-of, symbol-lt}
 use Rattle.hf_coeff_walk.specs.Walk.{Walked, ended, stopped, walk, coeffContext, flag, less, gain}
+use Rattle.hf_coeff_walk.specs.Kept.{length-gain}
 use Rattle.one_to_one.specs.Sequence.{differing, coeffs}
 use Rattle.one_to_one.specs.Contexts.{context-below}
 use Rattle.one_to_one.specs.Places.{In, Distinct, Same, Cells, same-differing, same-coeffs, same-set, differing-le, differing-self, fill, fill-none}
@@ -26,10 +27,6 @@ passed false a why at log g us′ at′ log′ g′ left e = let z : _≡_ {A = 
 
 pub never : (why : ℕ → Refusal) (at : ℕ) (log g us′ : List ℕ) (at′ : ℕ) (log′ g′ : List ℕ) (left : ℕ) → stopped why at log g ≡ ended us′ at′ log′ g′ left → ⊥
 never why at log g us′ at′ log′ g′ left e = let z : _≡_ {A = ℕ} 0 1 = cc in omega arith
-
-pub length-gain : (shift : ℕ) (g : List ℕ) (p u : ℕ) → length (gain shift g p u) ≡ length g
-length-gain shift g p zero = refl
-length-gain shift g p (suc u) = length-set g p ((getD g p 0 + unpackSigned (suc u) * 2 ^ shift % 2 ^ 32) % 2 ^ 32)
 
 pub gain-off : (shift : ℕ) (g : List ℕ) (p u q : ℕ) → (q ≡ p → ⊥) → getD (gain shift g p u) q 0 ≡ getD g q 0
 gain-off shift g p zero q n = refl

@@ -11,14 +11,14 @@ use lib.Arith.{digits-lt}
 use lib.ListN.{length, getD, drop, List·getD-eq-default}
 use Rattle.dct_select.specs.Transforms.{wide, high, orderOf, turns}
 use Rattle.dct_select.specs.BlockSizes.{widthOf, heightOf}
-use Rattle.natural_order.specs.Places.{Place}
+use Rattle.natural_order.specs.Places.{Place, paired}
 use Rattle.natural_order.specs.Order.{Order}
 use Rattle.layout.specs.Grid.{at}
 use Rattle.layout.specs.Valid.{Covers}
 use Rattle.layout.specs.Varblocks.{Varblock}
 use Rattle.hf_pass_store.specs.Store.{stretch}
 use Rattle.hf_pass.specs.Wrote.{Wrote, listOf, wrote-order, wrote-stretch}
-use Rattle.hf_coeff_walk.specs.Places.{across, down, cellOf, paired}
+use Rattle.hf_coeff_walk.specs.Places.{across, down, cellOf}
 use Rattle.hf_coeff_walk.specs.PlaceLaws.{length-places, paired-flat}
 use Rattle.hf_coeff_walk.specs.Item.{Item}
 use Rattle.hf_coeff_group.specs.Pass.{Pass, varblocks, blocksOf, placesAt, itemOf, channels, itemsOf}

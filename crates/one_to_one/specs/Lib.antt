@@ -4,6 +4,7 @@ pub mod Demand3
 pub mod Chain
 pub mod LowCells
 pub mod SymbolsRead
+pub mod Surplus
 pub mod Witness
 -- laws
 pub mod Symbols

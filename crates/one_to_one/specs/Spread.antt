@@ -16,10 +16,11 @@ use Rattle.dct_select.specs.BlockSizes.{BLOCK-SIZES, widthOf, heightOf}
 use Rattle.dct_select.specs.Rules.{below-27}
 use Rattle.laws.specs.Tables.{each}
 use Rattle.natural_order.specs.Places.{Place, is, tally, count}
+use Rattle.natural_order.specs.Bools.{tally-one}
 use Rattle.natural_order.specs.Sizes.{Size, size-of, bw-eights, bh-by}
 use Rattle.natural_order.specs.Counts.{is-hit}
 use Rattle.natural_order.specs.Rows.{inside-no-x, inside-no-y}
-use Rattle.natural_order.specs.Listing.{hit-of, listing-length, self}
+use Rattle.natural_order.specs.Listing.{hit-of, listing-length, self, inside-of}
 use Rattle.natural_order.specs.Order.{Order, skip-by}
 use Rattle.natural_order.specs.Beyond.{beyond-count, corner-none, other-once}
 use Rattle.hf_coeff_walk.specs.Places.{across, down, cellOf, placesOf}
@@ -53,18 +54,6 @@ count-distinct (p ∷ l) h = (
   count-distinct l (λ x y. omega (arith, h x y)),
 )
 
-inside-of : (x y w h : ℕ) → 0 < tally (ltb x w && ltb y h) → (x < w) × (y < h)
-inside-of x y w h t = go (decLt x w) (decLt y h)
-  where
-    go : Dec (x < w) → Dec (y < h) → (x < w) × (y < h)
-    go (yes a) (yes b) = (a, b)
-    go (no a) b = absurd (omega (arith, inside-no-x x y w h (omega arith)))
-    go (yes a) (no b) = absurd (omega (arith, inside-no-y x y w h (omega arith)))
-
-tally-le : (b : Bool) → tally b ≤ 1
-tally-le true = omega arith
-tally-le false = omega arith
-
 -- the places qs of a varblock of w × h blocks: each cell of its rectangle but for the low-frequency ones, once
 pub record Spread (turn : Bool) (w h : ℕ) (qs : List Place) : Type 0 where
   pub size : length qs ≡ 63 * (w * h)
@@ -86,7 +75,7 @@ module _ (bw bh : ℕ) (z : Size bw bh) (l : List Place) (o : Order bw bh l) whe
         omega (arith, whole64);
     inside = λ q i. let a = in-bounds q i in let x = bw-eights bw bh z in let y = bh-by bw bh z in let u = a .0 in let v = a .1 in (omega arith, omega arith);
     upper = λ q i a b. omega (arith, in-count q rest i, corner-none bw bh l o (q .0) (q .1) a b);
-    distinct = count-distinct rest (λ x y. omega (arith, beyond-count bw bh l o x y, tally-le (ltb x bw && ltb y bh)));
+    distinct = count-distinct rest (λ x y. omega (arith, beyond-count bw bh l o x y, tally-one (ltb x bw && ltb y bh)));
     whole = λ dx dy a b n. let x = bw-eights bw bh z in let y = bh-by bw bh z in
         ((dx, dy), count-in dx dy rest (omega (arith, once dx dy (omega arith) (omega arith) n)), refl, refl);
   }

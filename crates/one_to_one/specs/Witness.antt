@@ -27,7 +27,8 @@ use Rattle.layout_reading.specs.Reading.{place, judge, column, reading}
 use Rattle.hf_metadata.specs.Call.{Inputs, inputs, layoutOf, accepted}
 use Rattle.hf_pass_store.specs.Store.{PLACES}
 use Rattle.hf_block_context.specs.Call.{stored as contextsOf}
-use Rattle.hf_coeff_walk.specs.Places.{paired, placesOf}
+use Rattle.natural_order.specs.Places.{paired}
+use Rattle.hf_coeff_walk.specs.Places.{placesOf}
 use Rattle.hf_coeff_group.specs.Pass.{varblocks, itemOf, itemsOf}
 use Rattle.hf_coeff_group.specs.Group.{Grids}
 use Rattle.hf_coeff.specs.Call.{Lent, lengthsFit, readPreset}

@@ -14,7 +14,7 @@ use Rattle.text.specs.Text.{digitsOf, decimal}
 low : (n : ℕ) → n < 10 → glyph n ≡ 48 + n
 low n h = rw (lt-ltb n 10 h)
 
-ten : (k : ℕ) → 10 ^ suc k ≡ 10 * 10 ^ k
+pub ten : (k : ℕ) → 10 ^ suc k ≡ 10 * 10 ^ k
 ten k = let e : suc k ≡ 1 + k = omega arith in ap (λ (j : ℕ). 10 ^ j) e ∙ pow-add 10 1 k
 
 some : (k : ℕ) → 1 ≤ 10 ^ k

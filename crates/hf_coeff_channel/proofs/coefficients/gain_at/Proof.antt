@@ -1,4 +1,5 @@
-use Rattle.hf_coeff_walk.specs.Places.{paired, placesOf}
+use Rattle.natural_order.specs.Places.{paired}
+use Rattle.hf_coeff_walk.specs.Places.{placesOf}
 use Rattle.hf_coeff_walk.specs.Outcome.{gain-none, gain-more, gain-out}
 use borrow.Author.Needs.{needs}
 use native.Mathlib.Omega.{arith}
