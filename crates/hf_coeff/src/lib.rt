@@ -1,5 +1,5 @@
 // The coefficients of a pass group (`hf_coeff.rs`).
-use crate::work::read_with;
+use crate::group::read_group;
 use block_check::Group;
 use block_check::check::in_limits;
 use block_context::HfBlockContext;
@@ -16,7 +16,6 @@ pub mod group;
 pub mod plan;
 pub mod rows;
 pub mod walked;
-pub mod work;
 
 ghost use mathlib.Core.Path.{_≡_};
 ghost use Rattle.hf_coeff.specs.Call.{passWith, lent, leaves, call};
@@ -106,25 +105,29 @@ pub fn write_hf_coeff<'a>(
     let chosen = preset::read_preset(bytes, presets);
     match chosen {
         PresetAnswer::Refused(why) => CoeffAnswer::Refused(why),
-        PresetAnswer::Number(preset) => answer(read_with(
-            wide,
-            high,
-            kinds,
-            hf_mul,
-            contexts,
-            lf_there,
-            lf0,
-            lf1,
-            lf2,
-            store,
-            cluster_map,
-            preset as usize,
-            shift,
-            symbols,
-            log,
-            g0,
-            g1,
-            g2,
-        )),
+        PresetAnswer::Number(preset) => {
+            let size = 495 * clusters;
+            let a = size * preset as usize;
+            let e = a + size;
+            answer(read_group(
+                wide,
+                high,
+                kinds,
+                hf_mul,
+                contexts,
+                lf_there,
+                lf0,
+                lf1,
+                lf2,
+                store,
+                &cluster_map[a..e],
+                shift,
+                symbols,
+                log,
+                g0,
+                g1,
+                g2,
+            ))
+        }
     }
 }

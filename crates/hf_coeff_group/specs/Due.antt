@@ -276,6 +276,41 @@ module _ (shift clusters : ℕ) (stretch₀ : List ℕ) (P : Pass) (symbols : Li
         let f : going (drop at₀ symbols) at₀ log G (cut (P .width) rows) (d .left) ≡ whole = rw e at (d .due) in
         record { answer = ap walkOf f; logged = ap logBy f; cells = ap gridsBy f }
 
+-- a corner of the group, planned as p
+module _ (shift clusters : ℕ) (map : List ℕ) (P : Pass) (symbols : List ℕ) (room : ℕ) (ready : GroupReady P clusters (length map) shift room) (whole : Reading) (x y at₀ : ℕ) (rows : Grids) (log : List ℕ) (G : Grids)
+    (hx : x < P .width) (hy : y < P .height) (corner : 2 ≤ K P x y) (d : Due shift clusters map P symbols (192 * (P .width * P .height)) whole (rowFrom P x y) at₀ rows log G) (p : Plan) (ep : p ≡ planAt P x y) where
+  here : Due shift clusters map P symbols (192 * (P .width * P .height)) whole (cornerAt P x y ∷ rowFrom P (x + 1) y) at₀ rows log G
+  here = due-corner shift clusters map P symbols (192 * (P .width * P .height)) whole at₀ rows log G x y (rowsFrom P (y + 1)) hx corner d
+
+  is-known : K P x y - 2 < 27
+  is-known = known P clusters (length map) shift room ready x y hx hy corner
+
+  pub corner-asks : length log ≡ room → PlanReady p (P .width) clusters map (P .store) (length symbols) at₀ shift (length log) × Rows rows
+  corner-asks e =
+      let m = ready .room in
+      let n = room-of shift clusters map P symbols (192 * (P .width * P .height)) whole at₀ rows log G (cornerAt P x y) (rowFrom P (x + 1) y) here in
+      rw (ep, e) (plan-ready P clusters (length map) shift room ready x y hx hy corner map refl (length symbols) at₀ (here .begins) (omega arith), here .fine)
+
+  module _ (w : Walk) (rows₁ : Grids) (log₁ : List ℕ) (G₁ : Grids)
+      (shown : (left : ℕ) → Shown (P .width) symbols (at₀ + 192 * 2 ^ (p .at .log)) w rows₁ log₁ G₁ (read shift clusters map (itemsBy p (P .width) (P .store)) (going (drop at₀ symbols) at₀ log G (cut (P .width) rows) left))) where
+    its : itemsBy p (P .width) (P .store) ≡ channels P (cornerAt P x y)
+    its = ap (λ (q : Plan). itemsBy q (P .width) (P .store)) ep ∙ items-are P clusters (length map) shift room ready x y hx hy corner
+
+    few : at₀ + 192 * 2 ^ (p .at .log) ≡ at₀ + 192 * (wide (K P x y - 2) * high (K P x y - 2))
+    few = few-is P x y at₀ p ep is-known
+
+    -- the reading stopped in it
+    pub corner-stop : isStopped w ≡ true → Read w log₁ G₁ whole
+    corner-stop e =
+        due-stop shift clusters map P symbols (192 * (P .width * P .height)) whole at₀ rows log G x y (rowFrom P (x + 1) y) here (itemsBy p (P .width) (P .store)) its
+        w rows₁ log₁ G₁ (at₀ + 192 * 2 ^ (p .at .log)) few shown e
+
+    -- it was read
+    pub corner-step : isStopped w ≡ false → (at₁ : ℕ) → at₁ ≡ readBy w → Due shift clusters map P symbols (192 * (P .width * P .height)) whole (rowFrom P (x + 1) y) at₁ rows₁ log₁ G₁
+    corner-step e at₁ q =
+        rw q (due-step shift clusters map P symbols (192 * (P .width * P .height)) whole at₀ rows log G x y (rowFrom P (x + 1) y) here (itemsBy p (P .width) (P .store)) its
+        w rows₁ log₁ G₁ (at₀ + 192 * 2 ^ (p .at .log)) few shown e)
+
 -- rows of zeros
 take-zeros : (w n : ℕ) → w ≤ n → take {A = ℕ} w (replicate n 0) ≡ replicate w 0
 take-zeros zero n h = refl

@@ -6,7 +6,8 @@ use Prim.Native.Nat.{ℕ, zero, suc, _+_, _*_, _^_, _-_, _<_, _≤_}
 use native.Mathlib.Omega.{arith}
 use native.Mathlib.Decide.{decLt, decLe}
 use lib.ListN.{length, getD, set, take, drop, length-set, length-drop}
-use lib.Seq.{drop-cons, drop-drop, getD-set-other}
+use lib.Seq.{drop-cons, drop-drop}
+use lib.Pow.{pow-pos}
 use Rattle.refusal.specs.declared.Refusal.{Refusal}
 use Rattle.refusal.specs.declared.Refusal.the-variants.{SymbolsEnd, Count}
 use Rattle.hf_coeff_walk.specs.declared.Walk.{Walk}
@@ -22,7 +23,7 @@ use Rattle.hf_coeff_walk.specs.Counts.{predicted-take, row-take}
 use Rattle.hf_coeff_walk.specs.Kept.{KeptBy, counted-kept}
 use Rattle.hf_coeff_group.specs.Group.{Grids, Reading, going, refused, after, item, read}
 use Rattle.hf_coeff_group.specs.Steps.{isStopped, readBy, InGrid, Rows, cut, rowBy, Shown}
-use Rattle.hf_coeff_group.specs.Plans.{inChannel, PlanReady}
+use Rattle.hf_coeff_group.specs.Plans.{inChannel, itemBy, itemsBy, channelWalked, PlanReady}
 use Rattle.hf_coeff_group.specs.declared.plan.Plan.{Plan}
 use Rattle.hf_pass_store.specs.Store as kept
 
@@ -140,25 +141,6 @@ module _ (shift clusters : ℕ) (stretch : List ℕ) (c width : ℕ) (it : Item)
               };
             }
 
--- the same from the channel's row alone, whatever the other rows are
-module _ (shift clusters : ℕ) (stretch : List ℕ) (c width : ℕ) (it : Item) (row symbols : List ℕ) (at : ℕ) (log : List ℕ) (G : Grids) (hc : c < 3) (col : it .x < width) (most : ℕ) (r : Walk) (log₁ : List ℕ) (G₁ : Grids)
-    (got : InGrid c G r log₁ G₁ (λ g. counted shift clusters stretch it row (drop at symbols) at log g)) (rows : Grids) (fine : Rows rows) (er : getD rows c [] ≡ row) where
-  here : InGrid c G r log₁ G₁ (λ g. counted shift clusters stretch it (getD rows c []) (drop at symbols) at log g)
-  here = subst (λ (l : List ℕ). InGrid c G r log₁ G₁ (λ g. counted shift clusters stretch it l (drop at symbols) at log g)) (sym er) got
-
-  pub row-stopped : isStopped r ≡ true → (rows₁ : Grids) (left : ℕ)
-      → Shown width symbols most r rows₁ log₁ G₁ (item shift clusters stretch (inChannel c it) (going (drop at symbols) at log G (cut width rows) left))
-  row-stopped = item-stopped shift clusters stretch c width it rows symbols at log G hc col fine most r log₁ G₁ here
-
-  pub row-goes : isStopped r ≡ false → suc (length (it .places)) ≤ most - at → at ≤ most
-      → (left : ℕ) → Shown width symbols most r (rowBy rows c (it .x) (it .wide) (countOver (getD symbols at 0) (it .blocks))) log₁ G₁
-      (item shift clusters stretch (inChannel c it) (going (drop at symbols) at log G (cut width rows) left))
-  row-goes = item-goes shift clusters stretch c width it rows symbols at log G hc col fine most r log₁ G₁ here
-
--- a row that another channel's rewriting leaves as it is
-pub row-kept : (rows : Grids) (c d x n v : ℕ) → (d ≡ c → ⊥) → getD (rowBy rows c x n v) d [] ≡ getD rows d []
-row-kept rows c d x n v ne = getD-set-other rows c d (rowOf (getD rows c []) x n v) [] ne
-
 -- an item has 63 places for each block
 pub item-size : (v : Varblock) (width context : ℕ) (order : List ℕ) → length order ≡ 128 * 2 ^ (v .log) → length (itemAt v width context order .places) ≡ 63 * 2 ^ (v .log)
 item-size v width context order h =
@@ -201,89 +183,117 @@ module _ (width : ℕ) (symbols : List ℕ) where
         absurd (let a : isStopped w ≡ false = ap isStopped (s .it .answer) in let y : _≡_ {A = ℕ} 0 1 = cc in omega arith)
     shown-stop its most more w rows rows₁ log G (refused why at log′ G′) s e = rw (refused-stays its why at log′ G′) (record { it = s .it })
 
-    -- a reading that goes on is taken up where it stands
-    pub shown-then : (its : List Item) (most more : ℕ) (w w₁ : Walk) (rows rows₁ : Grids) (log log₁ : List ℕ) (G G₁ : Grids) (R : Reading)
-        → Shown width symbols most w rows log G R → isStopped w ≡ false
-        → ((left : ℕ) → Shown width symbols more w₁ rows₁ log₁ G₁ (read shift clusters stretch its (going (drop (readBy w) symbols) (readBy w) log G (cut width rows) left)))
-        → Shown width symbols more w₁ rows₁ log₁ G₁ (read shift clusters stretch its R)
-    shown-then its most more w w₁ rows rows₁ log log₁ G G₁ R s e k =
-        let o = shown-on most w rows log G R s e in
-        rw (o .is) (k (o .left))
+-- The channels of a varblock in turn.
+pub channel-lt : (n : ℕ) → n < 3 → channelWalked n < 3
+channel-lt zero h = omega arith
+channel-lt (suc zero) h = omega arith
+channel-lt (suc (suc zero)) h = omega arith
+channel-lt (suc (suc (suc n))) h = absurd (omega arith)
 
-    pub shown-more : (most more : ℕ) (w : Walk) (rows : Grids) (log : List ℕ) (G : Grids) (R : Reading) → most ≤ more → Shown width symbols most w rows log G R → Shown width symbols more w rows log G R
-    shown-more most more w rows log G (going us at log′ G′ rows′ left) h s =
-        let f = s .it .few in
-        record { it = record { answer = s .it .answer; rest = s .it .rest; begins = s .it .begins; few = omega arith; fine = s .it .fine; used = s .it .used; logged = s .it .logged; cells = s .it .cells } }
-    shown-more most more w rows log G (refused why at log′ G′) h s = record { it = s .it }
+module _ (p : Plan) (width clusters : ℕ) (map store symbols : List ℕ) (at₀ shift : ℕ) (whole : Reading) where
+  abbrev K : ℕ
+  K = 2 ^ (p .at .log)
 
-    pub read-three : (a b c : Item) (r : Reading) → read shift clusters stretch (a ∷ b ∷ c ∷ []) r ≡ read shift clusters stretch (b ∷ c ∷ []) (item shift clusters stretch a r)
-    unfolding read
-    read-three a b c r = refl
+  -- what is still due: the channels from the n-th walked on, from where the reading stands, give the whole
+  pub record TurnsDue (n at : ℕ) (rows : Grids) (log : List ℕ) (G : Grids) : Type 0 where
+    pub left : ℕ
+    pub due : read shift clusters map (drop n (itemsBy p width store)) (going (drop at symbols) at log G (cut width rows) left) ≡ whole
+    pub begins : at ≤ length symbols
+    pub few : at + 64 * K * (3 - n) ≤ at₀ + 192 * K
+    pub fine : Rows rows
 
-    pub read-two : (b c : Item) (r : Reading) → read shift clusters stretch (b ∷ c ∷ []) r ≡ read shift clusters stretch (c ∷ []) (item shift clusters stretch b r)
-    unfolding read
-    read-two b c r = refl
+  next-item : (n : ℕ) → n < 3 → drop n (itemsBy p width store) ≡ itemBy p width store n (channelWalked n) ∷ drop (n + 1) (itemsBy p width store)
+  next-item zero h = refl
+  next-item (suc zero) h = refl
+  next-item (suc (suc zero)) h = refl
+  next-item (suc (suc (suc n))) h = absurd (omega arith)
 
-    pub read-one : (c : Item) (r : Reading) → read shift clusters stretch (c ∷ []) r ≡ item shift clusters stretch c r
-    unfolding read
-    read-one c r = refl
+  next-room : (n k : ℕ) → n < 3 → 64 * k * (3 - n) ≡ 64 * k + 64 * k * (3 - (n + 1))
+  next-room zero k h = omega arith
+  next-room (suc zero) k h = omega arith
+  next-room (suc (suc zero)) k h = omega arith
+  next-room (suc (suc (suc n))) k h = absurd (omega arith)
 
--- what each channel of a planned varblock is asked
-pub item-asks : (p : Plan) (width clusters : ℕ) (map store : List ℕ) (symbols at shift log : ℕ) → PlanReady p width clusters map store symbols at shift log
-    → (n c at₁ : ℕ) (order : List ℕ) (log₁ : ℕ) → n < 3 → c < 3 → at₁ ≤ symbols → at₁ ≤ at + 128 * 2 ^ (p .at .log) → order ≡ kept.stretch store (p .order) c → log₁ ≡ log
-    → (c < 3) × (p .at .x < width) × ItemReady (p .at) width (getD (p .contexts) n 0) clusters (length map) (length order) symbols at₁ shift log₁
-item-asks p width clusters map store symbols at shift log r n c at₁ order log₁ hn hc b m e el =
-    let room = r .room in (
-      hc,
-      r .column,
-      rw (e, el) (record {
-        left = r .left;
-        top = r .top;
-        power = r .power;
-        across = r .across;
-        cluster = r .cluster n hn;
-        few = r .few;
-        entries = r .entries;
-        places = r .places c hc;
-        begins = b;
-        shifts = r .shifts;
-        room = omega arith;
-      }),
-    )
-
--- items in turn
-module _ (width : ℕ) (symbols : List ℕ) (shift clusters : ℕ) (stretch : List ℕ) (i i′ : Item) (e : i ≡ i′) (r : Reading) (most more : ℕ) (w : Walk) (rows : Grids) (log : List ℕ) (G : Grids)
-    (s : Shown width symbols most w rows log G (item shift clusters stretch i r)) where
-  s′ : Shown width symbols most w rows log G (item shift clusters stretch i′ r)
-  s′ = subst (λ (j : Item). Shown width symbols most w rows log G (item shift clusters stretch j r)) e s
-
-  pub first-stop : (its : List Item) (rows₁ : Grids) → isStopped w ≡ true → Shown width symbols more w rows₁ log G (read shift clusters stretch (i′ ∷ its) r)
+  -- all that is left is nothing
+  pub turns-end : (n at : ℕ) (rows : Grids) (log : List ℕ) (G : Grids) → TurnsDue n at rows log G → n ≡ 3 → Shown width symbols (at₀ + 192 * K) (Ended at) rows log G whole
   unfolding read
-  first-stop its rows₁ h = shown-stop width symbols shift clusters stretch its most more w rows rows₁ log G (item shift clusters stretch i′ r) s′ h
+  turns-end n at rows log G d e =
+      let f : going (drop at symbols) at log G (cut width rows) (d .left) ≡ whole = rw e at (d .due) in
+      let m = d .few in
+      subst (Shown width symbols (at₀ + 192 * K) (Ended at) rows log G) f
+      (record { it = record { answer = refl; rest = refl; begins = d .begins; few = omega arith; fine = d .fine; used = refl; logged = refl; cells = refl } })
 
-  pub first-then : (its : List Item) (w₁ : Walk) (rows₁ : Grids) (log₁ : List ℕ) (G₁ : Grids) → isStopped w ≡ false
-      → ((left : ℕ) → Shown width symbols more w₁ rows₁ log₁ G₁ (read shift clusters stretch its (going (drop (readBy w) symbols) (readBy w) log G (cut width rows) left)))
-      → Shown width symbols more w₁ rows₁ log₁ G₁ (read shift clusters stretch (i′ ∷ its) r)
-  unfolding read
-  first-then its w₁ rows₁ log₁ G₁ h k = shown-then width symbols shift clusters stretch its most more w w₁ rows rows₁ log log₁ G G₁ (item shift clusters stretch i′ r) s′ h k
+  module _ (room : ℕ) (ready : PlanReady p width clusters map store (length symbols) at₀ shift room) (n at : ℕ) (rows : Grids) (log : List ℕ) (G : Grids) (d : TurnsDue n at rows log G) (hn : n < 3)
+      (c : ℕ) (below : c < 3) (ec : c ≡ channelWalked n) (order : List ℕ) (eo : order ≡ kept.stretch store (p .order) c) where
+    long : length order ≡ 128 * K
+    long = rw eo (ready .places c below)
 
-  pub last-shown : most ≤ more → Shown width symbols more w rows log G (read shift clusters stretch (i′ ∷ []) r)
-  unfolding read
-  last-shown h = shown-more width symbols shift clusters stretch most more w rows log G (item shift clusters stretch i′ r) h s′
+    -- what the channel's walk is asked
+    pub turn-asks : length log ≡ room → (c < 3) × ItemReady (p .at) width (getD (p .contexts) n 0) clusters (length map) (length order) (length symbols) at shift (length log)
+    turn-asks el =
+        let m = d .few in
+        let a = ready .room in
+        let s = next-room n K hn in (
+          below,
+          record {
+            left = ready .left;
+            top = ready .top;
+            power = ready .power;
+            across = ready .across;
+            cluster = ready .cluster n hn;
+            few = ready .few;
+            entries = ready .entries;
+            places = long;
+            begins = d .begins;
+            shifts = ready .shifts;
+            room = omega arith;
+          },
+        )
 
--- the three channels, each taken up where the one before stands
-pub three-shown : (width : ℕ) (symbols : List ℕ) (shift clusters : ℕ) (stretch : List ℕ) (r : Reading) (i j k i′ j′ k′ : Item) (m₁ m₂ m₃ more : ℕ) (w₁ w₂ w₃ : Walk) (rows₁ rows₂ rows₃ rows : Grids)
-    (log₁ log₂ log₃ : List ℕ) (G₁ G₂ G₃ : Grids) (at₁ at₂ : ℕ) (r₁ r₂ : Grids)
-    → i ≡ i′ → j ≡ j′ → k ≡ k′ → at₁ ≡ readBy w₁ → r₁ ≡ rows₁ → at₂ ≡ readBy w₂ → r₂ ≡ rows₂ → rows ≡ rows₃ → isStopped w₁ ≡ false → isStopped w₂ ≡ false → m₃ ≤ more
-    → Shown width symbols m₁ w₁ rows₁ log₁ G₁ (item shift clusters stretch i r)
-    → ((l : ℕ) → Shown width symbols m₂ w₂ rows₂ log₂ G₂ (item shift clusters stretch j (going (drop at₁ symbols) at₁ log₁ G₁ (cut width r₁) l)))
-    → ((l : ℕ) → Shown width symbols m₃ w₃ rows₃ log₃ G₃ (item shift clusters stretch k (going (drop at₂ symbols) at₂ log₂ G₂ (cut width r₂) l)))
-    → Shown width symbols more w₃ rows log₃ G₃ (read shift clusters stretch (i′ ∷ j′ ∷ k′ ∷ []) r)
-three-shown width symbols shift clusters stretch r i j k i′ j′ k′ m₁ m₂ m₃ more w₁ w₂ w₃ rows₁ rows₂ rows₃ rows log₁ log₂ log₃ G₁ G₂ G₃ at₁ at₂ r₁ r₂ ei ej ek a b c d f go₁ go₂ le s₁ s₂ s₃ =
-    rw f
-    (first-then width symbols shift clusters stretch i i′ ei r m₁ more w₁ rows₁ log₁ G₁ s₁ (j′ ∷ k′ ∷ []) w₃ rows₃ log₃ G₃ go₁ (λ l. rw (← a, ← b)
-    (first-then width symbols shift clusters stretch j j′ ej (going (drop at₁ symbols) at₁ log₁ G₁ (cut width r₁) l) m₂ more w₂ rows₂ log₂ G₂ (s₂ l) (k′ ∷ []) w₃ rows₃ log₃ G₃ go₂ (λ n. rw (← c, ← d)
-    (last-shown width symbols shift clusters stretch k k′ ek (going (drop at₂ symbols) at₂ log₂ G₂ (cut width r₂) n) m₃ more w₃ rows₃ log₃ G₃ (s₃ n) le)))))
+    abbrev it : Item
+    it = itemAt (p .at) width (getD (p .contexts) n 0) order
 
-pub three-most : (at at₁ at₂ n : ℕ) → at₁ ≤ at + 64 * n → at₂ ≤ at₁ + 64 * n → at₂ + 64 * n ≤ at + 192 * n
-three-most at at₁ at₂ n a b = omega arith
+    abbrev before : Reading
+    before = going (drop at symbols) at log G (cut width rows) (d .left)
+
+    due-now : read shift clusters map (drop (n + 1) (itemsBy p width store)) (item shift clusters map (inChannel c it) before) ≡ whole
+    unfolding read
+    due-now =
+        let e : inChannel c it ≡ itemBy p width store n (channelWalked n) = rw (eo, ec) in
+        ap (λ (i : Item). read shift clusters map (drop (n + 1) (itemsBy p width store)) (item shift clusters map i before)) e
+        ∙ ap (λ (l : List Item). read shift clusters map l before) (sym (next-item n hn))
+        ∙ d .due
+
+    module _ (r : Walk) (log₁ : List ℕ) (G₁ : Grids) (got : InGrid c G r log₁ G₁ (λ g. counted shift clusters map it (getD rows c []) (drop at symbols) at log g)) where
+      pub turn-count : isStopped r ≡ false → (at < length symbols) × (getD symbols at 0 ≤ 63 * K)
+      turn-count = read-count shift clusters map c it (getD rows c []) symbols at log G r log₁ G₁ got
+
+      -- the reading stopped in this channel
+      pub turn-stops : isStopped r ≡ true → (most : ℕ) (rows₁ : Grids) → Shown width symbols most r rows₁ log₁ G₁ whole
+      turn-stops e most rows₁ =
+          subst (Shown width symbols most r rows₁ log₁ G₁) due-now
+          (shown-stop width symbols shift clusters map (drop (n + 1) (itemsBy p width store)) most most r rows₁ rows₁ log₁ G₁ (item shift clusters map (inChannel c it) before)
+          (item-stopped shift clusters map c width it rows symbols at log G below (ready .column) (d .fine) most r log₁ G₁ got e rows₁ (d .left)) e)
+
+      -- the channel was read, and its count stands in its row
+      pub turn-goes : isStopped r ≡ false → (at₁ : ℕ) (rows₁ : Grids) → at₁ ≡ readBy r → rows₁ ≡ rowBy rows c (p .at .x) (p .at .wide) (countOver (getD symbols at 0) K) → TurnsDue (n + 1) at₁ rows₁ log₁ G₁
+      turn-goes e at₁ rows₁ ea er =
+          let l = item-size (p .at) width (getD (p .contexts) n 0) order long in
+          let o =
+          shown-on width symbols (at + 64 * K) r (rowBy rows c (p .at .x) (p .at .wide) (countOver (getD symbols at 0) K)) log₁ G₁ (item shift clusters map (inChannel c it) before)
+          (item-goes shift clusters map c width it rows symbols at log G below (ready .column) (d .fine) (at + 64 * K) r log₁ G₁ got e (omega (arith, pow-pos (p .at .log))) (omega arith) (d .left)) e in
+          let m = d .few in
+          let f = o .few in
+          let s = next-room n K hn in
+          rw (ea, er) (record {
+            left = o .left;
+            due = ap (read shift clusters map (drop (n + 1) (itemsBy p width store))) (sym (o .is)) ∙ due-now;
+            begins = o .begins;
+            few = omega arith;
+            fine = o .fine;
+          })
+
+-- before the first channel
+pub turns-start : (p : Plan) (width clusters : ℕ) (map store symbols : List ℕ) (at₀ shift room : ℕ) → PlanReady p width clusters map store (length symbols) at₀ shift room → (rows : Grids) → Rows rows → (log : List ℕ) (G : Grids) (left : ℕ)
+    → TurnsDue p width clusters map store symbols at₀ shift (read shift clusters map (itemsBy p width store) (going (drop at₀ symbols) at₀ log G (cut width rows) left)) 0 at₀ rows log G
+turns-start p width clusters map store symbols at₀ shift room ready rows fine log G left = record { left = left; due = refl; begins = ready .begins; few = omega arith; fine = fine }

@@ -38,10 +38,6 @@ cut w rows = take w (getD rows 0 []) ∷ take w (getD rows 1 []) ∷ take w (get
 abbrev pub rowBy : Grids → ℕ → ℕ → ℕ → ℕ → Grids
 rowBy rows c x n v = set rows c (rowOf (getD rows c []) x n v)
 
--- the rows after a varblock of these counts in channels 1, 0, 2
-abbrev pub rowsBy : Grids → ℕ → ℕ → List ℕ → Grids
-rowsBy rows x n counts = rowBy (rowBy (rowBy rows 1 x n (getD counts 0 0)) 0 x n (getD counts 1 0)) 2 x n (getD counts 2 0)
-
 -- what the code holds of a reading that goes on, at most `most` symbols read
 pub record Going (width : ℕ) (symbols : List ℕ) (most : ℕ) (w : Walk) (rows : Grids) (log : List ℕ) (G : Grids) (us : List ℕ) (at : ℕ) (log′ : List ℕ) (G′ rows′ : Grids) : Type 0 where
   pub answer : w ≡ Ended at

@@ -1,7 +1,11 @@
 use borrow.Author.Tests.{not-true, not-false}
 use mathlib.Core.Bool.{true}
 use Rattle.block_context.specs.Record.{fit}
-use Rattle.hf_coeff_group.specs.Work.{passWith}
+use Prim.Native.Nat.{_*_}
+use mathlib.Core.List.{[], _∷_}
+use lib.ListN.{length}
+use Rattle.hf_coeff_group.specs.Work.{passWith, clustersOf, WorkReady}
+use Rattle.hf_coeff_group.specs.WorkLaws.{part-long, part-read, stretch-ends}
 use Rattle.hf_coeff.specs.Call.{Lent, lent, sidesFit, parametersFit, lengthsFit, layoutFits}
 use Rattle.hf_coeff.specs.CallLaws.{call-size, call-parameter, call-context, call-length, call-layout, call-place}
 use Rattle.hf_coeff.specs.CallSteps.{Passed, lengths-are, most-blocks, few-clusters, layout-is, below, work-ready, call-refused, call-done}
@@ -45,6 +49,13 @@ passed c = record {
   layout = layout (c .before .before);
   places = sym (c .before .places-fit .ensures) ∙ not-false (c .before .places-fit .result) (c .if6 .left);
 }
+
+-- What the work asks for, with the preset that was read.
+ready : (c : tie.After-known-told2) → WorkReady ((lentAt (c .before .before .before .before .before .before .before .before .before .before .before .before .before .before .before .before .before .before .before .before .before .before .before .before .before .before .before .before .before .before .before)) .pass) (length ((lentAt (c .before .before .before .before .before .before .before .before .before .before .before .before .before .before .before .before .before .before .before .before .before .before .before .before .before .before .before .before .before .before .before)) .clusterMap)) ((lentAt (c .before .before .before .before .before .before .before .before .before .before .before .before .before .before .before .before .before .before .before .before .before .before .before .before .before .before .before .before .before .before .before)) .shift) (length ((lentAt (c .before .before .before .before .before .before .before .before .before .before .before .before .before .before .before .before .before .before .before .before .before .before .before .before .before .before .before .before .before .before .before)) .log)) (c .before .chosen2 .given .0 .0)
+ready c =
+    let n = c .before .chosen2 .given in
+    let r = c .before .before .before .read-preset in
+    work-ready (lentAt (c .before .before .before .before .before .before .before .before .before .before .before .before .before .before .before .before .before .before .before .before .before .before .before .before .before .before .before .before .before .before .before)) (passed (c .before .before .before .before)) (n .0 .0) (below (lentAt (c .before .before .before .before .before .before .before .before .before .before .before .before .before .before .before .before .before .before .before .before .before .before .before .before .before .before .before .before .before .before .before)) (passed (c .before .before .before .before)) (r .result) (n .0 .0) (r .ensures) (n .1))
 
 in-limits-requires : tie.Need-in-limits-requires
 in-limits-requires c κs = search needs
@@ -113,16 +124,31 @@ enum-known-chosen c = search needs
 enum-known-chosen-2 : tie.Need-enum-known-chosen-2
 enum-known-chosen-2 c = search needs
 
-cast-read-with : tie.Need-cast-read-with
-cast-read-with c = search needs
+mul-size : tie.Need-mul-size
+mul-size c = let w = ready c .clusters in omega arith
 
-read-with-requires : tie.Need-read-with-requires
-read-with-requires c κs =
-    let L = lentAt (c .before .before .before .before .before .before .before .before .before .before .before .before .before .before .before .before .before .before .before .before .before .before .before .before .before .before .before .before .before .before .before .before .before .before .before) in
-    let p = passed (c .before .before .before .before .before .before .before .before) in
-    let r = c .before .before .before .before .before .before .before .read-preset in
-    let n = c .before .before .before .before .before .chosen2 .given in
-    work-ready L p (n .0 .0) (below L p (r .result) (n .0 .0) (r .ensures) (n .1))
+cast-a : tie.Need-cast-a
+cast-a c = search needs
+
+mul-a : tie.Need-mul-a
+mul-a c = omega (arith, stretch-ends ((lentAt (c .before .before .before .before .before .before .before .before .before .before .before .before .before .before .before .before .before .before .before .before .before .before .before .before .before .before .before .before .before .before .before)) .pass) (length ((lentAt (c .before .before .before .before .before .before .before .before .before .before .before .before .before .before .before .before .before .before .before .before .before .before .before .before .before .before .before .before .before .before .before)) .clusterMap)) ((lentAt (c .before .before .before .before .before .before .before .before .before .before .before .before .before .before .before .before .before .before .before .before .before .before .before .before .before .before .before .before .before .before .before)) .shift) (length ((lentAt (c .before .before .before .before .before .before .before .before .before .before .before .before .before .before .before .before .before .before .before .before .before .before .before .before .before .before .before .before .before .before .before)) .log)) (c .before .chosen2 .given .0 .0) (ready c))
+
+add-e : tie.Need-add-e
+add-e c = omega (arith, stretch-ends ((lentAt (c .before .before .before .before .before .before .before .before .before .before .before .before .before .before .before .before .before .before .before .before .before .before .before .before .before .before .before .before .before .before .before)) .pass) (length ((lentAt (c .before .before .before .before .before .before .before .before .before .before .before .before .before .before .before .before .before .before .before .before .before .before .before .before .before .before .before .before .before .before .before)) .clusterMap)) ((lentAt (c .before .before .before .before .before .before .before .before .before .before .before .before .before .before .before .before .before .before .before .before .before .before .before .before .before .before .before .before .before .before .before)) .shift) (length ((lentAt (c .before .before .before .before .before .before .before .before .before .before .before .before .before .before .before .before .before .before .before .before .before .before .before .before .before .before .before .before .before .before .before)) .log)) (c .before .chosen2 .given .0 .0) (ready c))
+
+sub-read-group : tie.Need-sub-read-group
+sub-read-group c = search needs
+
+part-read-group-start : tie.Need-part-read-group-start
+part-read-group-start c = search needs
+
+part-read-group-end : tie.Need-part-read-group-end
+part-read-group-end c = let w = ready c .stretch in omega arith
+
+read-group-requires : tie.Need-read-group-requires
+read-group-requires c κs =
+    let w = ready (c .before .before .before .before .before) in
+    w .ready _ (part-long ((lentAt (c .before .before .before .before .before .before .before .before .before .before .before .before .before .before .before .before .before .before .before .before .before .before .before .before .before .before .before .before .before .before .before .before .before .before .before .before)) .clusterMap) (495 * clustersOf ((lentAt (c .before .before .before .before .before .before .before .before .before .before .before .before .before .before .before .before .before .before .before .before .before .before .before .before .before .before .before .before .before .before .before .before .before .before .before .before)) .pass)) (c .before .before .before .before .before .before .chosen2 .given .0 .0) (w .stretch))
 
 answer-requires : tie.Need-answer-requires
 answer-requires c κs = search needs
@@ -147,12 +173,12 @@ same-length-4 c = search needs
 
 returns-8 : tie.Need-returns-8
 returns-8 c =
-    let L = lentAt (c .before .before .before .before .before .before .before .before .before .before .before .before .before .before .before .before .before .before .before .before .before .before .before .before .before .before .before .before .before .before .before .before .before .before .before .before .before .before .before .before .before .before .before .before .before) in
-    let r = c .before .before .before .before .before .before .before .before .before .before .before .before .before .before .before .before .before .read-preset in
-    let n = c .before .before .before .before .before .before .before .before .before .before .before .before .before .before .before .chosen2 .given in
-    let g = c .before .before .before .before .before .before .before .before .before .read-with in
-    let l = g .last .1 .1 .1 .1 .1 .1 .1 .1 .1 .1 .1 .1 .1 .1 in
-    call-done L (passed (c .before .before .before .before .before .before .before .before .before .before .before .before .before .before .before .before .before .before)) (r .result) (n .0 .0) (r .ensures) (n .1) (g .result) (c .answer .result) (l .0) (l .1 .0) (l .1 .1 .0) (l .1 .1 .1 .0) (c .answer .ensures) (g .ensures)
+    let n = c .before .before .before .before .before .before .before .before .before .before .before .before .before .before .before .before .chosen2 .given in
+    let r = c .before .before .before .before .before .before .before .before .before .before .before .before .before .before .before .before .before .before .read-preset in
+    let g = c .before .before .before .before .before .before .before .before .before .read-group in
+    let l = g .last .1 .1 .1 .1 .1 .1 .1 .1 .1 .1 .1 .1 .1 in
+    call-done (lentAt (c .before .before .before .before .before .before .before .before .before .before .before .before .before .before .before .before .before .before .before .before .before .before .before .before .before .before .before .before .before .before .before .before .before .before .before .before .before .before .before .before .before .before .before .before .before .before)) (passed (c .before .before .before .before .before .before .before .before .before .before .before .before .before .before .before .before .before .before .before)) (r .result) (n .0 .0) (r .ensures) (n .1) (g .result) (c .answer .result) (l .0) (l .1 .0) (l .1 .1 .0) (l .1 .1 .1 .0) (c .answer .ensures)
+    (part-read (g .result) (l .0) (l .1 .0 ∷ l .1 .1 .0 ∷ l .1 .1 .1 .0 ∷ []) ((lentAt (c .before .before .before .before .before .before .before .before .before .before .before .before .before .before .before .before .before .before .before .before .before .before .before .before .before .before .before .before .before .before .before .before .before .before .before .before .before .before .before .before .before .before .before .before .before .before)) .pass) ((lentAt (c .before .before .before .before .before .before .before .before .before .before .before .before .before .before .before .before .before .before .before .before .before .before .before .before .before .before .before .before .before .before .before .before .before .before .before .before .before .before .before .before .before .before .before .before .before .before)) .clusterMap) ((lentAt (c .before .before .before .before .before .before .before .before .before .before .before .before .before .before .before .before .before .before .before .before .before .before .before .before .before .before .before .before .before .before .before .before .before .before .before .before .before .before .before .before .before .before .before .before .before .before)) .shift) ((lentAt (c .before .before .before .before .before .before .before .before .before .before .before .before .before .before .before .before .before .before .before .before .before .before .before .before .before .before .before .before .before .before .before .before .before .before .before .before .before .before .before .before .before .before .before .before .before .before)) .symbols) ((lentAt (c .before .before .before .before .before .before .before .before .before .before .before .before .before .before .before .before .before .before .before .before .before .before .before .before .before .before .before .before .before .before .before .before .before .before .before .before .before .before .before .before .before .before .before .before .before .before)) .log) ((lentAt (c .before .before .before .before .before .before .before .before .before .before .before .before .before .before .before .before .before .before .before .before .before .before .before .before .before .before .before .before .before .before .before .before .before .before .before .before .before .before .before .before .before .before .before .before .before .before)) .grids) (n .0 .0) (g .ensures))
 
 pub write-hf-coeff-spec : {M : Type 1} → statement M
 write-hf-coeff-spec =
@@ -176,8 +202,14 @@ write-hf-coeff-spec =
     read-preset-requires
     enum-known-chosen
     enum-known-chosen-2
-    cast-read-with
-    read-with-requires
+    mul-size
+    cast-a
+    mul-a
+    add-e
+    sub-read-group
+    part-read-group-start
+    part-read-group-end
+    read-group-requires
     answer-requires
     returns-7
     same-length

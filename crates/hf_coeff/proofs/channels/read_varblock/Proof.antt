@@ -1,185 +1,196 @@
+use mathlib.Core.List.{[], _∷_}
+use Prim.Native.Nat.{ℕ, _≤_, _-_, _+_, _*_, _^_}
 use mathlib.Core.Path.{refl, _≡_, _∙_, ap, sym}
-use mathlib.Core.List.{List, [], _∷_}
-use Prim.Native.Nat.{_^_, ℕ, _≤_, _+_, _*_}
-use Rattle.hf_coeff_walk.specs.Items.{itemAt}
-use Rattle.hf_coeff_group.specs.Steps.{readBy, rowBy}
-use Rattle.hf_coeff_group.specs.Plans.{inChannel, itemBy}
-use Rattle.hf_coeff_group.specs.StepLaws.{shown-on, item-asks, first-stop, first-then, three-shown, three-most, row-kept}
-use borrow.Author.Needs.{needs}
 use native.Mathlib.Omega.{arith}
-use lib.ListN.{length, getD}
+use borrow.Author.Needs.{needs}
+use lib.ListN.{length, drop, getD, set}
+use Rattle.hf_coeff_walk.specs.Item.{rowOf, countOver}
+use Rattle.hf_coeff_group.specs.Group.{going, read}
+use Rattle.hf_coeff_group.specs.Steps.{cut}
+use Rattle.hf_coeff_group.specs.Plans.{itemsBy}
+use Rattle.hf_coeff_group.specs.StepLaws.{TurnsDue, turns-start, turns-end, turn-asks, turn-count, turn-stops, turn-goes}
 use Rattle.hf_coeff.proofs.channels.read_varblock.Statement.{statement}
 use Rattle.hf_coeff.proofs.channels.read_varblock.Tie as tie
 
-array-read-read-item : tie.Need-array-read-read-item
-array-read-read-item c = search needs
+abbrev Inv-loop : tie.InvT-loop
+Inv-loop width clusters map store symbols at shift rows₀ log₀ g0₀ g1₀ g2₀ plan at₀ n₀ rows log g0 g1 g2 at' n =
+    (length log ≡ length log₀)
+    × (length g0 ≡ length g0₀)
+    × (length g1 ≡ length g1₀)
+    × (length g2 ≡ length g2₀)
+    × (n ≤ 3)
+    × ((left : ℕ) → TurnsDue plan width clusters map store symbols at shift (read shift clusters map (itemsBy plan width store) (going (drop at symbols) at log₀ (g0₀ ∷ g1₀ ∷ g2₀ ∷ []) (cut width rows₀) left)) n at' rows log (g0 ∷ g1 ∷ g2 ∷ []))
 
-order-requires : tie.Need-order-requires
+abbrev μ-loop : tie.MeasureT-loop
+μ-loop width clusters map store symbols at shift rows₀ log₀ g0₀ g1₀ g2₀ plan at₀ n₀ rows log g0 g1 g2 at' n = 3 - n
+
+loop-holds : tie.Need-loop-holds Inv-loop μ-loop
+loop-holds c =
+    let a = c .before .before .before .before .before .before .before .args in
+    (refl, refl, refl, refl, omega arith, λ left. turns-start (a .t1) (a .width) (a .clusters) (a .map .now) (a .store .now) (a .symbols .now) (a .at) (a .shift) (length (a .log .now)) (c .before .before .before .before .before .before .before .pre .0) (a .rows .now) (c .before .before .before .before .before .before .before .pre .1) (a .log .now) (a .g0 .now ∷ a .g1 .now ∷ a .g2 .now ∷ []) left)
+
+channel-walked-requires : tie.Need-channel-walked-requires Inv-loop μ-loop
+channel-walked-requires c κs = search needs
+
+mul-walk-channel : tie.Need-mul-walk-channel Inv-loop μ-loop
+mul-walk-channel c = search needs
+
+element-copy-out-walk-channel : tie.Need-element-copy-out-walk-channel Inv-loop μ-loop
+element-copy-out-walk-channel c = search needs
+
+order-requires : tie.Need-order-requires Inv-loop μ-loop
 order-requires c κs = search needs
 
-index-1-read-item : tie.Need-index-1-read-item
-index-1-read-item c = search needs
+mul-walk-channel-2 : tie.Need-mul-walk-channel-2 Inv-loop μ-loop
+mul-walk-channel-2 c = search needs
 
-read-item-requires : tie.Need-read-item-requires
-read-item-requires c κs =
-    let a = c .before .before .before .before .before .before .before .before .before .before .before .before .before .before .before .args in
-    item-asks (a .plan) (a .width) (a .clusters) (a .map .now) (a .store .now) (length (a .symbols .now)) (a .at) (a .shift) (length (a .log .now)) (c .before .before .before .before .before .before .before .before .before .before .before .before .before .before .before .pre .0) 0 1 (a .at) _ _ (omega arith) (omega arith) (c .before .before .before .before .before .before .before .before .before .before .before .before .before .before .before .pre .0 .begins) (omega arith) (c .before .before .before .before .before .order .ensures) refl
+index-1-walk-channel : tie.Need-index-1-walk-channel Inv-loop μ-loop
+index-1-walk-channel c = search needs
 
-is-stopped-requires : tie.Need-is-stopped-requires
+walk-channel-requires : tie.Need-walk-channel-requires Inv-loop μ-loop
+walk-channel-requires c κs =
+    let a = c .before .before .before .before .before .before .before .before .before .before .before .before .before .before .before .before .before .before .args in
+    let l = c .before .before .before .before .before .before .before .before .before .before .loop in
+    let left : ℕ = 0 in
+    turn-asks (a .t1) (a .width) (a .clusters) (a .map .now) (a .store .now) (a .symbols .now) (a .at) (a .shift) (read (a .shift) (a .clusters) (a .map .now) (itemsBy (a .t1) (a .width) (a .store .now)) (going (drop (a .at) (a .symbols .now)) (a .at) (a .log .now) (a .g0 .now ∷ a .g1 .now ∷ a .g2 .now ∷ []) (cut (a .width) (a .rows .now)) left)) (length (a .log .now)) (c .before .before .before .before .before .before .before .before .before .before .before .before .before .before .before .before .before .before .pre .0) (l .n) (l .at) (l .rows) (l .log) (l .g0 ∷ l .g1 ∷ l .g2 ∷ []) (l .inv .5 left) (c .before .before .before .before .before .before .before .before .before .loop-test .taken) (c .before .before .before .before .before .before .before .before .channel-walked .result) (c .before .before .before .before .before .before .before .before .channel-walked .ensures .0) (c .before .before .before .before .before .before .before .before .channel-walked .ensures .1) (c .before .before .before .before .before .order .result .now) (c .before .before .before .before .before .order .ensures) (l .inv .0)
+
+is-stopped-requires : tie.Need-is-stopped-requires Inv-loop μ-loop
 is-stopped-requires c κs = search needs
 
-same-length : tie.Need-same-length
-same-length c = search needs
+same-length : tie.Need-same-length Inv-loop μ-loop
+same-length c = c .before .before .before .before .before .before .before .before .before .log .given ∙ c .before .before .before .before .before .before .before .before .before .before .before .before .before .before .before .before .before .before .before .before .before .loop .inv .0
 
-same-length-2 : tie.Need-same-length-2
-same-length-2 c = search needs
+same-length-2 : tie.Need-same-length-2 Inv-loop μ-loop
+same-length-2 c = c .before .before .before .before .before .before .before .g0 .given ∙ c .before .before .before .before .before .before .before .before .before .before .before .before .before .before .before .before .before .before .before .before .before .loop .inv .1
 
-same-length-3 : tie.Need-same-length-3
-same-length-3 c = search needs
+same-length-3 : tie.Need-same-length-3 Inv-loop μ-loop
+same-length-3 c = c .before .before .before .before .before .g1 .given ∙ c .before .before .before .before .before .before .before .before .before .before .before .before .before .before .before .before .before .before .before .before .before .loop .inv .2
 
-same-length-4 : tie.Need-same-length-4
-same-length-4 c = search needs
+same-length-4 : tie.Need-same-length-4 Inv-loop μ-loop
+same-length-4 c = c .before .before .before .g2 .given ∙ c .before .before .before .before .before .before .before .before .before .before .before .before .before .before .before .before .before .before .before .before .before .loop .inv .3
 
-returns : tie.Need-returns
+returns : tie.Need-returns Inv-loop μ-loop
 returns c =
-    let a = c .before .before .before .before .before .before .before .before .before .before .before .before .before .before .before .before .before .before .before .before .before .before .before .before .before .before .args in
-    λ left. first-stop (a .width) (a .symbols .now) (a .shift) (a .clusters) (a .map .now) _ (itemBy (a .plan) (a .width) (a .store .now) 0 1) (ap (λ (o : List ℕ). inChannel 1 (itemAt (a .plan .at) (a .width) (getD (a .plan .contexts) 0 0) o)) (c .before .before .before .before .before .before .before .before .before .before .before .before .before .before .before .before .order .ensures)) _ _ (a .at + 192 * 2 ^ (a .plan .at .log)) _ _ _ _ (c .before .before .before .before .before .before .before .before .before .before .read-item .ensures (a .rows .now) (c .before .before .before .before .before .before .before .before .before .before .before .before .before .before .before .before .before .before .before .before .before .before .before .before .before .before .pre .1) refl left) (itemBy (a .plan) (a .width) (a .store .now) 1 0 ∷ itemBy (a .plan) (a .width) (a .store .now) 2 2 ∷ []) _ (sym (c .before .is-stopped .ensures) ∙ c .if1 .taken)
+    let a = c .before .before .before .before .before .before .before .before .before .before .before .before .before .before .before .before .before .before .before .before .before .before .before .before .before .before .before .before .before .args in
+    let l = c .before .before .before .before .before .before .before .before .before .before .before .before .before .before .before .before .before .before .before .before .before .loop in
+    let w = c .before .before .before .before .before .before .before .before .before .before .walk-channel in
+    let z = w .last .1 .1 .1 .1 .1 .1 .1 .1 .1 .1 .1 in
+    λ left. turn-stops (a .t1) (a .width) (a .clusters) (a .map .now) (a .store .now) (a .symbols .now) (a .at) (a .shift) (read (a .shift) (a .clusters) (a .map .now) (itemsBy (a .t1) (a .width) (a .store .now)) (going (drop (a .at) (a .symbols .now)) (a .at) (a .log .now) (a .g0 .now ∷ a .g1 .now ∷ a .g2 .now ∷ []) (cut (a .width) (a .rows .now)) left)) (length (a .log .now)) (c .before .before .before .before .before .before .before .before .before .before .before .before .before .before .before .before .before .before .before .before .before .before .before .before .before .before .before .before .before .pre .0) (l .n) (l .at) (l .rows) (l .log) (l .g0 ∷ l .g1 ∷ l .g2 ∷ []) (l .inv .5 left) (c .before .before .before .before .before .before .before .before .before .before .before .before .before .before .before .before .before .before .before .before .loop-test .taken) (c .before .before .before .before .before .before .before .before .before .before .before .before .before .before .before .before .before .before .before .channel-walked .result) (c .before .before .before .before .before .before .before .before .before .before .before .before .before .before .before .before .before .before .before .channel-walked .ensures .0) (c .before .before .before .before .before .before .before .before .before .before .before .before .before .before .before .before .before .before .before .channel-walked .ensures .1) (c .before .before .before .before .before .before .before .before .before .before .before .before .before .before .before .before .order .result .now) (c .before .before .before .before .before .before .before .before .before .before .before .before .before .before .before .before .order .ensures) (w .result) (z .0) (z .1 .0 ∷ z .1 .1 .0 ∷ z .1 .1 .1 .0 ∷ []) (w .ensures) (sym (c .before .is-stopped .ensures) ∙ c .if1 .taken) (a .at + 192 * 2 ^ (a .t1 .at .log)) (l .rows)
 
-symbols-read-requires : tie.Need-symbols-read-requires
+mul-wide : tie.Need-mul-wide Inv-loop μ-loop
+mul-wide c =
+    let a = c .before .before .before .before .before .before .before .before .before .before .before .before .before .before .before .before .before .before .before .before .before .before .before .before .before .before .before .before .before .args in
+    let l = c .before .before .before .before .before .before .before .before .before .before .before .before .before .before .before .before .before .before .before .before .before .loop in
+    let w = c .before .before .before .before .before .before .before .before .before .before .walk-channel in
+    let z = w .last .1 .1 .1 .1 .1 .1 .1 .1 .1 .1 .1 in
+    let left : ℕ = 0 in
+    let k = turn-count (a .t1) (a .width) (a .clusters) (a .map .now) (a .store .now) (a .symbols .now) (a .at) (a .shift) (read (a .shift) (a .clusters) (a .map .now) (itemsBy (a .t1) (a .width) (a .store .now)) (going (drop (a .at) (a .symbols .now)) (a .at) (a .log .now) (a .g0 .now ∷ a .g1 .now ∷ a .g2 .now ∷ []) (cut (a .width) (a .rows .now)) left)) (length (a .log .now)) (c .before .before .before .before .before .before .before .before .before .before .before .before .before .before .before .before .before .before .before .before .before .before .before .before .before .before .before .before .before .pre .0) (l .n) (l .at) (l .rows) (l .log) (l .g0 ∷ l .g1 ∷ l .g2 ∷ []) (l .inv .5 left) (c .before .before .before .before .before .before .before .before .before .before .before .before .before .before .before .before .before .before .before .before .loop-test .taken) (c .before .before .before .before .before .before .before .before .before .before .before .before .before .before .before .before .before .before .before .channel-walked .result) (c .before .before .before .before .before .before .before .before .before .before .before .before .before .before .before .before .before .before .before .channel-walked .ensures .0) (c .before .before .before .before .before .before .before .before .before .before .before .before .before .before .before .before .before .before .before .channel-walked .ensures .1) (c .before .before .before .before .before .before .before .before .before .before .before .before .before .before .before .before .order .result .now) (c .before .before .before .before .before .before .before .before .before .before .before .before .before .before .before .before .order .ensures) (w .result) (z .0) (z .1 .0 ∷ z .1 .1 .0 ∷ z .1 .1 .1 .0 ∷ []) (w .ensures) (sym (c .before .is-stopped .ensures) ∙ c .if1 .left) in
+    omega (arith, k .0, c .before .before .before .before .before .before .before .before .before .before .before .before .before .before .before .before .before .before .before .before .before .before .before .before .before .before .before .before .before .good, c .before .before .before .before .before .before .before .before .before .before .before .before .before .before .before .before .before .before .before .before .before .before .before .before .before .before .before .before .before .fits)
+
+shared-slice-read-wide : tie.Need-shared-slice-read-wide Inv-loop μ-loop
+shared-slice-read-wide c =
+    let a = c .before .before .before .before .before .before .before .before .before .before .before .before .before .before .before .before .before .before .before .before .before .before .before .before .before .before .before .before .before .before .args in
+    let l = c .before .before .before .before .before .before .before .before .before .before .before .before .before .before .before .before .before .before .before .before .before .before .loop in
+    let w = c .before .before .before .before .before .before .before .before .before .before .before .walk-channel in
+    let z = w .last .1 .1 .1 .1 .1 .1 .1 .1 .1 .1 .1 in
+    let left : ℕ = 0 in
+    turn-count (a .t1) (a .width) (a .clusters) (a .map .now) (a .store .now) (a .symbols .now) (a .at) (a .shift) (read (a .shift) (a .clusters) (a .map .now) (itemsBy (a .t1) (a .width) (a .store .now)) (going (drop (a .at) (a .symbols .now)) (a .at) (a .log .now) (a .g0 .now ∷ a .g1 .now ∷ a .g2 .now ∷ []) (cut (a .width) (a .rows .now)) left)) (length (a .log .now)) (c .before .before .before .before .before .before .before .before .before .before .before .before .before .before .before .before .before .before .before .before .before .before .before .before .before .before .before .before .before .before .pre .0) (l .n) (l .at) (l .rows) (l .log) (l .g0 ∷ l .g1 ∷ l .g2 ∷ []) (l .inv .5 left) (c .before .before .before .before .before .before .before .before .before .before .before .before .before .before .before .before .before .before .before .before .before .loop-test .taken) (c .before .before .before .before .before .before .before .before .before .before .before .before .before .before .before .before .before .before .before .before .channel-walked .result) (c .before .before .before .before .before .before .before .before .before .before .before .before .before .before .before .before .before .before .before .before .channel-walked .ensures .0) (c .before .before .before .before .before .before .before .before .before .before .before .before .before .before .before .before .before .before .before .before .channel-walked .ensures .1) (c .before .before .before .before .before .before .before .before .before .before .before .before .before .before .before .before .before .order .result .now) (c .before .before .before .before .before .before .before .before .before .before .before .before .before .before .before .before .before .order .ensures) (w .result) (z .0) (z .1 .0 ∷ z .1 .1 .0 ∷ z .1 .1 .1 .0 ∷ []) (w .ensures) (sym (c .before .before .is-stopped .ensures) ∙ c .before .if1 .left) .0
+
+wide-requires : tie.Need-wide-requires Inv-loop μ-loop
+wide-requires c κs = search needs
+
+count-over-requires : tie.Need-count-over-requires Inv-loop μ-loop
+count-over-requires c κs =
+    let a = c .before .before .before .before .before .before .before .before .before .before .before .before .before .before .before .before .before .before .before .before .before .before .before .before .before .before .before .before .before .before .before .args in
+    let l = c .before .before .before .before .before .before .before .before .before .before .before .before .before .before .before .before .before .before .before .before .before .before .before .loop in
+    let w = c .before .before .before .before .before .before .before .before .before .before .before .before .walk-channel in
+    let z = w .last .1 .1 .1 .1 .1 .1 .1 .1 .1 .1 .1 in
+    let left : ℕ = 0 in
+    (c .before .before .before .before .before .before .before .before .before .before .before .before .before .before .before .before .before .before .before .before .before .before .before .before .before .before .before .before .before .before .before .pre .0 .power, rw (c .wide .ensures) (turn-count (a .t1) (a .width) (a .clusters) (a .map .now) (a .store .now) (a .symbols .now) (a .at) (a .shift) (read (a .shift) (a .clusters) (a .map .now) (itemsBy (a .t1) (a .width) (a .store .now)) (going (drop (a .at) (a .symbols .now)) (a .at) (a .log .now) (a .g0 .now ∷ a .g1 .now ∷ a .g2 .now ∷ []) (cut (a .width) (a .rows .now)) left)) (length (a .log .now)) (c .before .before .before .before .before .before .before .before .before .before .before .before .before .before .before .before .before .before .before .before .before .before .before .before .before .before .before .before .before .before .before .pre .0) (l .n) (l .at) (l .rows) (l .log) (l .g0 ∷ l .g1 ∷ l .g2 ∷ []) (l .inv .5 left) (c .before .before .before .before .before .before .before .before .before .before .before .before .before .before .before .before .before .before .before .before .before .before .loop-test .taken) (c .before .before .before .before .before .before .before .before .before .before .before .before .before .before .before .before .before .before .before .before .before .channel-walked .result) (c .before .before .before .before .before .before .before .before .before .before .before .before .before .before .before .before .before .before .before .before .before .channel-walked .ensures .0) (c .before .before .before .before .before .before .before .before .before .before .before .before .before .before .before .before .before .before .before .before .before .channel-walked .ensures .1) (c .before .before .before .before .before .before .before .before .before .before .before .before .before .before .before .before .before .before .order .result .now) (c .before .before .before .before .before .before .before .before .before .before .before .before .before .before .before .before .before .before .order .ensures) (w .result) (z .0) (z .1 .0 ∷ z .1 .1 .0 ∷ z .1 .1 .1 .0 ∷ []) (w .ensures) (sym (c .before .before .before .is-stopped .ensures) ∙ c .before .before .if1 .left) .1))
+
+mul-rewrite : tie.Need-mul-rewrite Inv-loop μ-loop
+mul-rewrite c = let k = c .before .before .before .before .before .before .before .before .before .before .before .before .before .before .before .before .before .before .before .before .before .before .channel-walked .ensures .0 in search needs
+
+index-1-rewrite : tie.Need-index-1-rewrite Inv-loop μ-loop
+index-1-rewrite c = c .before .before .before .before .before .before .before .before .before .before .before .before .before .before .before .before .before .before .before .before .before .before .channel-walked .ensures .0
+
+rewrite-requires : tie.Need-rewrite-requires Inv-loop μ-loop
+rewrite-requires c κs = c .before .before .before .before .before .before .before .before .before .before .before .before .before .before .before .before .before .before .before .before .before .before .before .before .before .before .before .before .before .before .before .before .before .pre .0 .span
+
+symbols-read-requires : tie.Need-symbols-read-requires Inv-loop μ-loop
 symbols-read-requires c κs = search needs
 
-array-read-read-item-2 : tie.Need-array-read-read-item-2
-array-read-read-item-2 c = search needs
+add-n : tie.Need-add-n Inv-loop μ-loop
+add-n c = search needs
 
-order-requires-2 : tie.Need-order-requires-2
-order-requires-2 c κs = search needs
+loop-less : tie.Need-loop-less Inv-loop μ-loop
+loop-less c = search needs
 
-index-1-read-item-2 : tie.Need-index-1-read-item-2
-index-1-read-item-2 c = search needs
+loop-again : tie.Need-loop-again Inv-loop μ-loop
+loop-again c =
+    let a = c .before .before .before .before .before .before .before .before .before .before .before .before .before .before .before .before .before .before .before .before .before .before .before .before .before .before .before .before .before .before .before .before .before .before .before .args in
+    let l = c .before .before .before .before .before .before .before .before .before .before .before .before .before .before .before .before .before .before .before .before .before .before .before .before .before .before .before .loop in
+    let w = c .before .before .before .before .before .before .before .before .before .before .before .before .before .before .before .before .walk-channel in
+    let z = w .last .1 .1 .1 .1 .1 .1 .1 .1 .1 .1 .1 in (
+      c .before .before .before .before .before .before .before .before .before .before .before .before .before .before .before .log .given ∙ l .inv .0,
+      c .before .before .before .before .before .before .before .before .before .before .before .before .before .g0 .given ∙ l .inv .1,
+      c .before .before .before .before .before .before .before .before .before .before .before .g1 .given ∙ l .inv .2,
+      c .before .before .before .before .before .before .before .before .before .g2 .given ∙ l .inv .3,
+      omega (arith, c .before .before .before .before .before .before .before .before .before .before .before .before .before .before .before .before .before .before .before .before .before .before .before .before .before .before .loop-test .taken),
+      λ left. turn-goes (a .t1) (a .width) (a .clusters) (a .map .now) (a .store .now) (a .symbols .now) (a .at) (a .shift) (read (a .shift) (a .clusters) (a .map .now) (itemsBy (a .t1) (a .width) (a .store .now)) (going (drop (a .at) (a .symbols .now)) (a .at) (a .log .now) (a .g0 .now ∷ a .g1 .now ∷ a .g2 .now ∷ []) (cut (a .width) (a .rows .now)) left)) (length (a .log .now)) (c .before .before .before .before .before .before .before .before .before .before .before .before .before .before .before .before .before .before .before .before .before .before .before .before .before .before .before .before .before .before .before .before .before .before .before .pre .0) (l .n) (l .at) (l .rows) (l .log) (l .g0 ∷ l .g1 ∷ l .g2 ∷ []) (l .inv .5 left) (c .before .before .before .before .before .before .before .before .before .before .before .before .before .before .before .before .before .before .before .before .before .before .before .before .before .before .loop-test .taken) (c .before .before .before .before .before .before .before .before .before .before .before .before .before .before .before .before .before .before .before .before .before .before .before .before .before .channel-walked .result) (c .before .before .before .before .before .before .before .before .before .before .before .before .before .before .before .before .before .before .before .before .before .before .before .before .before .channel-walked .ensures .0) (c .before .before .before .before .before .before .before .before .before .before .before .before .before .before .before .before .before .before .before .before .before .before .before .before .before .channel-walked .ensures .1) (c .before .before .before .before .before .before .before .before .before .before .before .before .before .before .before .before .before .before .before .before .before .before .order .result .now) (c .before .before .before .before .before .before .before .before .before .before .before .before .before .before .before .before .before .before .before .before .before .before .order .ensures) (w .result) (z .0) (z .1 .0 ∷ z .1 .1 .0 ∷ z .1 .1 .1 .0 ∷ []) (w .ensures) (sym (c .before .before .before .before .before .before .before .is-stopped .ensures) ∙ c .before .before .before .before .before .before .if1 .left) (c .symbols-read .result) _ (c .symbols-read .ensures) (ap (set (l .rows) (c .before .before .before .before .before .before .before .before .before .before .before .before .before .before .before .before .before .before .before .before .before .before .before .before .before .channel-walked .result)) (c .before .rewrite .ensures ∙ ap (rowOf (getD (l .rows) (c .before .before .before .before .before .before .before .before .before .before .before .before .before .before .before .before .before .before .before .before .before .before .before .before .before .channel-walked .result) []) (a .t1 .at .x) (a .t1 .at .wide)) (c .before .before .before .count-over .ensures ∙ ap (λ (k : ℕ). countOver k (2 ^ (a .t1 .at .log))) (c .before .before .before .before .wide .ensures)))),
+    )
 
-read-item-requires-2 : tie.Need-read-item-requires-2
-read-item-requires-2 c κs =
-    let a = c .before .before .before .before .before .before .before .before .before .before .before .before .before .before .before .before .before .before .before .before .before .before .before .before .before .before .before .before .before .before .before .before .before .args in
-    let o1 = shown-on (a .width) (a .symbols .now) (a .at + 64 * 2 ^ (a .plan .at .log)) _ _ _ _ _ (c .before .before .before .before .before .before .before .before .before .before .before .before .before .before .before .before .before .read-item .ensures (a .rows .now) (c .before .before .before .before .before .before .before .before .before .before .before .before .before .before .before .before .before .before .before .before .before .before .before .before .before .before .before .before .before .before .before .before .before .pre .1) refl 0) (sym (c .before .before .before .before .before .before .before .before .is-stopped .ensures) ∙ c .before .before .before .before .before .before .before .if1 .left) in
-    let q : c .before .before .before .before .before .before .symbols-read .result ≡ readBy (c .before .before .before .before .before .before .before .before .before .before .before .before .before .before .before .before .before .read-item .result .walk) = c .before .before .before .before .before .before .symbols-read .ensures in
-    let b : readBy (c .before .before .before .before .before .before .before .before .before .before .before .before .before .before .before .before .before .read-item .result .walk) ≤ length (a .symbols .now) = o1 .begins in
-    let m : readBy (c .before .before .before .before .before .before .before .before .before .before .before .before .before .before .before .before .before .read-item .result .walk) ≤ a .at + 64 * 2 ^ (a .plan .at .log) = o1 .few in
-    item-asks (a .plan) (a .width) (a .clusters) (a .map .now) (a .store .now) (length (a .symbols .now)) (a .at) (a .shift) (length (a .log .now)) (c .before .before .before .before .before .before .before .before .before .before .before .before .before .before .before .before .before .before .before .before .before .before .before .before .before .before .before .before .before .before .before .before .before .pre .0) 1 0 (c .before .before .before .before .before .before .symbols-read .result) _ _ (omega arith) (omega arith) (omega arith) (omega arith) (c .before .before .before .before .before .order2 .ensures)
-    (c .before .before .before .before .before .before .before .before .before .before .before .before .before .before .before .before .log .given)
+same-length-5 : tie.Need-same-length-5 Inv-loop μ-loop
+same-length-5 c = search needs
 
-is-stopped-requires-2 : tie.Need-is-stopped-requires-2
-is-stopped-requires-2 c κs = search needs
+same-length-6 : tie.Need-same-length-6 Inv-loop μ-loop
+same-length-6 c = search needs
 
-same-length-5 : tie.Need-same-length-5
-same-length-5 c = c .before .before .before .before .before .before .before .before .before .log2 .given ∙ c .before .before .before .before .before .before .before .before .before .before .before .before .before .before .before .before .before .before .before .before .before .before .before .before .before .before .before .log .given
+same-length-7 : tie.Need-same-length-7 Inv-loop μ-loop
+same-length-7 c = search needs
 
-same-length-6 : tie.Need-same-length-6
-same-length-6 c = c .before .before .before .before .before .before .before .g02 .given ∙ c .before .before .before .before .before .before .before .before .before .before .before .before .before .before .before .before .before .before .before .before .before .before .before .before .before .g0 .given
+same-length-8 : tie.Need-same-length-8 Inv-loop μ-loop
+same-length-8 c = search needs
 
-same-length-7 : tie.Need-same-length-7
-same-length-7 c = c .before .before .before .before .before .g12 .given ∙ c .before .before .before .before .before .before .before .before .before .before .before .before .before .before .before .before .before .before .before .before .before .before .before .g1 .given
-
-same-length-8 : tie.Need-same-length-8
-same-length-8 c = c .before .before .before .g22 .given ∙ c .before .before .before .before .before .before .before .before .before .before .before .before .before .before .before .before .before .before .before .before .before .g2 .given
-
-returns-2 : tie.Need-returns-2
+returns-2 : tie.Need-returns-2 Inv-loop μ-loop
 returns-2 c =
-    let a = c .before .before .before .before .before .before .before .before .before .before .before .before .before .before .before .before .before .before .before .before .before .before .before .before .before .before .before .before .before .before .before .before .before .before .before .before .before .before .before .before .before .before .before .before .args in
-    let s1 = c .before .before .before .before .before .before .before .before .before .before .before .before .before .before .before .before .before .before .before .before .before .before .before .before .before .before .before .before .read-item .ensures (a .rows .now) (c .before .before .before .before .before .before .before .before .before .before .before .before .before .before .before .before .before .before .before .before .before .before .before .before .before .before .before .before .before .before .before .before .before .before .before .before .before .before .before .before .before .before .before .before .pre .1) refl in
-    let go = sym (c .before .before .before .before .before .before .before .before .before .before .before .before .before .before .before .before .before .before .before .is-stopped .ensures) ∙ c .before .before .before .before .before .before .before .before .before .before .before .before .before .before .before .before .before .before .if1 .left in
-    let o1 = shown-on (a .width) (a .symbols .now) (a .at + 64 * 2 ^ (a .plan .at .log)) _ _ _ _ _ (s1 0) go in
-    λ left. first-then (a .width) (a .symbols .now) (a .shift) (a .clusters) (a .map .now) _ (itemBy (a .plan) (a .width) (a .store .now) 0 1) (ap (λ (o : List ℕ). inChannel 1 (itemAt (a .plan .at) (a .width) (getD (a .plan .contexts) 0 0) o)) (c .before .before .before .before .before .before .before .before .before .before .before .before .before .before .before .before .before .before .before .before .before .before .before .before .before .before .before .before .before .before .before .before .before .before .order .ensures)) _ _ (a .at + 192 * 2 ^ (a .plan .at .log)) _ _ _ _ (s1 left) (itemBy (a .plan) (a .width) (a .store .now) 1 0 ∷ itemBy (a .plan) (a .width) (a .store .now) 2 2 ∷ []) _ _ _ _ go
-    (λ l. rw (← (c .before .before .before .before .before .before .before .before .before .before .before .before .before .before .before .before .before .symbols-read .ensures)) (first-stop (a .width) (a .symbols .now) (a .shift) (a .clusters) (a .map .now) _ (itemBy (a .plan) (a .width) (a .store .now) 1 0) (ap (λ (o : List ℕ). inChannel 0 (itemAt (a .plan .at) (a .width) (getD (a .plan .contexts) 1 0) o)) (c .before .before .before .before .before .before .before .before .before .before .before .before .before .before .before .before .order2 .ensures)) _ _ (a .at + 192 * 2 ^ (a .plan .at .log)) _ _ _ _ (c .before .before .before .before .before .before .before .before .before .before .read-item2 .ensures (rowBy (a .rows .now) 1 (a .plan .at .x) (a .plan .at .wide) (c .before .before .before .before .before .before .before .before .before .before .before .before .before .before .before .before .before .before .before .before .before .before .before .before .before .before .before .before .read-item .result .count)) (o1 .fine) (row-kept (a .rows .now) 1 0 (a .plan .at .x) (a .plan .at .wide) (c .before .before .before .before .before .before .before .before .before .before .before .before .before .before .before .before .before .before .before .before .before .before .before .before .before .before .before .before .read-item .result .count) (omega arith)) l) (itemBy (a .plan) (a .width) (a .store .now) 2 2 ∷ []) _ (sym (c .before .is-stopped2 .ensures) ∙ c .if2 .taken)))
-
-symbols-read-requires-2 : tie.Need-symbols-read-requires-2
-symbols-read-requires-2 c κs = search needs
-
-array-read-read-item-3 : tie.Need-array-read-read-item-3
-array-read-read-item-3 c = search needs
-
-order-requires-3 : tie.Need-order-requires-3
-order-requires-3 c κs = search needs
-
-index-1-read-item-3 : tie.Need-index-1-read-item-3
-index-1-read-item-3 c = search needs
-
-read-item-requires-3 : tie.Need-read-item-requires-3
-read-item-requires-3 c κs =
-    let a = c .before .before .before .before .before .before .before .before .before .before .before .before .before .before .before .before .before .before .before .before .before .before .before .before .before .before .before .before .before .before .before .before .before .before .before .before .before .before .before .before .before .before .before .before .before .before .before .before .before .before .before .args in
-    let o1 = shown-on (a .width) (a .symbols .now) (a .at + 64 * 2 ^ (a .plan .at .log)) _ _ _ _ _ (c .before .before .before .before .before .before .before .before .before .before .before .before .before .before .before .before .before .before .before .before .before .before .before .before .before .before .before .before .before .before .before .before .before .before .before .read-item .ensures (a .rows .now) (c .before .before .before .before .before .before .before .before .before .before .before .before .before .before .before .before .before .before .before .before .before .before .before .before .before .before .before .before .before .before .before .before .before .before .before .before .before .before .before .before .before .before .before .before .before .before .before .before .before .before .before .pre .1) refl 0) (sym (c .before .before .before .before .before .before .before .before .before .before .before .before .before .before .before .before .before .before .before .before .before .before .before .before .before .before .is-stopped .ensures) ∙ c .before .before .before .before .before .before .before .before .before .before .before .before .before .before .before .before .before .before .before .before .before .before .before .before .before .if1 .left) in
-    let o2 = shown-on (a .width) (a .symbols .now) (c .before .before .before .before .before .before .before .before .before .before .before .before .before .before .before .before .before .before .before .before .before .before .before .before .symbols-read .result + 64 * 2 ^ (a .plan .at .log)) _ _ _ _ _ (c .before .before .before .before .before .before .before .before .before .before .before .before .before .before .before .before .before .read-item2 .ensures (rowBy (a .rows .now) 1 (a .plan .at .x) (a .plan .at .wide) (c .before .before .before .before .before .before .before .before .before .before .before .before .before .before .before .before .before .before .before .before .before .before .before .before .before .before .before .before .before .before .before .before .before .before .before .read-item .result .count)) (o1 .fine) (row-kept (a .rows .now) 1 0 (a .plan .at .x) (a .plan .at .wide) (c .before .before .before .before .before .before .before .before .before .before .before .before .before .before .before .before .before .before .before .before .before .before .before .before .before .before .before .before .before .before .before .before .before .before .before .read-item .result .count) (omega arith)) 0) (sym (c .before .before .before .before .before .before .before .before .is-stopped2 .ensures) ∙ c .before .before .before .before .before .before .before .if2 .left) in
-    let q : c .before .before .before .before .before .before .before .before .before .before .before .before .before .before .before .before .before .before .before .before .before .before .before .before .symbols-read .result ≡ readBy (c .before .before .before .before .before .before .before .before .before .before .before .before .before .before .before .before .before .before .before .before .before .before .before .before .before .before .before .before .before .before .before .before .before .before .before .read-item .result .walk) = c .before .before .before .before .before .before .before .before .before .before .before .before .before .before .before .before .before .before .before .before .before .before .before .before .symbols-read .ensures in
-    let q2 : c .before .before .before .before .before .before .symbols-read2 .result ≡ readBy (c .before .before .before .before .before .before .before .before .before .before .before .before .before .before .before .before .before .read-item2 .result .walk) = c .before .before .before .before .before .before .symbols-read2 .ensures in
-    let b : readBy (c .before .before .before .before .before .before .before .before .before .before .before .before .before .before .before .before .before .read-item2 .result .walk) ≤ length (a .symbols .now) = o2 .begins in
-    let m : readBy (c .before .before .before .before .before .before .before .before .before .before .before .before .before .before .before .before .before .before .before .before .before .before .before .before .before .before .before .before .before .before .before .before .before .before .before .read-item .result .walk) ≤ a .at + 64 * 2 ^ (a .plan .at .log) = o1 .few in
-    let m2 : readBy (c .before .before .before .before .before .before .before .before .before .before .before .before .before .before .before .before .before .read-item2 .result .walk) ≤ c .before .before .before .before .before .before .before .before .before .before .before .before .before .before .before .before .before .before .before .before .before .before .before .before .symbols-read .result + 64 * 2 ^ (a .plan .at .log) = o2 .few in
-    item-asks (a .plan) (a .width) (a .clusters) (a .map .now) (a .store .now) (length (a .symbols .now)) (a .at) (a .shift) (length (a .log .now)) (c .before .before .before .before .before .before .before .before .before .before .before .before .before .before .before .before .before .before .before .before .before .before .before .before .before .before .before .before .before .before .before .before .before .before .before .before .before .before .before .before .before .before .before .before .before .before .before .before .before .before .before .pre .0) 2 2 (c .before .before .before .before .before .before .symbols-read2 .result) _ _ (omega arith) (omega arith) (omega arith) (omega arith) (c .before .before .before .before .before .order3 .ensures)
-    (c .before .before .before .before .before .before .before .before .before .before .before .before .before .before .before .before .log2 .given ∙ c .before .before .before .before .before .before .before .before .before .before .before .before .before .before .before .before .before .before .before .before .before .before .before .before .before .before .before .before .before .before .before .before .before .before .log .given)
-
-same-length-9 : tie.Need-same-length-9
-same-length-9 c = c .before .before .before .before .before .before .before .log3 .given ∙ c .before .before .before .before .before .before .before .before .before .before .before .before .before .before .before .before .before .before .before .before .before .before .before .before .before .log2 .given ∙ c .before .before .before .before .before .before .before .before .before .before .before .before .before .before .before .before .before .before .before .before .before .before .before .before .before .before .before .before .before .before .before .before .before .before .before .before .before .before .before .before .before .before .before .log .given
-
-same-length-10 : tie.Need-same-length-10
-same-length-10 c = c .before .before .before .before .before .g03 .given ∙ c .before .before .before .before .before .before .before .before .before .before .before .before .before .before .before .before .before .before .before .before .before .before .before .g02 .given ∙ c .before .before .before .before .before .before .before .before .before .before .before .before .before .before .before .before .before .before .before .before .before .before .before .before .before .before .before .before .before .before .before .before .before .before .before .before .before .before .before .before .before .g0 .given
-
-same-length-11 : tie.Need-same-length-11
-same-length-11 c = c .before .before .before .g13 .given ∙ c .before .before .before .before .before .before .before .before .before .before .before .before .before .before .before .before .before .before .before .before .before .g12 .given ∙ c .before .before .before .before .before .before .before .before .before .before .before .before .before .before .before .before .before .before .before .before .before .before .before .before .before .before .before .before .before .before .before .before .before .before .before .before .before .before .before .g1 .given
-
-same-length-12 : tie.Need-same-length-12
-same-length-12 c = c .before .g23 .given ∙ c .before .before .before .before .before .before .before .before .before .before .before .before .before .before .before .before .before .before .before .g22 .given ∙ c .before .before .before .before .before .before .before .before .before .before .before .before .before .before .before .before .before .before .before .before .before .before .before .before .before .before .before .before .before .before .before .before .before .before .before .before .before .g2 .given
-
-returns-3 : tie.Need-returns-3
-returns-3 c =
-    let a = c .before .before .before .before .before .before .before .before .before .before .before .before .before .before .before .before .before .before .before .before .before .before .before .before .before .before .before .before .before .before .before .before .before .before .before .before .before .before .before .before .before .before .before .before .before .before .before .before .before .before .before .before .before .before .before .before .before .before .before .before .args in
-    let s1 = c .before .before .before .before .before .before .before .before .before .before .before .before .before .before .before .before .before .before .before .before .before .before .before .before .before .before .before .before .before .before .before .before .before .before .before .before .before .before .before .before .before .before .before .before .read-item .ensures (a .rows .now) (c .before .before .before .before .before .before .before .before .before .before .before .before .before .before .before .before .before .before .before .before .before .before .before .before .before .before .before .before .before .before .before .before .before .before .before .before .before .before .before .before .before .before .before .before .before .before .before .before .before .before .before .before .before .before .before .before .before .before .before .before .pre .1) refl in
-    let go1 = sym (c .before .before .before .before .before .before .before .before .before .before .before .before .before .before .before .before .before .before .before .before .before .before .before .before .before .before .before .before .before .before .before .before .before .before .before .is-stopped .ensures) ∙ c .before .before .before .before .before .before .before .before .before .before .before .before .before .before .before .before .before .before .before .before .before .before .before .before .before .before .before .before .before .before .before .before .before .before .if1 .left in
-    let o1 = shown-on (a .width) (a .symbols .now) (a .at + 64 * 2 ^ (a .plan .at .log)) _ _ _ _ _ (s1 0) go1 in
-    let s2 = c .before .before .before .before .before .before .before .before .before .before .before .before .before .before .before .before .before .before .before .before .before .before .before .before .before .before .read-item2 .ensures (rowBy (a .rows .now) 1 (a .plan .at .x) (a .plan .at .wide) (c .before .before .before .before .before .before .before .before .before .before .before .before .before .before .before .before .before .before .before .before .before .before .before .before .before .before .before .before .before .before .before .before .before .before .before .before .before .before .before .before .before .before .before .before .read-item .result .count)) (o1 .fine) (row-kept (a .rows .now) 1 0 (a .plan .at .x) (a .plan .at .wide) (c .before .before .before .before .before .before .before .before .before .before .before .before .before .before .before .before .before .before .before .before .before .before .before .before .before .before .before .before .before .before .before .before .before .before .before .before .before .before .before .before .before .before .before .before .read-item .result .count) (omega arith)) in
-    let go2 = sym (c .before .before .before .before .before .before .before .before .before .before .before .before .before .before .before .before .before .is-stopped2 .ensures) ∙ c .before .before .before .before .before .before .before .before .before .before .before .before .before .before .before .before .if2 .left in
-    let o2 = shown-on (a .width) (a .symbols .now) (c .before .before .before .before .before .before .before .before .before .before .before .before .before .before .before .before .before .before .before .before .before .before .before .before .before .before .before .before .before .before .before .before .before .symbols-read .result + 64 * 2 ^ (a .plan .at .log)) _ _ _ _ _ (s2 0) go2 in
-    let s3 = c .before .before .before .before .before .before .before .before .read-item3 .ensures (rowBy (rowBy (a .rows .now) 1 (a .plan .at .x) (a .plan .at .wide) (c .before .before .before .before .before .before .before .before .before .before .before .before .before .before .before .before .before .before .before .before .before .before .before .before .before .before .before .before .before .before .before .before .before .before .before .before .before .before .before .before .before .before .before .before .read-item .result .count)) 0 (a .plan .at .x) (a .plan .at .wide) (c .before .before .before .before .before .before .before .before .before .before .before .before .before .before .before .before .before .before .before .before .before .before .before .before .before .before .read-item2 .result .count)) (o2 .fine) (row-kept (rowBy (a .rows .now) 1 (a .plan .at .x) (a .plan .at .wide) (c .before .before .before .before .before .before .before .before .before .before .before .before .before .before .before .before .before .before .before .before .before .before .before .before .before .before .before .before .before .before .before .before .before .before .before .before .before .before .before .before .before .before .before .before .read-item .result .count)) 0 2 (a .plan .at .x) (a .plan .at .wide) (c .before .before .before .before .before .before .before .before .before .before .before .before .before .before .before .before .before .before .before .before .before .before .before .before .before .before .read-item2 .result .count) (omega arith) ∙ row-kept (a .rows .now) 1 2 (a .plan .at .x) (a .plan .at .wide) (c .before .before .before .before .before .before .before .before .before .before .before .before .before .before .before .before .before .before .before .before .before .before .before .before .before .before .before .before .before .before .before .before .before .before .before .before .before .before .before .before .before .before .before .before .read-item .result .count) (omega arith)) in
-    let q : c .before .before .before .before .before .before .before .before .before .before .before .before .before .before .before .before .before .before .before .before .before .before .before .before .before .before .before .before .before .before .before .before .before .symbols-read .result ≡ readBy (c .before .before .before .before .before .before .before .before .before .before .before .before .before .before .before .before .before .before .before .before .before .before .before .before .before .before .before .before .before .before .before .before .before .before .before .before .before .before .before .before .before .before .before .before .read-item .result .walk) = c .before .before .before .before .before .before .before .before .before .before .before .before .before .before .before .before .before .before .before .before .before .before .before .before .before .before .before .before .before .before .before .before .before .symbols-read .ensures in
-    let q2 : c .before .before .before .before .before .before .before .before .before .before .before .before .before .before .before .symbols-read2 .result ≡ readBy (c .before .before .before .before .before .before .before .before .before .before .before .before .before .before .before .before .before .before .before .before .before .before .before .before .before .before .read-item2 .result .walk) = c .before .before .before .before .before .before .before .before .before .before .before .before .before .before .before .symbols-read2 .ensures in
-    let m : readBy (c .before .before .before .before .before .before .before .before .before .before .before .before .before .before .before .before .before .before .before .before .before .before .before .before .before .before .before .before .before .before .before .before .before .before .before .before .before .before .before .before .before .before .before .before .read-item .result .walk) ≤ a .at + 64 * 2 ^ (a .plan .at .log) = o1 .few in
-    let m2 : readBy (c .before .before .before .before .before .before .before .before .before .before .before .before .before .before .before .before .before .before .before .before .before .before .before .before .before .before .read-item2 .result .walk) ≤ c .before .before .before .before .before .before .before .before .before .before .before .before .before .before .before .before .before .before .before .before .before .before .before .before .before .before .before .before .before .before .before .before .before .symbols-read .result + 64 * 2 ^ (a .plan .at .log) = o2 .few in
-    λ left. three-shown (a .width) (a .symbols .now) (a .shift) (a .clusters) (a .map .now) _ _ _ _ _ _ _ _ _ _ _ _ _ _ _ _ _ _ _ _ _ _ _ _ _ _ _ _
-    (ap (λ (o : List ℕ). inChannel 1 (itemAt (a .plan .at) (a .width) (getD (a .plan .contexts) 0 0) o)) (c .before .before .before .before .before .before .before .before .before .before .before .before .before .before .before .before .before .before .before .before .before .before .before .before .before .before .before .before .before .before .before .before .before .before .before .before .before .before .before .before .before .before .before .before .before .before .before .before .before .before .order .ensures)) (ap (λ (o : List ℕ). inChannel 0 (itemAt (a .plan .at) (a .width) (getD (a .plan .contexts) 1 0) o)) (c .before .before .before .before .before .before .before .before .before .before .before .before .before .before .before .before .before .before .before .before .before .before .before .before .before .before .before .before .before .before .before .before .order2 .ensures)) (ap (λ (o : List ℕ). inChannel 2 (itemAt (a .plan .at) (a .width) (getD (a .plan .contexts) 2 0) o)) (c .before .before .before .before .before .before .before .before .before .before .before .before .before .before .order3 .ensures))
-    (c .before .before .before .before .before .before .before .before .before .before .before .before .before .before .before .before .before .before .before .before .before .before .before .before .before .before .before .before .before .before .before .before .before .symbols-read .ensures) refl (c .before .before .before .before .before .before .before .before .before .before .before .before .before .before .before .symbols-read2 .ensures) refl refl
-    go1 go2 (three-most (a .at) (c .before .before .before .before .before .before .before .before .before .before .before .before .before .before .before .before .before .before .before .before .before .before .before .before .before .before .before .before .before .before .before .before .before .symbols-read .result) (c .before .before .before .before .before .before .before .before .before .before .before .before .before .before .before .symbols-read2 .result) (2 ^ (a .plan .at .log)) (omega arith) (omega arith))
-    (s1 left) s2 s3
+    let a = c .before .before .before .before .before .before .before .before .before .args in
+    let l = c .before .loop in
+    λ left. turns-end (a .t1) (a .width) (a .clusters) (a .map .now) (a .store .now) (a .symbols .now) (a .at) (a .shift) (read (a .shift) (a .clusters) (a .map .now) (itemsBy (a .t1) (a .width) (a .store .now)) (going (drop (a .at) (a .symbols .now)) (a .at) (a .log .now) (a .g0 .now ∷ a .g1 .now ∷ a .g2 .now ∷ []) (cut (a .width) (a .rows .now)) left)) (l .n) (l .at) (l .rows) (l .log) (l .g0 ∷ l .g1 ∷ l .g2 ∷ []) (l .inv .5 left) (omega (arith, l .inv .4))
 
 pub read-varblock-spec : {M : Type 1} → statement M
 read-varblock-spec =
     tie.close
     (tie.spec
-    array-read-read-item
+    Inv-loop
+    μ-loop
+    loop-holds
+    channel-walked-requires
+    mul-walk-channel
+    element-copy-out-walk-channel
     order-requires
-    index-1-read-item
-    read-item-requires
+    mul-walk-channel-2
+    index-1-walk-channel
+    walk-channel-requires
     is-stopped-requires
     same-length
     same-length-2
     same-length-3
     same-length-4
     returns
+    mul-wide
+    shared-slice-read-wide
+    wide-requires
+    count-over-requires
+    mul-rewrite
+    index-1-rewrite
+    rewrite-requires
     symbols-read-requires
-    array-read-read-item-2
-    order-requires-2
-    index-1-read-item-2
-    read-item-requires-2
-    is-stopped-requires-2
+    add-n
+    loop-less
+    loop-again
     same-length-5
     same-length-6
     same-length-7
     same-length-8
-    returns-2
-    symbols-read-requires-2
-    array-read-read-item-3
-    order-requires-3
-    index-1-read-item-3
-    read-item-requires-3
-    same-length-9
-    same-length-10
-    same-length-11
-    same-length-12
-    returns-3)
+    returns-2)

@@ -1,70 +1,68 @@
-use mathlib.Core.Path.{refl, _≡_, _∙_, ap, sym}
+use mathlib.Core.Path.{refl, _≡_, _∙_, sym}
 use mathlib.Core.List.{[], _∷_}
 use native.Mathlib.Nat.{mul-le-mul}
 use lib.Arith.{digits-lt}
-use Rattle.layout.specs.Varblocks.{cornersRow}
-use Rattle.hf_coeff_group.specs.declared.plan.Plan.{Plan}
 use Rattle.hf_coeff_group.specs.Group.{Reading}
-use Rattle.hf_coeff_group.specs.Plans.{itemsBy}
-use Rattle.hf_coeff_group.specs.Due.{passOf, K, M, Due, rowFrom, rowsFrom, wholeOf, due-start, due-row, due-next, due-skip, due-corner, room-of, due-step, due-stop, due-end, plan-ready, items-are, known, right, few-is}
+use Rattle.hf_coeff_group.specs.Work.{passWith}
+use Rattle.hf_coeff_group.specs.Due.{Due, rowFrom, rowsFrom, wholeOf, due-start, due-row, due-next, due-skip, due-end, corner-asks, corner-stop, corner-step}
 use borrow.Author.Needs.{needs}
 use native.Mathlib.Omega.{arith}
-use Prim.Native.Nat.{_≤_, _<_, _-_, _+_, _*_}
+use Prim.Native.Nat.{_≤_, _-_, _+_, _*_}
 use lib.ListN.{length}
 use Rattle.hf_coeff.proofs.group.read_group.Statement.{statement}
 use Rattle.hf_coeff.proofs.group.read_group.Tie as tie
 
 abbrev Inv-loop2 : tie.InvT-loop2
-Inv-loop2 width height kinds muls clusters lengths lf-thresholds qf-thresholds block-ctx-map lf-there lf0 lf1 lf2 store map shift symbols log₀ g0₀ g1₀ g2₀ rows₀ at₀ y x₀ log g0 g1 g2 rows at x =
+Inv-loop2 width height kinds muls lf-there lf0 lf1 lf2 store map shift symbols log₀ g0₀ g1₀ g2₀ contexts clusters lengths rows₀ at₀ y x₀ log g0 g1 g2 rows at x =
     (length log ≡ length log₀)
     × (length g0 ≡ length g0₀)
     × (length g1 ≡ length g1₀)
     × (length g2 ≡ length g2₀)
     × (x ≤ width)
-    × ((whole : Reading) → Due shift clusters map (passOf width height kinds muls clusters lengths lf-thresholds qf-thresholds block-ctx-map lf-there lf0 lf1 lf2 store) symbols (192 * (width * height)) whole (rowFrom (passOf width height kinds muls clusters lengths lf-thresholds qf-thresholds block-ctx-map lf-there lf0 lf1 lf2 store) x₀ y) at₀ rows₀ log₀ (g0₀ ∷ g1₀ ∷ g2₀ ∷ [])
-    → Due shift clusters map (passOf width height kinds muls clusters lengths lf-thresholds qf-thresholds block-ctx-map lf-there lf0 lf1 lf2 store) symbols (192 * (width * height)) whole (rowFrom (passOf width height kinds muls clusters lengths lf-thresholds qf-thresholds block-ctx-map lf-there lf0 lf1 lf2 store) x y) at rows log (g0 ∷ g1 ∷ g2 ∷ []))
+    × ((whole : Reading) → Due shift (contexts .«num_block_clusters») map (passWith width height kinds muls contexts lf-there lf0 lf1 lf2 store) symbols (192 * (width * height)) whole (rowFrom (passWith width height kinds muls contexts lf-there lf0 lf1 lf2 store) x₀ y) at₀ rows₀ log₀ (g0₀ ∷ g1₀ ∷ g2₀ ∷ [])
+    → Due shift (contexts .«num_block_clusters») map (passWith width height kinds muls contexts lf-there lf0 lf1 lf2 store) symbols (192 * (width * height)) whole (rowFrom (passWith width height kinds muls contexts lf-there lf0 lf1 lf2 store) x y) at rows log (g0 ∷ g1 ∷ g2 ∷ []))
 
 abbrev μ-loop2 : tie.MeasureT-loop2
-μ-loop2 width height kinds muls clusters lengths lf-thresholds qf-thresholds block-ctx-map lf-there lf0 lf1 lf2 store map shift symbols log₀ g0₀ g1₀ g2₀ rows₀ at₀ y x₀ log g0 g1 g2 rows at x = width - x
+μ-loop2 width height kinds muls lf-there lf0 lf1 lf2 store map shift symbols log₀ g0₀ g1₀ g2₀ contexts clusters lengths rows₀ at₀ y x₀ log g0 g1 g2 rows at x = width - x
 
 abbrev Inv-loop : tie.InvT-loop
-Inv-loop width height kinds muls clusters lengths lf-thresholds qf-thresholds block-ctx-map lf-there lf0 lf1 lf2 store map shift symbols log₀ g0₀ g1₀ g2₀ rows₀ at₀ y₀ log g0 g1 g2 rows at y =
+Inv-loop width height kinds muls lf-there lf0 lf1 lf2 store map shift symbols log₀ g0₀ g1₀ g2₀ contexts clusters lengths rows₀ at₀ y₀ log g0 g1 g2 rows at y =
     (length log ≡ length log₀)
     × (length g0 ≡ length g0₀)
     × (length g1 ≡ length g1₀)
     × (length g2 ≡ length g2₀)
     × (y ≤ height)
-    × Due shift clusters map (passOf width height kinds muls clusters lengths lf-thresholds qf-thresholds block-ctx-map lf-there lf0 lf1 lf2 store) symbols (192 * (width * height)) (wholeOf shift clusters map (passOf width height kinds muls clusters lengths lf-thresholds qf-thresholds block-ctx-map lf-there lf0 lf1 lf2 store) symbols log₀ (g0₀ ∷ g1₀ ∷ g2₀ ∷ [])) (rowsFrom (passOf width height kinds muls clusters lengths lf-thresholds qf-thresholds block-ctx-map lf-there lf0 lf1 lf2 store) y) at rows log (g0 ∷ g1 ∷ g2 ∷ [])
+    × Due shift (contexts .«num_block_clusters») map (passWith width height kinds muls contexts lf-there lf0 lf1 lf2 store) symbols (192 * (width * height)) (wholeOf shift (contexts .«num_block_clusters») map (passWith width height kinds muls contexts lf-there lf0 lf1 lf2 store) symbols log₀ (g0₀ ∷ g1₀ ∷ g2₀ ∷ [])) (rowsFrom (passWith width height kinds muls contexts lf-there lf0 lf1 lf2 store) y) at rows log (g0 ∷ g1 ∷ g2 ∷ [])
 
 abbrev μ-loop : tie.MeasureT-loop
-μ-loop width height kinds muls clusters lengths lf-thresholds qf-thresholds block-ctx-map lf-there lf0 lf1 lf2 store map shift symbols log₀ g0₀ g1₀ g2₀ rows₀ at₀ y₀ log g0 g1 g2 rows at y = height - y
+μ-loop width height kinds muls lf-there lf0 lf1 lf2 store map shift symbols log₀ g0₀ g1₀ g2₀ contexts clusters lengths rows₀ at₀ y₀ log g0 g1 g2 rows at y = height - y
+
+cast-clusters : tie.Need-cast-clusters Inv-loop2 μ-loop2 Inv-loop μ-loop
+cast-clusters c = search needs
 
 loop-holds : tie.Need-loop-holds Inv-loop2 μ-loop2 Inv-loop μ-loop
-loop-holds c = let a = c .before .before .before .before .before .before .before .before .before .before .before .before .args in (refl, refl, refl, refl, omega arith, due-start (a .shift) (a .clusters) (a .map .now) (passOf (a .width) (a .height) (a .kinds .now) (a .muls .now) (a .clusters) (a .lengths) (a .lf-thresholds .now) (a .qf-thresholds .now) (a .block-ctx-map .now) (a .lf-there) (a .lf0 .now) (a .lf1 .now) (a .lf2 .now) (a .store .now)) (a .symbols .now) (a .log .now) (a .g0 .now ∷ a .g1 .now ∷ a .g2 .now ∷ []) (c .before .before .before .before .before .before .before .before .before .before .before .before .pre .across) (c .before .before .before .before .before .before .before .before .before .before .before .before .pre .layout))
+loop-holds c =
+    let a = c .before .before .before .before .before .before .before .before .before .before .before .before .before .args in
+    (refl, refl, refl, refl, omega arith, due-start (a .shift) (a .t5 .«num_block_clusters») (a .map .now) (passWith (a .width) (a .height) (a .kinds .now) (a .muls .now) (a .t5) (a .lf-there) (a .lf0 .now) (a .lf1 .now) (a .lf2 .now) (a .store .now)) (a .symbols .now) (a .log .now) (a .g0 .now ∷ a .g1 .now ∷ a .g2 .now ∷ []) (c .before .before .before .before .before .before .before .before .before .before .before .before .before .pre .across) (c .before .before .before .before .before .before .before .before .before .before .before .before .before .pre .layout))
 
 loop2-holds : tie.Need-loop2-holds Inv-loop2 μ-loop2 Inv-loop μ-loop
 loop2-holds c = (refl, refl, refl, refl, omega arith, λ whole d. d)
 
 mul-i : tie.Need-mul-i Inv-loop2 μ-loop2 Inv-loop μ-loop
 mul-i c =
-    let a = c .before .before .before .before .before .before .before .before .before .before .before .before .before .before .before .before .args in
+    let a = c .before .before .before .before .before .before .before .before .before .before .before .before .before .before .before .before .before .args in
     let o = c .before .before .before .loop in
-    let l = c .before .loop2 in
-    omega (arith, mul-le-mul {n₁ = o .y} {m₁ = a .width} {n₂ = 32} {m₂ = 32} (let h = c .before .before .before .before .before .before .before .before .before .before .before .before .before .before .before .before .pre .below in omega arith) (c .before .before .before .before .before .before .before .before .before .before .before .before .before .before .before .before .pre .across))
+    omega (arith, mul-le-mul {n₁ = o .y} {m₁ = a .width} {n₂ = 32} {m₂ = 32} (let h = c .before .before .before .before .before .before .before .before .before .before .before .before .before .before .before .before .before .pre .below in omega (arith, c .before .before .loop-test .taken)) (c .before .before .before .before .before .before .before .before .before .before .before .before .before .before .before .before .before .pre .across))
 
 add-i : tie.Need-add-i Inv-loop2 μ-loop2 Inv-loop μ-loop
 add-i c =
-    let a = c .before .before .before .before .before .before .before .before .before .before .before .before .before .before .before .before .args in
+    let a = c .before .before .before .before .before .before .before .before .before .before .before .before .before .before .before .before .before .args in
     let o = c .before .before .before .loop in
-    let l = c .before .loop2 in
-    let h = c .before .before .before .before .before .before .before .before .before .before .before .before .before .before .before .before .pre .across in omega (arith, mul-le-mul {n₁ = o .y} {m₁ = a .width} {n₂ = 32} {m₂ = 32} (let h = c .before .before .before .before .before .before .before .before .before .before .before .before .before .before .before .before .pre .below in omega arith) (c .before .before .before .before .before .before .before .before .before .before .before .before .before .before .before .before .pre .across))
+    let h = c .before .before .before .before .before .before .before .before .before .before .before .before .before .before .before .before .before .pre .across in
+    omega (arith, mul-le-mul {n₁ = o .y} {m₁ = a .width} {n₂ = 32} {m₂ = 32} (let h = c .before .before .before .before .before .before .before .before .before .before .before .before .before .before .before .before .before .pre .below in omega (arith, c .before .before .loop-test .taken)) (c .before .before .before .before .before .before .before .before .before .before .before .before .before .before .before .before .before .pre .across))
 
 shared-slice-read-kind : tie.Need-shared-slice-read-kind Inv-loop2 μ-loop2 Inv-loop μ-loop
-shared-slice-read-kind c =
-    let a = c .before .before .before .before .before .before .before .before .before .before .before .before .before .before .before .before .before .args in
-    let o = c .before .before .before .before .loop in
-    let l = c .before .before .loop2 in
-    rw (c .before .before .before .before .before .before .before .before .before .before .before .before .before .before .before .before .before .pre .layout .kindsLength) (digits-lt (omega arith) (omega arith))
+shared-slice-read-kind c = rw (c .before .before .before .before .before .before .before .before .before .before .before .before .before .before .before .before .before .before .pre .layout .kindsLength) (digits-lt (c .before .before .before .loop-test .taken) (c .before .loop2-test .taken))
 
 add-x : tie.Need-add-x Inv-loop2 μ-loop2 Inv-loop μ-loop
 add-x c = search needs
@@ -74,122 +72,84 @@ loop2-less c = search needs
 
 loop2-again : tie.Need-loop2-again Inv-loop2 μ-loop2 Inv-loop μ-loop
 loop2-again c =
-    let a = c .before .before .before .before .before .before .before .before .before .before .before .before .before .before .before .before .before .before .args in
+    let a = c .before .before .before .before .before .before .before .before .before .before .before .before .before .before .before .before .before .before .before .args in
     let o = c .before .before .before .before .before .loop in
     let l = c .before .before .before .loop2 in
-    (l .inv .0, l .inv .1, l .inv .2, l .inv .3, omega arith, λ W d. due-skip (a .shift) (a .clusters) (a .map .now) (passOf (a .width) (a .height) (a .kinds .now) (a .muls .now) (a .clusters) (a .lengths) (a .lf-thresholds .now) (a .qf-thresholds .now) (a .block-ctx-map .now) (a .lf-there) (a .lf0 .now) (a .lf1 .now) (a .lf2 .now) (a .store .now)) (a .symbols .now) (192 * (a .width * a .height)) W (l .at) (l .rows) (l .log) (l .g0 ∷ l .g1 ∷ l .g2 ∷ []) (l .x) (o .y) (rowsFrom (passOf (a .width) (a .height) (a .kinds .now) (a .muls .now) (a .clusters) (a .lengths) (a .lf-thresholds .now) (a .qf-thresholds .now) (a .block-ctx-map .now) (a .lf-there) (a .lf0 .now) (a .lf1 .now) (a .lf2 .now) (a .store .now)) (o .y + 1)) (omega arith) (c .if1 .taken) (l .inv .5 W d))
+    (l .inv .0, l .inv .1, l .inv .2, l .inv .3, omega (arith, c .before .before .loop2-test .taken), λ W d. due-skip (a .shift) (a .t5 .«num_block_clusters») (a .map .now) (passWith (a .width) (a .height) (a .kinds .now) (a .muls .now) (a .t5) (a .lf-there) (a .lf0 .now) (a .lf1 .now) (a .lf2 .now) (a .store .now)) (a .symbols .now) (192 * (a .width * a .height)) W (l .at) (l .rows) (l .log) (l .g0 ∷ l .g1 ∷ l .g2 ∷ []) (l .x) (o .y) (rowsFrom (passWith (a .width) (a .height) (a .kinds .now) (a .muls .now) (a .t5) (a .lf-there) (a .lf0 .now) (a .lf1 .now) (a .lf2 .now) (a .store .now)) (o .y + 1)) (c .before .before .loop2-test .taken) (c .if1 .taken) (l .inv .5 W d))
 
 mul-plan-of : tie.Need-mul-plan-of Inv-loop2 μ-loop2 Inv-loop μ-loop
 mul-plan-of c =
-    let a = c .before .before .before .before .before .before .before .before .before .before .before .before .before .before .before .before .before .before .args in
+    let a = c .before .before .before .before .before .before .before .before .before .before .before .before .before .before .before .before .before .before .before .args in
     let o = c .before .before .before .before .before .loop in
     let l = c .before .before .before .loop2 in
-    omega (arith, mul-le-mul {n₁ = o .y} {m₁ = a .width} {n₂ = 32} {m₂ = 32} (let h = c .before .before .before .before .before .before .before .before .before .before .before .before .before .before .before .before .before .before .pre .below in omega arith) (c .before .before .before .before .before .before .before .before .before .before .before .before .before .before .before .before .before .before .pre .across))
+    omega (arith, mul-le-mul {n₁ = o .y} {m₁ = a .width} {n₂ = 32} {m₂ = 32} (let h = c .before .before .before .before .before .before .before .before .before .before .before .before .before .before .before .before .before .before .before .pre .below in omega (arith, c .before .before .before .before .loop-test .taken)) (c .before .before .before .before .before .before .before .before .before .before .before .before .before .before .before .before .before .before .before .pre .across))
 
 shared-slice-read-plan-of : tie.Need-shared-slice-read-plan-of Inv-loop2 μ-loop2 Inv-loop μ-loop
-shared-slice-read-plan-of c =
-    let a = c .before .before .before .before .before .before .before .before .before .before .before .before .before .before .before .before .before .before .before .args in
-    let o = c .before .before .before .before .before .before .loop in
-    let l = c .before .before .before .before .loop2 in
-    rw (c .before .before .before .before .before .before .before .before .before .before .before .before .before .before .before .before .before .before .before .pre .layout .mulsLength) (digits-lt (omega arith) (omega arith))
+shared-slice-read-plan-of c = rw (c .before .before .before .before .before .before .before .before .before .before .before .before .before .before .before .before .before .before .before .before .pre .layout .mulsLength) (digits-lt (c .before .before .before .before .before .loop-test .taken) (c .before .before .before .loop2-test .taken))
 
 plan-of-requires : tie.Need-plan-of-requires Inv-loop2 μ-loop2 Inv-loop μ-loop
 plan-of-requires c κs =
-    let a = c .before .before .before .before .before .before .before .before .before .before .before .before .before .before .before .before .before .before .before .args in
-    let o = c .before .before .before .before .before .before .loop in
-    let l = c .before .before .before .before .loop2 in
-    let u = c .before .before .before .before .before .before .before .before .before .before .before .before .before .before .before .before .before .before .before .pre .across in let v = c .before .before .before .before .before .before .before .before .before .before .before .before .before .before .before .before .before .before .before .pre .below in let w = c .before .if1 .left in (omega arith, omega arith, omega arith, omega arith)
+    let u = c .before .before .before .before .before .before .before .before .before .before .before .before .before .before .before .before .before .before .before .before .before .before .before .before .pre .across in
+    let v = c .before .before .before .before .before .before .before .before .before .before .before .before .before .before .before .before .before .before .before .before .before .before .before .before .pre .below in
+    (c .before .before .before .before .before .if1 .left, omega (arith, c .before .before .before .before .before .before .before .loop2-test .taken), omega (arith, c .before .before .before .before .before .before .before .before .before .loop-test .taken), u)
 
 read-varblock-requires : tie.Need-read-varblock-requires Inv-loop2 μ-loop2 Inv-loop μ-loop
 read-varblock-requires c κs =
-    let a = c .before .before .before .before .before .before .before .before .before .before .before .before .before .before .before .before .before .before .before .before .before .before .before .before .before .before .args in
-    let o = c .before .before .before .before .before .before .before .before .before .before .before .before .before .loop in
-    let l = c .before .before .before .before .before .before .before .before .before .before .before .loop2 in
-    let hx : l .x < a .width = omega (arith, c .before .before .before .before .before .before .before .before .before .before .loop2-test) in
-    let hy : o .y < a .height = omega (arith, c .before .before .before .before .before .before .before .before .before .before .before .before .loop-test) in
-    let k : 2 ≤ K (passOf (a .width) (a .height) (a .kinds .now) (a .muls .now) (a .clusters) (a .lengths) (a .lf-thresholds .now) (a .qf-thresholds .now) (a .block-ctx-map .now) (a .lf-there) (a .lf0 .now) (a .lf1 .now) (a .lf2 .now) (a .store .now)) (l .x) (o .y) = omega (arith, c .before .before .before .before .before .before .before .before .if1 .left) in
-    let W = (wholeOf (a .shift) (a .clusters) (a .map .now) (passOf (a .width) (a .height) (a .kinds .now) (a .muls .now) (a .clusters) (a .lengths) (a .lf-thresholds .now) (a .qf-thresholds .now) (a .block-ctx-map .now) (a .lf-there) (a .lf0 .now) (a .lf1 .now) (a .lf2 .now) (a .store .now)) (a .symbols .now) (a .log .now) (a .g0 .now ∷ a .g1 .now ∷ a .g2 .now ∷ [])) in
-    let d = due-corner (a .shift) (a .clusters) (a .map .now) (passOf (a .width) (a .height) (a .kinds .now) (a .muls .now) (a .clusters) (a .lengths) (a .lf-thresholds .now) (a .qf-thresholds .now) (a .block-ctx-map .now) (a .lf-there) (a .lf0 .now) (a .lf1 .now) (a .lf2 .now) (a .store .now)) (a .symbols .now) (192 * (a .width * a .height)) W (l .at) (l .rows) (l .log) (l .g0 ∷ l .g1 ∷ l .g2 ∷ []) (l .x) (o .y) (rowsFrom (passOf (a .width) (a .height) (a .kinds .now) (a .muls .now) (a .clusters) (a .lengths) (a .lf-thresholds .now) (a .qf-thresholds .now) (a .block-ctx-map .now) (a .lf-there) (a .lf0 .now) (a .lf1 .now) (a .lf2 .now) (a .store .now)) (o .y + 1)) (omega arith) k (l .inv .5 W (due-row (a .shift) (a .clusters) (a .map .now) (passOf (a .width) (a .height) (a .kinds .now) (a .muls .now) (a .clusters) (a .lengths) (a .lf-thresholds .now) (a .qf-thresholds .now) (a .block-ctx-map .now) (a .lf-there) (a .lf0 .now) (a .lf1 .now) (a .lf2 .now) (a .store .now)) (a .symbols .now) (192 * (a .width * a .height)) (wholeOf (a .shift) (a .clusters) (a .map .now) (passOf (a .width) (a .height) (a .kinds .now) (a .muls .now) (a .clusters) (a .lengths) (a .lf-thresholds .now) (a .qf-thresholds .now) (a .block-ctx-map .now) (a .lf-there) (a .lf0 .now) (a .lf1 .now) (a .lf2 .now) (a .store .now)) (a .symbols .now) (a .log .now) (a .g0 .now ∷ a .g1 .now ∷ a .g2 .now ∷ [])) (o .at) (o .rows) (o .log) (o .g0 ∷ o .g1 ∷ o .g2 ∷ []) (o .y) (omega arith) (o .inv .5))) in
-    rw (c .before .before .before .before .before .before .plan-of .ensures, l .inv .0 ∙ o .inv .0) (
-      plan-ready (passOf (a .width) (a .height) (a .kinds .now) (a .muls .now) (a .clusters) (a .lengths) (a .lf-thresholds .now) (a .qf-thresholds .now) (a .block-ctx-map .now) (a .lf-there) (a .lf0 .now) (a .lf1 .now) (a .lf2 .now) (a .store .now)) (a .clusters) (length (a .map .now)) (a .shift) (length (a .log .now)) (c .before .before .before .before .before .before .before .before .before .before .before .before .before .before .before .before .before .before .before .before .before .before .before .before .before .before .pre) (l .x) (o .y) (omega arith) (omega arith) k (a .map .now) refl (length (a .symbols .now)) (l .at) (d .begins) (let z = c .before .before .before .before .before .before .before .before .before .before .before .before .before .before .before .before .before .before .before .before .before .before .before .before .before .before .pre .room in omega (arith, room-of (a .shift) (a .clusters) (a .map .now) (passOf (a .width) (a .height) (a .kinds .now) (a .muls .now) (a .clusters) (a .lengths) (a .lf-thresholds .now) (a .qf-thresholds .now) (a .block-ctx-map .now) (a .lf-there) (a .lf0 .now) (a .lf1 .now) (a .lf2 .now) (a .store .now)) (a .symbols .now) (192 * (a .width * a .height)) W (l .at) (l .rows) (l .log) (l .g0 ∷ l .g1 ∷ l .g2 ∷ []) _ _ d)),
-      d .fine,
-    )
+    let a = c .before .before .before .before .before .before .before .before .before .before .before .before .before .before .before .before .before .before .before .before .before .before .before .before .before .before .before .before .before .before .args in
+    let o = c .before .before .before .before .before .before .before .before .before .before .before .before .before .before .before .before .loop in
+    let l = c .before .before .before .before .before .before .before .before .before .before .before .before .before .before .loop2 in
+    let W = (wholeOf (a .shift) (a .t5 .«num_block_clusters») (a .map .now) (passWith (a .width) (a .height) (a .kinds .now) (a .muls .now) (a .t5) (a .lf-there) (a .lf0 .now) (a .lf1 .now) (a .lf2 .now) (a .store .now)) (a .symbols .now) (a .log .now) (a .g0 .now ∷ a .g1 .now ∷ a .g2 .now ∷ [])) in
+    let d = (due-row (a .shift) (a .t5 .«num_block_clusters») (a .map .now) (passWith (a .width) (a .height) (a .kinds .now) (a .muls .now) (a .t5) (a .lf-there) (a .lf0 .now) (a .lf1 .now) (a .lf2 .now) (a .store .now)) (a .symbols .now) (192 * (a .width * a .height)) (wholeOf (a .shift) (a .t5 .«num_block_clusters») (a .map .now) (passWith (a .width) (a .height) (a .kinds .now) (a .muls .now) (a .t5) (a .lf-there) (a .lf0 .now) (a .lf1 .now) (a .lf2 .now) (a .store .now)) (a .symbols .now) (a .log .now) (a .g0 .now ∷ a .g1 .now ∷ a .g2 .now ∷ [])) (o .at) (o .rows) (o .log) (o .g0 ∷ o .g1 ∷ o .g2 ∷ []) (o .y) (c .before .before .before .before .before .before .before .before .before .before .before .before .before .before .before .loop-test .taken) (o .inv .5)) in
+    corner-asks (a .shift) (a .t5 .«num_block_clusters») (a .map .now) (passWith (a .width) (a .height) (a .kinds .now) (a .muls .now) (a .t5) (a .lf-there) (a .lf0 .now) (a .lf1 .now) (a .lf2 .now) (a .store .now)) (a .symbols .now) (length (a .log .now)) (c .before .before .before .before .before .before .before .before .before .before .before .before .before .before .before .before .before .before .before .before .before .before .before .before .before .before .before .before .before .before .pre) W (l .x) (o .y) (l .at) (l .rows) (l .log) (l .g0 ∷ l .g1 ∷ l .g2 ∷ []) (c .before .before .before .before .before .before .before .before .before .before .before .before .before .loop2-test .taken) (c .before .before .before .before .before .before .before .before .before .before .before .before .before .before .before .loop-test .taken) (c .before .before .before .before .before .before .before .before .before .before .before .if1 .left) (l .inv .5 W d) (c .before .before .before .before .before .plan-of .result) (c .before .before .before .before .before .plan-of .ensures) (l .inv .0 ∙ o .inv .0)
 
 is-stopped-requires : tie.Need-is-stopped-requires Inv-loop2 μ-loop2 Inv-loop μ-loop
 is-stopped-requires c κs = search needs
 
 same-length : tie.Need-same-length Inv-loop2 μ-loop2 Inv-loop μ-loop
-same-length c =
-    let a = c .before .before .before .before .before .before .before .before .before .before .before .before .before .before .before .before .before .before .before .before .before .before .before .before .before .before .before .before .before .before .before .before .before .before .before .before .before .before .args in
-    let o = c .before .before .before .before .before .before .before .before .before .before .before .before .before .before .before .before .before .before .before .before .before .before .before .before .before .loop in
-    let l = c .before .before .before .before .before .before .before .before .before .before .before .before .before .before .before .before .before .before .before .before .before .before .before .loop2 in
-    c .before .before .before .before .before .before .before .before .before .before .log .given ∙ l .inv .0 ∙ o .inv .0
+same-length c = c .before .before .before .before .before .before .before .before .before .log .given ∙ c .before .before .before .before .before .before .before .before .before .before .before .before .before .before .before .before .before .before .before .before .before .before .before .before .before .loop2 .inv .0 ∙ c .before .before .before .before .before .before .before .before .before .before .before .before .before .before .before .before .before .before .before .before .before .before .before .before .before .before .before .loop .inv .0
 
 same-length-2 : tie.Need-same-length-2 Inv-loop2 μ-loop2 Inv-loop μ-loop
-same-length-2 c =
-    let a = c .before .before .before .before .before .before .before .before .before .before .before .before .before .before .before .before .before .before .before .before .before .before .before .before .before .before .before .before .before .before .before .before .before .before .before .before .before .before .args in
-    let o = c .before .before .before .before .before .before .before .before .before .before .before .before .before .before .before .before .before .before .before .before .before .before .before .before .before .loop in
-    let l = c .before .before .before .before .before .before .before .before .before .before .before .before .before .before .before .before .before .before .before .before .before .before .before .loop2 in
-    c .before .before .before .before .before .before .before .before .g0 .given ∙ l .inv .1 ∙ o .inv .1
+same-length-2 c = c .before .before .before .before .before .before .before .g0 .given ∙ c .before .before .before .before .before .before .before .before .before .before .before .before .before .before .before .before .before .before .before .before .before .before .before .before .before .loop2 .inv .1 ∙ c .before .before .before .before .before .before .before .before .before .before .before .before .before .before .before .before .before .before .before .before .before .before .before .before .before .before .before .loop .inv .1
 
 same-length-3 : tie.Need-same-length-3 Inv-loop2 μ-loop2 Inv-loop μ-loop
-same-length-3 c =
-    let a = c .before .before .before .before .before .before .before .before .before .before .before .before .before .before .before .before .before .before .before .before .before .before .before .before .before .before .before .before .before .before .before .before .before .before .before .before .before .before .args in
-    let o = c .before .before .before .before .before .before .before .before .before .before .before .before .before .before .before .before .before .before .before .before .before .before .before .before .before .loop in
-    let l = c .before .before .before .before .before .before .before .before .before .before .before .before .before .before .before .before .before .before .before .before .before .before .before .loop2 in
-    c .before .before .before .before .before .before .g1 .given ∙ l .inv .2 ∙ o .inv .2
+same-length-3 c = c .before .before .before .before .before .g1 .given ∙ c .before .before .before .before .before .before .before .before .before .before .before .before .before .before .before .before .before .before .before .before .before .before .before .before .before .loop2 .inv .2 ∙ c .before .before .before .before .before .before .before .before .before .before .before .before .before .before .before .before .before .before .before .before .before .before .before .before .before .before .before .loop .inv .2
 
 same-length-4 : tie.Need-same-length-4 Inv-loop2 μ-loop2 Inv-loop μ-loop
-same-length-4 c =
-    let a = c .before .before .before .before .before .before .before .before .before .before .before .before .before .before .before .before .before .before .before .before .before .before .before .before .before .before .before .before .before .before .before .before .before .before .before .before .before .before .args in
-    let o = c .before .before .before .before .before .before .before .before .before .before .before .before .before .before .before .before .before .before .before .before .before .before .before .before .before .loop in
-    let l = c .before .before .before .before .before .before .before .before .before .before .before .before .before .before .before .before .before .before .before .before .before .before .before .loop2 in
-    c .before .before .before .before .g2 .given ∙ l .inv .3 ∙ o .inv .3
+same-length-4 c = c .before .before .before .g2 .given ∙ c .before .before .before .before .before .before .before .before .before .before .before .before .before .before .before .before .before .before .before .before .before .before .before .before .before .loop2 .inv .3 ∙ c .before .before .before .before .before .before .before .before .before .before .before .before .before .before .before .before .before .before .before .before .before .before .before .before .before .before .before .loop .inv .3
 
 returns : tie.Need-returns Inv-loop2 μ-loop2 Inv-loop μ-loop
 returns c =
-    let a = c .before .before .before .before .before .before .before .before .before .before .before .before .before .before .before .before .before .before .before .before .before .before .before .before .before .before .before .before .before .before .before .before .before .before .before .before .before .before .args in
-    let o = c .before .before .before .before .before .before .before .before .before .before .before .before .before .before .before .before .before .before .before .before .before .before .before .before .before .loop in
-    let l = c .before .before .before .before .before .before .before .before .before .before .before .before .before .before .before .before .before .before .before .before .before .before .before .loop2 in
-    let hx : l .x < a .width = omega (arith, c .before .before .before .before .before .before .before .before .before .before .before .before .before .before .before .before .before .before .before .before .before .before .loop2-test) in
-    let hy : o .y < a .height = omega (arith, c .before .before .before .before .before .before .before .before .before .before .before .before .before .before .before .before .before .before .before .before .before .before .before .before .loop-test) in
-    let k : 2 ≤ K (passOf (a .width) (a .height) (a .kinds .now) (a .muls .now) (a .clusters) (a .lengths) (a .lf-thresholds .now) (a .qf-thresholds .now) (a .block-ctx-map .now) (a .lf-there) (a .lf0 .now) (a .lf1 .now) (a .lf2 .now) (a .store .now)) (l .x) (o .y) = omega (arith, c .before .before .before .before .before .before .before .before .before .before .before .before .before .before .before .before .before .before .before .before .if1 .left) in
-    let W = (wholeOf (a .shift) (a .clusters) (a .map .now) (passOf (a .width) (a .height) (a .kinds .now) (a .muls .now) (a .clusters) (a .lengths) (a .lf-thresholds .now) (a .qf-thresholds .now) (a .block-ctx-map .now) (a .lf-there) (a .lf0 .now) (a .lf1 .now) (a .lf2 .now) (a .store .now)) (a .symbols .now) (a .log .now) (a .g0 .now ∷ a .g1 .now ∷ a .g2 .now ∷ [])) in
-    due-stop (a .shift) (a .clusters) (a .map .now) (passOf (a .width) (a .height) (a .kinds .now) (a .muls .now) (a .clusters) (a .lengths) (a .lf-thresholds .now) (a .qf-thresholds .now) (a .block-ctx-map .now) (a .lf-there) (a .lf0 .now) (a .lf1 .now) (a .lf2 .now) (a .store .now)) (a .symbols .now) (192 * (a .width * a .height)) W (l .at) (l .rows) (l .log) (l .g0 ∷ l .g1 ∷ l .g2 ∷ []) (l .x) (o .y) (cornersRow (K (passOf (a .width) (a .height) (a .kinds .now) (a .muls .now) (a .clusters) (a .lengths) (a .lf-thresholds .now) (a .qf-thresholds .now) (a .block-ctx-map .now) (a .lf-there) (a .lf0 .now) (a .lf1 .now) (a .lf2 .now) (a .store .now))) (M (passOf (a .width) (a .height) (a .kinds .now) (a .muls .now) (a .clusters) (a .lengths) (a .lf-thresholds .now) (a .qf-thresholds .now) (a .block-ctx-map .now) (a .lf-there) (a .lf0 .now) (a .lf1 .now) (a .lf2 .now) (a .store .now))) (a .width - (l .x + 1)) (l .x + 1) (o .y) (rowsFrom (passOf (a .width) (a .height) (a .kinds .now) (a .muls .now) (a .clusters) (a .lengths) (a .lf-thresholds .now) (a .qf-thresholds .now) (a .block-ctx-map .now) (a .lf-there) (a .lf0 .now) (a .lf1 .now) (a .lf2 .now) (a .store .now)) (o .y + 1))) (due-corner (a .shift) (a .clusters) (a .map .now) (passOf (a .width) (a .height) (a .kinds .now) (a .muls .now) (a .clusters) (a .lengths) (a .lf-thresholds .now) (a .qf-thresholds .now) (a .block-ctx-map .now) (a .lf-there) (a .lf0 .now) (a .lf1 .now) (a .lf2 .now) (a .store .now)) (a .symbols .now) (192 * (a .width * a .height)) W (l .at) (l .rows) (l .log) (l .g0 ∷ l .g1 ∷ l .g2 ∷ []) (l .x) (o .y) (rowsFrom (passOf (a .width) (a .height) (a .kinds .now) (a .muls .now) (a .clusters) (a .lengths) (a .lf-thresholds .now) (a .qf-thresholds .now) (a .block-ctx-map .now) (a .lf-there) (a .lf0 .now) (a .lf1 .now) (a .lf2 .now) (a .store .now)) (o .y + 1)) (omega arith) k (l .inv .5 W (due-row (a .shift) (a .clusters) (a .map .now) (passOf (a .width) (a .height) (a .kinds .now) (a .muls .now) (a .clusters) (a .lengths) (a .lf-thresholds .now) (a .qf-thresholds .now) (a .block-ctx-map .now) (a .lf-there) (a .lf0 .now) (a .lf1 .now) (a .lf2 .now) (a .store .now)) (a .symbols .now) (192 * (a .width * a .height)) (wholeOf (a .shift) (a .clusters) (a .map .now) (passOf (a .width) (a .height) (a .kinds .now) (a .muls .now) (a .clusters) (a .lengths) (a .lf-thresholds .now) (a .qf-thresholds .now) (a .block-ctx-map .now) (a .lf-there) (a .lf0 .now) (a .lf1 .now) (a .lf2 .now) (a .store .now)) (a .symbols .now) (a .log .now) (a .g0 .now ∷ a .g1 .now ∷ a .g2 .now ∷ [])) (o .at) (o .rows) (o .log) (o .g0 ∷ o .g1 ∷ o .g2 ∷ []) (o .y) (omega arith) (o .inv .5)))) (itemsBy (c .before .before .before .before .before .before .before .before .before .before .before .before .before .before .before .before .before .before .plan-of .result) (a .width) (a .store .now)) (ap (λ (p : Plan). itemsBy p (a .width) (a .store .now)) (c .before .before .before .before .before .before .before .before .before .before .before .before .before .before .before .before .before .before .plan-of .ensures) ∙ items-are (passOf (a .width) (a .height) (a .kinds .now) (a .muls .now) (a .clusters) (a .lengths) (a .lf-thresholds .now) (a .qf-thresholds .now) (a .block-ctx-map .now) (a .lf-there) (a .lf0 .now) (a .lf1 .now) (a .lf2 .now) (a .store .now)) (a .clusters) (length (a .map .now)) (a .shift) (length (a .log .now)) (c .before .before .before .before .before .before .before .before .before .before .before .before .before .before .before .before .before .before .before .before .before .before .before .before .before .before .before .before .before .before .before .before .before .before .before .before .before .before .pre) (l .x) (o .y) (omega arith) (omega arith) k) (c .before .before .before .before .before .before .before .before .before .before .before .read-varblock .result .walk) _ _ _ _ (few-is (passOf (a .width) (a .height) (a .kinds .now) (a .muls .now) (a .clusters) (a .lengths) (a .lf-thresholds .now) (a .qf-thresholds .now) (a .block-ctx-map .now) (a .lf-there) (a .lf0 .now) (a .lf1 .now) (a .lf2 .now) (a .store .now)) (l .x) (o .y) (l .at) (c .before .before .before .before .before .before .before .before .before .before .before .before .before .before .before .before .before .before .plan-of .result) (c .before .before .before .before .before .before .before .before .before .before .before .before .before .before .before .before .before .before .plan-of .ensures) (known (passOf (a .width) (a .height) (a .kinds .now) (a .muls .now) (a .clusters) (a .lengths) (a .lf-thresholds .now) (a .qf-thresholds .now) (a .block-ctx-map .now) (a .lf-there) (a .lf0 .now) (a .lf1 .now) (a .lf2 .now) (a .store .now)) (a .clusters) (length (a .map .now)) (a .shift) (length (a .log .now)) (c .before .before .before .before .before .before .before .before .before .before .before .before .before .before .before .before .before .before .before .before .before .before .before .before .before .before .before .before .before .before .before .before .before .before .before .before .before .before .pre) (l .x) (o .y) (omega arith) (omega arith) k)) (c .before .before .before .before .before .before .before .before .before .before .before .read-varblock .ensures) (sym (c .before .is-stopped .ensures) ∙ c .if2 .taken)
+    let a = c .before .before .before .before .before .before .before .before .before .before .before .before .before .before .before .before .before .before .before .before .before .before .before .before .before .before .before .before .before .before .before .before .before .before .before .before .before .before .before .before .before .args in
+    let o = c .before .before .before .before .before .before .before .before .before .before .before .before .before .before .before .before .before .before .before .before .before .before .before .before .before .before .before .loop in
+    let l = c .before .before .before .before .before .before .before .before .before .before .before .before .before .before .before .before .before .before .before .before .before .before .before .before .before .loop2 in
+    let w = c .before .before .before .before .before .before .before .before .before .before .read-varblock in
+    let z = w .last .1 .1 .1 .1 .1 .1 .1 .1 in
+    let W = (wholeOf (a .shift) (a .t5 .«num_block_clusters») (a .map .now) (passWith (a .width) (a .height) (a .kinds .now) (a .muls .now) (a .t5) (a .lf-there) (a .lf0 .now) (a .lf1 .now) (a .lf2 .now) (a .store .now)) (a .symbols .now) (a .log .now) (a .g0 .now ∷ a .g1 .now ∷ a .g2 .now ∷ [])) in
+    let d = (due-row (a .shift) (a .t5 .«num_block_clusters») (a .map .now) (passWith (a .width) (a .height) (a .kinds .now) (a .muls .now) (a .t5) (a .lf-there) (a .lf0 .now) (a .lf1 .now) (a .lf2 .now) (a .store .now)) (a .symbols .now) (192 * (a .width * a .height)) (wholeOf (a .shift) (a .t5 .«num_block_clusters») (a .map .now) (passWith (a .width) (a .height) (a .kinds .now) (a .muls .now) (a .t5) (a .lf-there) (a .lf0 .now) (a .lf1 .now) (a .lf2 .now) (a .store .now)) (a .symbols .now) (a .log .now) (a .g0 .now ∷ a .g1 .now ∷ a .g2 .now ∷ [])) (o .at) (o .rows) (o .log) (o .g0 ∷ o .g1 ∷ o .g2 ∷ []) (o .y) (c .before .before .before .before .before .before .before .before .before .before .before .before .before .before .before .before .before .before .before .before .before .before .before .before .before .before .loop-test .taken) (o .inv .5)) in
+    corner-stop (a .shift) (a .t5 .«num_block_clusters») (a .map .now) (passWith (a .width) (a .height) (a .kinds .now) (a .muls .now) (a .t5) (a .lf-there) (a .lf0 .now) (a .lf1 .now) (a .lf2 .now) (a .store .now)) (a .symbols .now) (length (a .log .now)) (c .before .before .before .before .before .before .before .before .before .before .before .before .before .before .before .before .before .before .before .before .before .before .before .before .before .before .before .before .before .before .before .before .before .before .before .before .before .before .before .before .before .pre) W (l .x) (o .y) (l .at) (l .rows) (l .log) (l .g0 ∷ l .g1 ∷ l .g2 ∷ []) (c .before .before .before .before .before .before .before .before .before .before .before .before .before .before .before .before .before .before .before .before .before .before .before .before .loop2-test .taken) (c .before .before .before .before .before .before .before .before .before .before .before .before .before .before .before .before .before .before .before .before .before .before .before .before .before .before .loop-test .taken) (c .before .before .before .before .before .before .before .before .before .before .before .before .before .before .before .before .before .before .before .before .before .before .if1 .left) (l .inv .5 W d) (c .before .before .before .before .before .before .before .before .before .before .before .before .before .before .before .before .plan-of .result) (c .before .before .before .before .before .before .before .before .before .before .before .before .before .before .before .before .plan-of .ensures) (w .result) (z .0) (z .1 .0) (z .1 .1 .0 ∷ z .1 .1 .1 .0 ∷ z .1 .1 .1 .1 .0 ∷ []) (w .ensures) (sym (c .before .is-stopped .ensures) ∙ c .if2 .taken)
 
 symbols-read-requires : tie.Need-symbols-read-requires Inv-loop2 μ-loop2 Inv-loop μ-loop
 symbols-read-requires c κs = search needs
 
-rewrite-all-requires : tie.Need-rewrite-all-requires Inv-loop2 μ-loop2 Inv-loop μ-loop
-rewrite-all-requires c κs =
-    let a = c .before .before .before .before .before .before .before .before .before .before .before .before .before .before .before .before .before .before .before .before .before .before .before .before .before .before .before .before .before .before .before .before .before .before .before .before .before .before .before .before .args in
-    let o = c .before .before .before .before .before .before .before .before .before .before .before .before .before .before .before .before .before .before .before .before .before .before .before .before .before .before .before .loop in
-    let l = c .before .before .before .before .before .before .before .before .before .before .before .before .before .before .before .before .before .before .before .before .before .before .before .before .before .loop2 in
-    let hx : l .x < a .width = omega (arith, c .before .before .before .before .before .before .before .before .before .before .before .before .before .before .before .before .before .before .before .before .before .before .before .before .loop2-test) in
-    let hy : o .y < a .height = omega (arith, c .before .before .before .before .before .before .before .before .before .before .before .before .before .before .before .before .before .before .before .before .before .before .before .before .before .before .loop-test) in
-    let k : 2 ≤ K (passOf (a .width) (a .height) (a .kinds .now) (a .muls .now) (a .clusters) (a .lengths) (a .lf-thresholds .now) (a .qf-thresholds .now) (a .block-ctx-map .now) (a .lf-there) (a .lf0 .now) (a .lf1 .now) (a .lf2 .now) (a .store .now)) (l .x) (o .y) = omega (arith, c .before .before .before .before .before .before .before .before .before .before .before .before .before .before .before .before .before .before .before .before .before .before .if1 .left) in
-    rw (c .before .before .before .before .before .before .before .before .before .before .before .before .before .before .before .before .before .before .before .before .plan-of .ensures) (let z = c .before .before .before .before .before .before .before .before .before .before .before .before .before .before .before .before .before .before .before .before .before .before .before .before .before .before .before .before .before .before .before .before .before .before .before .before .before .before .before .before .pre .across in let p = right (passOf (a .width) (a .height) (a .kinds .now) (a .muls .now) (a .clusters) (a .lengths) (a .lf-thresholds .now) (a .qf-thresholds .now) (a .block-ctx-map .now) (a .lf-there) (a .lf0 .now) (a .lf1 .now) (a .lf2 .now) (a .store .now)) (a .clusters) (length (a .map .now)) (a .shift) (length (a .log .now)) (c .before .before .before .before .before .before .before .before .before .before .before .before .before .before .before .before .before .before .before .before .before .before .before .before .before .before .before .before .before .before .before .before .before .before .before .before .before .before .before .before .pre) (l .x) (o .y) (omega arith) (omega arith) k in omega arith)
-
 add-x-2 : tie.Need-add-x-2 Inv-loop2 μ-loop2 Inv-loop μ-loop
-add-x-2 c = let u = c .before .before .before .before .before .before .before .before .before .before .before .before .before .before .before .before .before .before .before .before .before .before .before .before .before .before .before .before .before .before .before .before .before .before .before .before .before .before .before .before .before .pre .across in omega (arith, c .before .before .before .before .before .before .before .before .before .before .before .before .before .before .before .before .before .before .before .before .before .before .before .before .before .loop2-test)
+add-x-2 c = let u = c .before .before .before .before .before .before .before .before .before .before .before .before .before .before .before .before .before .before .before .before .before .before .before .before .before .before .before .before .before .before .before .before .before .before .before .before .before .before .before .before .before .before .pre .across in omega (arith, c .before .before .before .before .before .before .before .before .before .before .before .before .before .before .before .before .before .before .before .before .before .before .before .before .before .loop2-test .taken)
 
 loop2-less-2 : tie.Need-loop2-less-2 Inv-loop2 μ-loop2 Inv-loop μ-loop
-loop2-less-2 c = search needs
+loop2-less-2 c = omega (arith, c .before .before .before .before .before .before .before .before .before .before .before .before .before .before .before .before .before .before .before .before .before .before .before .before .before .loop2-test .taken)
 
 loop2-again-2 : tie.Need-loop2-again-2 Inv-loop2 μ-loop2 Inv-loop μ-loop
 loop2-again-2 c =
-    let a = c .before .before .before .before .before .before .before .before .before .before .before .before .before .before .before .before .before .before .before .before .before .before .before .before .before .before .before .before .before .before .before .before .before .before .before .before .before .before .before .before .before .args in
+    let a = c .before .before .before .before .before .before .before .before .before .before .before .before .before .before .before .before .before .before .before .before .before .before .before .before .before .before .before .before .before .before .before .before .before .before .before .before .before .before .before .before .before .before .args in
     let o = c .before .before .before .before .before .before .before .before .before .before .before .before .before .before .before .before .before .before .before .before .before .before .before .before .before .before .before .before .loop in
     let l = c .before .before .before .before .before .before .before .before .before .before .before .before .before .before .before .before .before .before .before .before .before .before .before .before .before .before .loop2 in
-    let hx : l .x < a .width = omega (arith, c .before .before .before .before .before .before .before .before .before .before .before .before .before .before .before .before .before .before .before .before .before .before .before .before .before .loop2-test) in
-    let hy : o .y < a .height = omega (arith, c .before .before .before .before .before .before .before .before .before .before .before .before .before .before .before .before .before .before .before .before .before .before .before .before .before .before .before .loop-test) in
-    let k : 2 ≤ K (passOf (a .width) (a .height) (a .kinds .now) (a .muls .now) (a .clusters) (a .lengths) (a .lf-thresholds .now) (a .qf-thresholds .now) (a .block-ctx-map .now) (a .lf-there) (a .lf0 .now) (a .lf1 .now) (a .lf2 .now) (a .store .now)) (l .x) (o .y) = omega (arith, c .before .before .before .before .before .before .before .before .before .before .before .before .before .before .before .before .before .before .before .before .before .before .before .if1 .left) in (
-      c .before .before .before .before .before .before .before .before .before .before .before .before .before .log .given ∙ l .inv .0,
-      c .before .before .before .before .before .before .before .before .before .before .before .g0 .given ∙ l .inv .1,
-      c .before .before .before .before .before .before .before .before .before .g1 .given ∙ l .inv .2,
-      c .before .before .before .before .before .before .before .g2 .given ∙ l .inv .3,
-      omega arith,
-      λ W d. rw (c .before .before .symbols-read .ensures, c .rewrite-all .ensures) (due-step (a .shift) (a .clusters) (a .map .now) (passOf (a .width) (a .height) (a .kinds .now) (a .muls .now) (a .clusters) (a .lengths) (a .lf-thresholds .now) (a .qf-thresholds .now) (a .block-ctx-map .now) (a .lf-there) (a .lf0 .now) (a .lf1 .now) (a .lf2 .now) (a .store .now)) (a .symbols .now) (192 * (a .width * a .height)) W (l .at) (l .rows) (l .log) (l .g0 ∷ l .g1 ∷ l .g2 ∷ []) (l .x) (o .y) (cornersRow (K (passOf (a .width) (a .height) (a .kinds .now) (a .muls .now) (a .clusters) (a .lengths) (a .lf-thresholds .now) (a .qf-thresholds .now) (a .block-ctx-map .now) (a .lf-there) (a .lf0 .now) (a .lf1 .now) (a .lf2 .now) (a .store .now))) (M (passOf (a .width) (a .height) (a .kinds .now) (a .muls .now) (a .clusters) (a .lengths) (a .lf-thresholds .now) (a .qf-thresholds .now) (a .block-ctx-map .now) (a .lf-there) (a .lf0 .now) (a .lf1 .now) (a .lf2 .now) (a .store .now))) (a .width - (l .x + 1)) (l .x + 1) (o .y) (rowsFrom (passOf (a .width) (a .height) (a .kinds .now) (a .muls .now) (a .clusters) (a .lengths) (a .lf-thresholds .now) (a .qf-thresholds .now) (a .block-ctx-map .now) (a .lf-there) (a .lf0 .now) (a .lf1 .now) (a .lf2 .now) (a .store .now)) (o .y + 1))) (due-corner (a .shift) (a .clusters) (a .map .now) (passOf (a .width) (a .height) (a .kinds .now) (a .muls .now) (a .clusters) (a .lengths) (a .lf-thresholds .now) (a .qf-thresholds .now) (a .block-ctx-map .now) (a .lf-there) (a .lf0 .now) (a .lf1 .now) (a .lf2 .now) (a .store .now)) (a .symbols .now) (192 * (a .width * a .height)) W (l .at) (l .rows) (l .log) (l .g0 ∷ l .g1 ∷ l .g2 ∷ []) (l .x) (o .y) (rowsFrom (passOf (a .width) (a .height) (a .kinds .now) (a .muls .now) (a .clusters) (a .lengths) (a .lf-thresholds .now) (a .qf-thresholds .now) (a .block-ctx-map .now) (a .lf-there) (a .lf0 .now) (a .lf1 .now) (a .lf2 .now) (a .store .now)) (o .y + 1)) (omega arith) k (l .inv .5 W d)) (itemsBy (c .before .before .before .before .before .before .before .before .before .before .before .before .before .before .before .before .before .before .before .before .before .plan-of .result) (a .width) (a .store .now)) (ap (λ (p : Plan). itemsBy p (a .width) (a .store .now)) (c .before .before .before .before .before .before .before .before .before .before .before .before .before .before .before .before .before .before .before .before .before .plan-of .ensures) ∙ items-are (passOf (a .width) (a .height) (a .kinds .now) (a .muls .now) (a .clusters) (a .lengths) (a .lf-thresholds .now) (a .qf-thresholds .now) (a .block-ctx-map .now) (a .lf-there) (a .lf0 .now) (a .lf1 .now) (a .lf2 .now) (a .store .now)) (a .clusters) (length (a .map .now)) (a .shift) (length (a .log .now)) (c .before .before .before .before .before .before .before .before .before .before .before .before .before .before .before .before .before .before .before .before .before .before .before .before .before .before .before .before .before .before .before .before .before .before .before .before .before .before .before .before .before .pre) (l .x) (o .y) (omega arith) (omega arith) k) (c .before .before .before .before .before .before .before .before .before .before .before .before .before .before .read-varblock .result .walk) _ _ _ _ (few-is (passOf (a .width) (a .height) (a .kinds .now) (a .muls .now) (a .clusters) (a .lengths) (a .lf-thresholds .now) (a .qf-thresholds .now) (a .block-ctx-map .now) (a .lf-there) (a .lf0 .now) (a .lf1 .now) (a .lf2 .now) (a .store .now)) (l .x) (o .y) (l .at) (c .before .before .before .before .before .before .before .before .before .before .before .before .before .before .before .before .before .before .before .before .before .plan-of .result) (c .before .before .before .before .before .before .before .before .before .before .before .before .before .before .before .before .before .before .before .before .before .plan-of .ensures) (known (passOf (a .width) (a .height) (a .kinds .now) (a .muls .now) (a .clusters) (a .lengths) (a .lf-thresholds .now) (a .qf-thresholds .now) (a .block-ctx-map .now) (a .lf-there) (a .lf0 .now) (a .lf1 .now) (a .lf2 .now) (a .store .now)) (a .clusters) (length (a .map .now)) (a .shift) (length (a .log .now)) (c .before .before .before .before .before .before .before .before .before .before .before .before .before .before .before .before .before .before .before .before .before .before .before .before .before .before .before .before .before .before .before .before .before .before .before .before .before .before .before .before .before .pre) (l .x) (o .y) (omega arith) (omega arith) k)) (c .before .before .before .before .before .before .before .before .before .before .before .before .before .before .read-varblock .ensures) (sym (c .before .before .before .before .is-stopped .ensures) ∙ c .before .before .before .if2 .left)),
+    let w = c .before .before .before .before .before .before .before .before .before .before .before .read-varblock in
+    let z = w .last .1 .1 .1 .1 .1 .1 .1 .1 in (
+      c .before .before .before .before .before .before .before .before .before .before .log .given ∙ l .inv .0,
+      c .before .before .before .before .before .before .before .before .g0 .given ∙ l .inv .1,
+      c .before .before .before .before .before .before .g1 .given ∙ l .inv .2,
+      c .before .before .before .before .g2 .given ∙ l .inv .3,
+      omega (arith, c .before .before .before .before .before .before .before .before .before .before .before .before .before .before .before .before .before .before .before .before .before .before .before .before .before .loop2-test .taken),
+      λ W d. corner-step (a .shift) (a .t5 .«num_block_clusters») (a .map .now) (passWith (a .width) (a .height) (a .kinds .now) (a .muls .now) (a .t5) (a .lf-there) (a .lf0 .now) (a .lf1 .now) (a .lf2 .now) (a .store .now)) (a .symbols .now) (length (a .log .now)) (c .before .before .before .before .before .before .before .before .before .before .before .before .before .before .before .before .before .before .before .before .before .before .before .before .before .before .before .before .before .before .before .before .before .before .before .before .before .before .before .before .before .before .pre) W (l .x) (o .y) (l .at) (l .rows) (l .log) (l .g0 ∷ l .g1 ∷ l .g2 ∷ []) (c .before .before .before .before .before .before .before .before .before .before .before .before .before .before .before .before .before .before .before .before .before .before .before .before .before .loop2-test .taken) (c .before .before .before .before .before .before .before .before .before .before .before .before .before .before .before .before .before .before .before .before .before .before .before .before .before .before .before .loop-test .taken) (c .before .before .before .before .before .before .before .before .before .before .before .before .before .before .before .before .before .before .before .before .before .before .before .if1 .left) (l .inv .5 W d) (c .before .before .before .before .before .before .before .before .before .before .before .before .before .before .before .before .before .plan-of .result) (c .before .before .before .before .before .before .before .before .before .before .before .before .before .before .before .before .before .plan-of .ensures) (w .result) (z .0) (z .1 .0) (z .1 .1 .0 ∷ z .1 .1 .1 .0 ∷ z .1 .1 .1 .1 .0 ∷ []) (w .ensures) (sym (c .before .before .is-stopped .ensures) ∙ c .before .if2 .left) (c .symbols-read .result) (c .symbols-read .ensures),
     )
 
 add-y : tie.Need-add-y Inv-loop2 μ-loop2 Inv-loop μ-loop
@@ -200,15 +160,15 @@ loop-less c = search needs
 
 loop-again : tie.Need-loop-again Inv-loop2 μ-loop2 Inv-loop μ-loop
 loop-again c =
-    let a = c .before .before .before .before .before .before .before .before .before .before .before .before .before .before .before .before .args in
+    let a = c .before .before .before .before .before .before .before .before .before .before .before .before .before .before .before .before .before .args in
     let o = c .before .before .before .loop in
     let l = c .before .loop2 in (
       l .inv .0 ∙ o .inv .0,
       l .inv .1 ∙ o .inv .1,
       l .inv .2 ∙ o .inv .2,
       l .inv .3 ∙ o .inv .3,
-      omega arith,
-      due-next (a .shift) (a .clusters) (a .map .now) (passOf (a .width) (a .height) (a .kinds .now) (a .muls .now) (a .clusters) (a .lengths) (a .lf-thresholds .now) (a .qf-thresholds .now) (a .block-ctx-map .now) (a .lf-there) (a .lf0 .now) (a .lf1 .now) (a .lf2 .now) (a .store .now)) (a .symbols .now) (192 * (a .width * a .height)) (wholeOf (a .shift) (a .clusters) (a .map .now) (passOf (a .width) (a .height) (a .kinds .now) (a .muls .now) (a .clusters) (a .lengths) (a .lf-thresholds .now) (a .qf-thresholds .now) (a .block-ctx-map .now) (a .lf-there) (a .lf0 .now) (a .lf1 .now) (a .lf2 .now) (a .store .now)) (a .symbols .now) (a .log .now) (a .g0 .now ∷ a .g1 .now ∷ a .g2 .now ∷ [])) (l .at) (l .rows) (l .log) (l .g0 ∷ l .g1 ∷ l .g2 ∷ []) (l .x) (o .y) (omega arith) (l .inv .5 (wholeOf (a .shift) (a .clusters) (a .map .now) (passOf (a .width) (a .height) (a .kinds .now) (a .muls .now) (a .clusters) (a .lengths) (a .lf-thresholds .now) (a .qf-thresholds .now) (a .block-ctx-map .now) (a .lf-there) (a .lf0 .now) (a .lf1 .now) (a .lf2 .now) (a .store .now)) (a .symbols .now) (a .log .now) (a .g0 .now ∷ a .g1 .now ∷ a .g2 .now ∷ [])) (due-row (a .shift) (a .clusters) (a .map .now) (passOf (a .width) (a .height) (a .kinds .now) (a .muls .now) (a .clusters) (a .lengths) (a .lf-thresholds .now) (a .qf-thresholds .now) (a .block-ctx-map .now) (a .lf-there) (a .lf0 .now) (a .lf1 .now) (a .lf2 .now) (a .store .now)) (a .symbols .now) (192 * (a .width * a .height)) (wholeOf (a .shift) (a .clusters) (a .map .now) (passOf (a .width) (a .height) (a .kinds .now) (a .muls .now) (a .clusters) (a .lengths) (a .lf-thresholds .now) (a .qf-thresholds .now) (a .block-ctx-map .now) (a .lf-there) (a .lf0 .now) (a .lf1 .now) (a .lf2 .now) (a .store .now)) (a .symbols .now) (a .log .now) (a .g0 .now ∷ a .g1 .now ∷ a .g2 .now ∷ [])) (o .at) (o .rows) (o .log) (o .g0 ∷ o .g1 ∷ o .g2 ∷ []) (o .y) (omega arith) (o .inv .5))),
+      omega (arith, c .before .before .loop-test .taken),
+      due-next (a .shift) (a .t5 .«num_block_clusters») (a .map .now) (passWith (a .width) (a .height) (a .kinds .now) (a .muls .now) (a .t5) (a .lf-there) (a .lf0 .now) (a .lf1 .now) (a .lf2 .now) (a .store .now)) (a .symbols .now) (192 * (a .width * a .height)) (wholeOf (a .shift) (a .t5 .«num_block_clusters») (a .map .now) (passWith (a .width) (a .height) (a .kinds .now) (a .muls .now) (a .t5) (a .lf-there) (a .lf0 .now) (a .lf1 .now) (a .lf2 .now) (a .store .now)) (a .symbols .now) (a .log .now) (a .g0 .now ∷ a .g1 .now ∷ a .g2 .now ∷ [])) (l .at) (l .rows) (l .log) (l .g0 ∷ l .g1 ∷ l .g2 ∷ []) (l .x) (o .y) (c .loop2-test .left) (l .inv .5 (wholeOf (a .shift) (a .t5 .«num_block_clusters») (a .map .now) (passWith (a .width) (a .height) (a .kinds .now) (a .muls .now) (a .t5) (a .lf-there) (a .lf0 .now) (a .lf1 .now) (a .lf2 .now) (a .store .now)) (a .symbols .now) (a .log .now) (a .g0 .now ∷ a .g1 .now ∷ a .g2 .now ∷ [])) (due-row (a .shift) (a .t5 .«num_block_clusters») (a .map .now) (passWith (a .width) (a .height) (a .kinds .now) (a .muls .now) (a .t5) (a .lf-there) (a .lf0 .now) (a .lf1 .now) (a .lf2 .now) (a .store .now)) (a .symbols .now) (192 * (a .width * a .height)) (wholeOf (a .shift) (a .t5 .«num_block_clusters») (a .map .now) (passWith (a .width) (a .height) (a .kinds .now) (a .muls .now) (a .t5) (a .lf-there) (a .lf0 .now) (a .lf1 .now) (a .lf2 .now) (a .store .now)) (a .symbols .now) (a .log .now) (a .g0 .now ∷ a .g1 .now ∷ a .g2 .now ∷ [])) (o .at) (o .rows) (o .log) (o .g0 ∷ o .g1 ∷ o .g2 ∷ []) (o .y) (c .before .before .loop-test .taken) (o .inv .5))),
     )
 
 same-length-5 : tie.Need-same-length-5 Inv-loop2 μ-loop2 Inv-loop μ-loop
@@ -225,9 +185,9 @@ same-length-8 c = search needs
 
 returns-2 : tie.Need-returns-2 Inv-loop2 μ-loop2 Inv-loop μ-loop
 returns-2 c =
-    let a = c .before .before .before .before .before .before .before .before .before .before .before .before .before .before .args in
+    let a = c .before .before .before .before .before .before .before .before .before .before .before .before .before .before .before .args in
     let o = c .before .loop in
-    due-end (a .shift) (a .clusters) (a .map .now) (passOf (a .width) (a .height) (a .kinds .now) (a .muls .now) (a .clusters) (a .lengths) (a .lf-thresholds .now) (a .qf-thresholds .now) (a .block-ctx-map .now) (a .lf-there) (a .lf0 .now) (a .lf1 .now) (a .lf2 .now) (a .store .now)) (a .symbols .now) (192 * (a .width * a .height)) (wholeOf (a .shift) (a .clusters) (a .map .now) (passOf (a .width) (a .height) (a .kinds .now) (a .muls .now) (a .clusters) (a .lengths) (a .lf-thresholds .now) (a .qf-thresholds .now) (a .block-ctx-map .now) (a .lf-there) (a .lf0 .now) (a .lf1 .now) (a .lf2 .now) (a .store .now)) (a .symbols .now) (a .log .now) (a .g0 .now ∷ a .g1 .now ∷ a .g2 .now ∷ [])) (o .at) (o .rows) (o .log) (o .g0 ∷ o .g1 ∷ o .g2 ∷ []) (o .y) (omega arith) (o .inv .5)
+    due-end (a .shift) (a .t5 .«num_block_clusters») (a .map .now) (passWith (a .width) (a .height) (a .kinds .now) (a .muls .now) (a .t5) (a .lf-there) (a .lf0 .now) (a .lf1 .now) (a .lf2 .now) (a .store .now)) (a .symbols .now) (192 * (a .width * a .height)) (wholeOf (a .shift) (a .t5 .«num_block_clusters») (a .map .now) (passWith (a .width) (a .height) (a .kinds .now) (a .muls .now) (a .t5) (a .lf-there) (a .lf0 .now) (a .lf1 .now) (a .lf2 .now) (a .store .now)) (a .symbols .now) (a .log .now) (a .g0 .now ∷ a .g1 .now ∷ a .g2 .now ∷ [])) (o .at) (o .rows) (o .log) (o .g0 ∷ o .g1 ∷ o .g2 ∷ []) (o .y) (c .loop-test .left) (o .inv .5)
 
 pub read-group-spec : {M : Type 1} → statement M
 read-group-spec =
@@ -237,6 +197,7 @@ read-group-spec =
     μ-loop2
     Inv-loop
     μ-loop
+    cast-clusters
     loop-holds
     loop2-holds
     mul-i
@@ -256,7 +217,6 @@ read-group-spec =
     same-length-4
     returns
     symbols-read-requires
-    rewrite-all-requires
     add-x-2
     loop2-less-2
     loop2-again-2
