@@ -2,7 +2,7 @@
 use mathlib.Core.Path.{_≡_, refl, ap, ap₂, sym, _∙_}
 use mathlib.Core.Bool.{true, _&&_}
 use mathlib.Core.List.{List, [], _∷_, _++_, append-assoc, append-nil, map, map-append}
-use Prim.Native.Nat.{ℕ, zero, suc, _+_, _*_, _-_, _/_, _%_, _<_, _≤_}
+use Prim.Native.Nat.{ℕ, zero, suc, _+_, _*_, _-_, _/_, _%_, _<_, _≤_, min}
 use native.Mathlib.Numerals.{add-one}
 use native.Mathlib.Omega.{arith}
 use lib.Dec.{ltb}
@@ -19,16 +19,17 @@ use Rattle.permutation.specs.Leading.{below-next}
 use Rattle.permutation.specs.Blocks.{remaining, Blocks, sumTo, total, counts, closed, closedAt, remaining-length, block-room, block-most, taken-out, counts-start, counts-length, sum-step}
 use Rattle.permutation.specs.Packed.{packed, unpacked, code, decode, below-at}
 
--- 64 blocks in a list
-pub record Ready (count rest : List ℕ) : Type 0 where
+-- 64 blocks of m in a list
+pub record Ready (m : ℕ) (count rest : List ℕ) : Type 0 where
   pub many : length count ≡ 64
-  pub blocks : Blocks 1024 count rest
+  pub small : m ≤ 1024
+  pub blocks : Blocks m count rest
 
 -- the d-th of what remained is taken out
-pub record Out (count rest : List ℕ) (d v : ℕ) (count' rest' : List ℕ) : Type 0 where
-  pub value : v ≡ getD (remaining 1024 count rest) d 0
-  pub left : remaining 1024 count' rest' ≡ without d (remaining 1024 count rest)
-  pub ready : Ready count' rest'
+pub record Out (m : ℕ) (count rest : List ℕ) (d v : ℕ) (count' rest' : List ℕ) : Type 0 where
+  pub value : v ≡ getD (remaining m count rest) d 0
+  pub left : remaining m count' rest' ≡ without d (remaining m count rest)
+  pub ready : Ready m count' rest'
   pub long : length rest' ≡ length rest
   pub fewer : total count' ≡ total count - 1
 
@@ -44,83 +45,88 @@ tail-back l m a =
     let h : length (drop a l) ≤ length l - a = omega (arith, length-drop a l) in
     rw (drop-of-length-le (drop a l) h, append-nil m)
 
-pub is-closed : (rest m : List ℕ) (b e n : ℕ) → m ≡ closed (take (length rest - b * 1024) (drop (b * 1024) rest)) e n
-    → take (b * 1024) rest ++ (m ++ drop (length rest - b * 1024) (drop (b * 1024) rest)) ≡ closedAt 1024 rest b e n
-is-closed rest m b e n q = tail-back rest m (b * 1024) ∙ ap (λ (k : List ℕ). take (b * 1024) rest ++ k) (q ∙ ap (λ (k : List ℕ). closed k e n) (tail-all rest (b * 1024)))
+pub is-closed : (m : ℕ) (rest l : List ℕ) (b e k : ℕ) → l ≡ closed (take (length rest - b * m) (drop (b * m) rest)) e k
+    → take (b * m) rest ++ (l ++ drop (length rest - b * m) (drop (b * m) rest)) ≡ closedAt m rest b e k
+is-closed m rest l b e k q = tail-back rest l (b * m) ∙ ap (λ (x : List ℕ). take (b * m) rest ++ x) (q ∙ ap (λ (x : List ℕ). closed x e k) (tail-all rest (b * m)))
 
 -- block b at `at`, as the code goes
-module _ (count rest : List ℕ) (d : ℕ) (r : Ready count rest) (t : d < total count) (b e : ℕ) (hb : b < 64) (he : e < getD count b 0) (hs : sumTo b count + e ≡ d) where
+module _ (m : ℕ) (count rest : List ℕ) (d : ℕ) (r : Ready m count rest) (t : d < total count) (b e : ℕ) (hb : b < 64) (he : e < getD count b 0) (hs : sumTo b count + e ≡ d) where
   in-count : b < length count
   in-count = omega (arith, r .many)
 
-  pub spot-room : b * 1024 + getD count b 0 ≤ length rest
-  spot-room = block-room 1024 count rest b e (r .blocks) in-count he
+  pub spot-room : (b * m + getD count b 0 ≤ length rest) × (getD count b 0 ≤ m) × (m ≤ 1024)
+  spot-room = (block-room m count rest b e (r .blocks) in-count he, block-most m count rest b (r .blocks) in-count, r .small)
 
-  pub spot-most : getD count b 0 ≤ 1024
-  spot-most = block-most 1024 count rest b (r .blocks) in-count
+  -- the block ends behind its numbers; in it more may go down than stand behind e
+  module _ (n end : ℕ) (en : n ≡ getD count b 0) (ee : end ≡ min (b * m + m) (length rest)) where
+    pub spot-end : (b * m + n ≤ end) × (end ≤ b * m + m) × (end ≤ length rest)
+    spot-end = let q = spot-room in (omega (arith, q .0, q .1), omega arith, omega arith)
 
-  pub is-out : (n : ℕ) (rest' : List ℕ) → n ≡ getD count b 0 → rest' ≡ closedAt 1024 rest b e n → Out count rest d (getD rest (b * 1024 + e) 0) (set count b (n - 1)) rest'
-  is-out n rest' en er =
-      let o = taken-out 1024 count rest b e (r .blocks) in-count he in
+    pub spot-closed : (k : ℕ) → n - 1 - e ≤ k → k ≤ n - 1 - e + (end - b * m - n) → (n ≤ e + 1 + k) × (e + 1 + k ≤ m) × (b * m + (e + 1 + k) ≤ length rest)
+    spot-closed k a c = let q = spot-end in (omega arith, omega (arith, q .0, q .1), omega (arith, q .0, q .2))
+
+  pub is-out : (n k : ℕ) (rest' : List ℕ) → n ≡ getD count b 0 → n ≤ e + 1 + k → e + 1 + k ≤ m → b * m + (e + 1 + k) ≤ length rest → rest' ≡ closedAt m rest b e k → Out m count rest d (getD rest (b * m + e) 0) (set count b (n - 1)) rest'
+  is-out n k rest' en u v w er =
+      let o = taken-out m count rest b e k (r .blocks) in-count he (omega arith) v w in
       let c' = set count b (getD count b 0 - 1) in
-      let l : remaining 1024 c' (closedAt 1024 rest b e (getD count b 0)) ≡ without d (remaining 1024 count rest) = o .left ∙ ap (λ (k : ℕ). without k (remaining 1024 count rest)) hs in
-      let n₀ = remaining-length 1024 count rest (r .blocks) in
-      let n₁ = remaining-length 1024 c' (closedAt 1024 rest b e (getD count b 0)) (o .fit) in
-      let w = without-length d (remaining 1024 count rest) (omega arith) in
+      let l : remaining m c' (closedAt m rest b e k) ≡ without d (remaining m count rest) = o .left ∙ ap (λ (i : ℕ). without i (remaining m count rest)) hs in
+      let n₀ = remaining-length m count rest (r .blocks) in
+      let n₁ = remaining-length m c' (closedAt m rest b e k) (o .fit) in
+      let x = without-length d (remaining m count rest) (omega arith) in
       rw (er, en)
       record {
-        value = sym (o .value) ∙ ap (λ (k : ℕ). getD (remaining 1024 count rest) k 0) hs;
+        value = sym (o .value) ∙ ap (λ (i : ℕ). getD (remaining m count rest) i 0) hs;
         left = l;
-        ready = record { many = length-set count b (getD count b 0 - 1) ∙ r .many; blocks = o .fit };
+        ready = record { many = length-set count b (getD count b 0 - 1) ∙ r .many; small = r .small; blocks = o .fit };
         long = o .long;
-        fewer = sym n₁ ∙ ap length l ∙ w ∙ ap (λ (k : ℕ). k - 1) n₀;
+        fewer = sym n₁ ∙ ap length l ∙ x ∙ ap (λ (i : ℕ). i - 1) n₀;
       }
 
 -- after k digits
-pub record Drawing (size skip : ℕ) (ds l₀ count l : List ℕ) (k : ℕ) : Type 0 where
+pub record Drawing (m size skip : ℕ) (ds l₀ count l : List ℕ) (k : ℕ) : Type 0 where
   pub fewer : k ≤ length ds
   pub long : length l ≡ 2 * size
-  pub ready : Ready count (drop (size + skip) l)
+  pub ready : Ready m count (drop (size + skip) l)
   pub below : Below (drop k ds) (size - skip - k)
   pub left : total count ≡ size - skip - k
   pub most : k ≤ size - skip
-  pub same : take (skip + k) l ++ chosen 0 (drop k ds) (remaining 1024 count (drop (size + skip) l)) ≡ take skip l₀ ++ chosen 0 ds (drop (size + skip) l₀)
+  pub same : take (skip + k) l ++ chosen 0 (drop k ds) (remaining m count (drop (size + skip) l)) ≡ take skip l₀ ++ chosen 0 ds (drop (size + skip) l₀)
 
-module _ (size skip : ℕ) (ds l : List ℕ) (n : length l ≡ 2 * size) (s : size ≤ 65536) (h : skip ≤ size) (b : Below ds (size - skip)) where
-  pub draw-start : (count : List ℕ) → count ≡ counts 1024 64 (size - skip) → Drawing size skip ds l count l 0
+module _ (m size skip : ℕ) (ds l : List ℕ) (n : length l ≡ 2 * size) (w : m ≤ 1024) (s : size ≤ 64 * m) (h : skip ≤ size) (b : Below ds (size - skip)) where
+  pub draw-start : (count : List ℕ) → count ≡ counts m 64 (size - skip) → Drawing m size skip ds l count l 0
   draw-start count e =
       let rest = drop (size + skip) l in
       let lr : length rest ≡ size - skip = length-drop (size + skip) l ∙ omega arith in
-      let c = counts-start 1024 64 (size - skip) rest lr (omega arith) in
+      let c = counts-start m 64 (size - skip) rest lr (omega arith) in
       let z : size - skip - 0 ≡ size - skip = omega arith in
       let y : skip + 0 ≡ skip = omega arith in
       record {
         fewer = omega arith;
         long = n;
-        ready = rw e (record { many = counts-length 1024 64 (size - skip); blocks = c .1 });
+        ready = rw e (record { many = counts-length m 64 (size - skip); small = w; blocks = c .1 });
         below = rw z b;
-        left = rw (e, z) (sym (remaining-length 1024 (counts 1024 64 (size - skip)) rest (c .1)) ∙ ap length (c .0) ∙ lr);
+        left = rw (e, z) (sym (remaining-length m (counts m 64 (size - skip)) rest (c .1)) ∙ ap length (c .0) ∙ lr);
         most = omega arith;
         same = rw (y, e, c .0);
       }
 
-module _ (size skip : ℕ) (ds l₀ count l : List ℕ) (k : ℕ) (p : Drawing size skip ds l₀ count l k) (h : k < length ds) (hs : skip ≤ size) where
+module _ (m size skip : ℕ) (ds l₀ count l : List ℕ) (k : ℕ) (p : Drawing m size skip ds l₀ count l k) (h : k < length ds) (hs : skip ≤ size) where
   pub digit-below : getD ds k 0 < total count
   digit-below = let b = below-next ds (size - skip) k h (p .below) in omega (arith, b .0, p .left)
 
   pub draw-room : skip + k < length l
   draw-room = let b = below-next ds (size - skip) k h (p .below) in omega (arith, b .0, p .long)
 
-  pub draw-turn : (d v : ℕ) (count' rest' l' : List ℕ) → d ≡ getD ds k 0 → Out count (take (length l - (size + skip)) (drop (size + skip) l)) d v count' rest'
-      → l' ≡ set (take (size + skip) l ++ (rest' ++ drop (length l - (size + skip)) (drop (size + skip) l))) (skip + k) v → Drawing size skip ds l₀ count' l' (k + 1)
+  pub draw-turn : (d v : ℕ) (count' rest' l' : List ℕ) → d ≡ getD ds k 0 → Out m count (take (length l - (size + skip)) (drop (size + skip) l)) d v count' rest'
+      → l' ≡ set (take (size + skip) l ++ (rest' ++ drop (length l - (size + skip)) (drop (size + skip) l))) (skip + k) v → Drawing m size skip ds l₀ count' l' (k + 1)
   draw-turn d v count' rest' l' ed o₀ el₀ =
       let o = rw (tail-all l (size + skip)) at o₀ in
-      let el : l' ≡ set (take (size + skip) l ++ rest') (skip + k) v = el₀ ∙ ap (λ (m : List ℕ). set m (skip + k) v) (tail-back l rest' (size + skip)) in
+      let el : l' ≡ set (take (size + skip) l ++ rest') (skip + k) v = el₀ ∙ ap (λ (x : List ℕ). set x (skip + k) v) (tail-back l rest' (size + skip)) in
       let b = below-next ds (size - skip) k h (p .below) in
       let from = size + skip in
       let a = take from l in
       let rest = drop from l in
-      let q = remaining 1024 count rest in
+      let q = remaining m count rest in
       let la : length a ≡ from = length-take-le from l (omega (arith, p .long)) in
       let lr : length rest' ≡ length l - from = o .long ∙ length-drop from l in
       let lar : length (a ++ rest') ≡ 2 * size = length-append a rest' ∙ omega (arith, p .long) in
@@ -130,7 +136,7 @@ module _ (size skip : ℕ) (ds l₀ count l : List ℕ) (k : ℕ) (p : Drawing s
       let t₁ : take (skip + (k + 1)) l' ≡ take (skip + k) l ++ (v ∷ []) = rw (← i, el) (take-suc-set (a ++ rest') (skip + k) v room ∙ ap (λ (x : List ℕ). x ++ (v ∷ [])) t₀) in
       let d₁ : drop from l' ≡ rest' = rw el (drop-set-lt from (a ++ rest') (skip + k) v (omega (arith, b .0)) ∙ drop-at a rest' from la) in
       let dc : drop k ds ≡ d ∷ drop (k + 1) ds = drop-cons ds k 0 h ∙ rw (← ed, add-one k) in
-      let e : take (skip + (k + 1)) l' ++ chosen 0 (drop (k + 1) ds) (remaining 1024 count' (drop from l')) ≡ take (skip + k) l ++ chosen 0 (drop k ds) q =
+      let e : take (skip + (k + 1)) l' ++ chosen 0 (drop (k + 1) ds) (remaining m count' (drop from l')) ≡ take (skip + k) l ++ chosen 0 (drop k ds) q =
       rw (t₁, d₁, o .left, dc, o .value) (append-assoc (take (skip + k) l) (getD q d 0 ∷ []) (chosen 0 (drop (k + 1) ds) (without d q))) in
       record {
         fewer = omega arith;
@@ -146,17 +152,17 @@ module _ (size skip : ℕ) (ds l₀ count l : List ℕ) (k : ℕ) (p : Drawing s
       shorter i j l h = take-take i j l h
 
 -- all digits drawn
-pub record Drawn (size skip : ℕ) (ds l₀ count l : List ℕ) : Type 0 where
+pub record Drawn (m size skip : ℕ) (ds l₀ count l : List ℕ) : Type 0 where
   pub long : length l ≡ 2 * size
-  pub ready : Ready count (drop (size + skip) l)
+  pub ready : Ready m count (drop (size + skip) l)
   pub left : skip + length ds + total count ≡ size
-  pub same : take (skip + length ds) l ++ remaining 1024 count (drop (size + skip) l) ≡ take skip l₀ ++ chosen 0 ds (drop (size + skip) l₀)
+  pub same : take (skip + length ds) l ++ remaining m count (drop (size + skip) l) ≡ take skip l₀ ++ chosen 0 ds (drop (size + skip) l₀)
 
-pub draw-end : (size skip : ℕ) (ds l₀ count l : List ℕ) (k : ℕ) → Drawing size skip ds l₀ count l k → skip ≤ size → length ds ≤ k → Drawn size skip ds l₀ count l
-draw-end size skip ds l₀ count l k p hs h =
+pub draw-end : (m size skip : ℕ) (ds l₀ count l : List ℕ) (k : ℕ) → Drawing m size skip ds l₀ count l k → skip ≤ size → length ds ≤ k → Drawn m size skip ds l₀ count l
+draw-end m size skip ds l₀ count l k p hs h =
     let e : k ≡ length ds = omega (arith, p .fewer) in
     let z : drop k ds ≡ [] = drop-of-length-le ds h in
-    let s : take (skip + k) l ++ chosen 0 [] (remaining 1024 count (drop (size + skip) l)) ≡ take skip l₀ ++ chosen 0 ds (drop (size + skip) l₀) = rw z at (p .same) in
+    let s : take (skip + k) l ++ chosen 0 [] (remaining m count (drop (size + skip) l)) ≡ take skip l₀ ++ chosen 0 ds (drop (size + skip) l₀) = rw z at (p .same) in
     record {
       long = p .long;
       ready = p .ready;
@@ -165,23 +171,23 @@ draw-end size skip ds l₀ count l k p hs h =
     }
 
 -- what remains, laid block by block
-pub record Laying (from at : ℕ) (count l₀ l : List ℕ) (to start b : ℕ) : Type 0 where
+pub record Laying (m from at : ℕ) (count l₀ l : List ℕ) (to start b : ℕ) : Type 0 where
   pub fewer : b ≤ 64
   pub long : length l ≡ length l₀
-  pub spot : start ≡ from + b * 1024
-  pub blocks : Blocks 1024 (drop b count) (drop start l)
+  pub spot : (from ≤ start) × (start ≤ from + b * 1024)
+  pub blocks : Blocks m (drop b count) (drop start l)
   pub room : to + total (drop b count) ≡ at + total count
-  pub same : take to l ++ remaining 1024 (drop b count) (drop start l) ≡ take at l₀ ++ remaining 1024 count (drop from l₀)
+  pub same : take to l ++ remaining m (drop b count) (drop start l) ≡ take at l₀ ++ remaining m count (drop from l₀)
 
-pub lay-begin : (from at : ℕ) (count l : List ℕ) → Ready count (drop from l) → Laying from at count l l at from 0
-lay-begin from at count l r = record { fewer = omega arith; long = refl; spot = omega arith; blocks = r .blocks; room = refl; same = refl }
+pub lay-begin : (m from at : ℕ) (count l : List ℕ) → Ready m count (drop from l) → Laying m from at count l l at from 0
+lay-begin m from at count l r = record { fewer = omega arith; long = refl; spot = (omega arith, omega arith); blocks = r .blocks; room = refl; same = refl }
 
-module _ (from at : ℕ) (count l₀ l : List ℕ) (to start b : ℕ) (p : Laying from at count l₀ l to start b) (h : b < 64) (n : ℕ) (many : length count ≡ 64) (en : n ≡ getD count b 0)
+module _ (m from at : ℕ) (count l₀ l : List ℕ) (to start b : ℕ) (p : Laying m from at count l₀ l to start b) (h : b < 64) (n : ℕ) (many : length count ≡ 64) (en : n ≡ getD count b 0)
     (fits : at + total count ≤ from) where
   split : drop b count ≡ n ∷ drop (b + 1) count
   split = drop-cons count b 0 (omega arith) ∙ rw (← en, add-one b)
 
-  of-block : (n ≤ 1024) × (n ≤ length (drop start l)) × Blocks 1024 (drop (b + 1) count) (drop 1024 (drop start l))
+  of-block : (n ≤ m) × (n ≤ length (drop start l)) × Blocks m (drop (b + 1) count) (drop m (drop start l))
   unfolding Blocks
   of-block = rw split at (p .blocks)
 
@@ -192,39 +198,39 @@ module _ (from at : ℕ) (count l₀ l : List ℕ) (to start b : ℕ) (p : Layin
   block-inside z = let q = of-block in omega (arith, q .1, length-drop start l)
 
   pub before-it : to + n ≤ start
-  before-it = omega (arith, of-room, p .spot)
+  before-it = omega (arith, of-room, p .spot .0)
 
-  pub lay-block : (l' : List ℕ) → from ≤ length l₀ → l' ≡ paste l to (drop start l) n → Laying from at count l₀ l' (to + n) (start + 1024) (b + 1)
+  pub lay-block : (l' : List ℕ) → m ≤ 1024 → from ≤ length l₀ → l' ≡ paste l to (drop start l) n → Laying m from at count l₀ l' (to + n) (start + m) (b + 1)
   unfolding remaining
-  lay-block l' hf el =
+  lay-block l' w hf el =
       let q = of-block in
       let s = drop start l in
       let t : take (to + n) l' ≡ take to l ++ take n s = rw el (take-paste l to s n (omega (arith, before-it, p .long, of-room)) (q .1)) in
       let dn : drop (to + n) l' ≡ drop (to + n) l = rw el (drop-paste l to s n (omega (arith, before-it, p .long, of-room)) (q .1)) in
-      let x : to + n + (start + 1024 - (to + n)) ≡ start + 1024 = omega (arith, before-it) in
-      let d : drop (start + 1024) l' ≡ drop (start + 1024) l =
-      ap (λ (j : ℕ). drop j l') (sym x) ∙ sym (drop-drop (start + 1024 - (to + n)) (to + n) l') ∙ ap (drop (start + 1024 - (to + n))) dn ∙ drop-drop (start + 1024 - (to + n)) (to + n) l ∙ ap (λ (j : ℕ). drop j l) x in
-      let dd : drop (start + 1024) l' ≡ drop 1024 s = d ∙ sym (drop-drop 1024 start l) in
-      let e : take (to + n) l' ++ remaining 1024 (drop (b + 1) count) (drop (start + 1024) l') ≡ take to l ++ remaining 1024 (drop b count) s =
-      rw (t, dd, split) (append-assoc (take to l) (take n s) (remaining 1024 (drop (b + 1) count) (drop 1024 s))) in
+      let x : to + n + (start + m - (to + n)) ≡ start + m = omega (arith, before-it) in
+      let d : drop (start + m) l' ≡ drop (start + m) l =
+      ap (λ (j : ℕ). drop j l') (sym x) ∙ sym (drop-drop (start + m - (to + n)) (to + n) l') ∙ ap (drop (start + m - (to + n))) dn ∙ drop-drop (start + m - (to + n)) (to + n) l ∙ ap (λ (j : ℕ). drop j l) x in
+      let dd : drop (start + m) l' ≡ drop m s = d ∙ sym (drop-drop m start l) in
+      let e : take (to + n) l' ++ remaining m (drop (b + 1) count) (drop (start + m) l') ≡ take to l ++ remaining m (drop b count) s =
+      rw (t, dd, split) (append-assoc (take to l) (take n s) (remaining m (drop (b + 1) count) (drop m s))) in
       record {
         fewer = omega arith;
         long = rw el (length-paste l to s n (omega (arith, before-it, p .long, of-room)) (q .1) ∙ p .long);
-        spot = omega (arith, p .spot);
+        spot = (omega (arith, p .spot .0), omega (arith, p .spot .1));
         blocks = rw dd (q .2);
         room = of-room;
         same = e ∙ p .same;
       }
 
-pub lay-done : (from at : ℕ) (count l₀ l : List ℕ) (to start b : ℕ) → Laying from at count l₀ l to start b → length count ≡ 64 → 64 ≤ b
-    → (length l ≡ length l₀) × (take (at + total count) l ≡ take at l₀ ++ remaining 1024 count (drop from l₀))
+pub lay-done : (m from at : ℕ) (count l₀ l : List ℕ) (to start b : ℕ) → Laying m from at count l₀ l to start b → length count ≡ 64 → 64 ≤ b
+    → (length l ≡ length l₀) × (take (at + total count) l ≡ take at l₀ ++ remaining m count (drop from l₀))
 unfolding remaining total
-lay-done from at count l₀ l to start b p m h =
+lay-done m from at count l₀ l to start b p many h =
     let k : length count ≤ b = omega arith in
     let z : drop b count ≡ [] = drop-of-length-le count k in
     let r : to + 0 ≡ at + total count = rw z at (p .room) in
     let r' : to ≡ at + total count = omega arith in
-    let s : take to l ++ [] ≡ take at l₀ ++ remaining 1024 count (drop from l₀) = rw z at (p .same) in
+    let s : take to l ++ [] ≡ take at l₀ ++ remaining m count (drop from l₀) = rw z at (p .same) in
     (p .long, rw (← r') (sym (append-nil (take to l)) ∙ s))
 
 -- no digit, nothing moved
@@ -263,9 +269,9 @@ packed-length : (l : List Place) → length (map code l) ≡ length l
 packed-length [] = refl
 packed-length (p ∷ l) = ap suc (packed-length l)
 
-module _ (size skip : ℕ) (ds l₀ : List ℕ) (n : length l₀ ≡ 2 * size) (s : size ≤ 65536) (h : skip ≤ size) (t : allBelow 256 l₀ ≡ true) (b : Below ds (size - skip)) where
+module _ (m size skip : ℕ) (ds l₀ : List ℕ) (n : length l₀ ≡ 2 * size) (h : skip ≤ size) (t : allBelow 256 l₀ ≡ true) (b : Below ds (size - skip)) where
   pub all-drawn : (l₁ l₂ count l₃ l₄ l₅ : List ℕ) → length l₁ ≡ 2 * size → drop size l₁ ≡ packed (paired l₀) → l₂ ≡ paste l₁ 0 (drop size l₁) skip
-      → Drawn size skip ds l₂ count l₃ → take (skip + length ds + total count) l₄ ≡ take (skip + length ds) l₃ ++ remaining 1024 count (drop (size + skip) l₃)
+      → Drawn m size skip ds l₂ count l₃ → take (skip + length ds + total count) l₄ ≡ take (skip + length ds) l₃ ++ remaining m count (drop (size + skip) l₃)
       → l₅ ≡ flat (unpacked (take size l₄)) → l₅ ≡ flat (ordered (0, 0) skip (paired l₀) ds)
   unfolding packed unpacked
   all-drawn l₁ l₂ count l₃ l₄ l₅ n₁ e₁ e₂ d e₄ e₅ =
@@ -279,12 +285,12 @@ module _ (size skip : ℕ) (ds l₀ : List ℕ) (n : length l₀ ≡ 2 * size) (
       let x : skip + size ≡ size + skip = omega arith in
       let d₂ : drop (size + skip) l₂ ≡ drop skip pk =
       ap (λ (j : ℕ). drop j l₂) (sym x) ∙ sym (drop-drop size skip l₂) ∙ ap (drop size) d₀ ∙ drop-drop size skip l₁ ∙ ap (λ (j : ℕ). drop j l₁) x ∙ sym (drop-drop skip size l₁) ∙ ap (drop skip) e₁ in
-      let m : take size l₄ ≡ take skip pk ++ chosen 0 ds (drop skip pk) =
+      let whole : take size l₄ ≡ take skip pk ++ chosen 0 ds (drop skip pk) =
       ap (λ (j : ℕ). take j l₄) (sym (d .left)) ∙ e₄ ∙ d .same ∙ ap₂ (λ (u v : List ℕ). u ++ chosen 0 ds v) t₂ d₂ in
       let back = unpack-pack l₀ size n t in
       let ld : length (drop skip pk) ≡ size - skip = length-drop skip pk ∙ ap (λ (j : ℕ). j - skip) lp in
       let f : map decode (take size l₄) ≡ ordered (0, 0) skip (paired l₀) ds =
-      ap (map decode) m ∙ map-append decode (take skip pk) (chosen 0 ds (drop skip pk))
+      ap (map decode) whole ∙ map-append decode (take skip pk) (chosen 0 ds (drop skip pk))
       ∙ ap₂ (λ (u v : List Place). u ++ v) (map-take skip pk ∙ ap (take skip) back)
       (map-chosen decode ds (drop skip pk) (rw ld b) ∙ ap (chosen (0, 0) ds) (map-drop skip pk ∙ ap (drop skip) back)) in
       e₅ ∙ ap flat f

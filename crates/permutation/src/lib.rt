@@ -9,7 +9,7 @@ ghost use lib.Seq.{paste};
 ghost use Rattle.natural_order.specs.Places.{flat, paired};
 ghost use Rattle.permutation.specs.Digits.{Below, ordered};
 ghost use Rattle.permutation.specs.Permuted.{leading, allBelow, permutable, permuted};
-ghost use Rattle.permutation.specs.Blocks.{total, sumTo, counts, remaining};
+ghost use Rattle.permutation.specs.Blocks.{total, sumTo, counts, remaining, closed};
 ghost use Rattle.permutation.specs.Drawing.{Ready, Out, Drawn};
 ghost use Rattle.permutation.specs.Packed.{packed, unpacked};
 
@@ -96,27 +96,59 @@ fn lay(list: &mut [u16], start: usize, at: usize, n: usize)
     }
 }
 
+// n numbers behind place e go down by one, and up to `more` behind them where that makes whole 32s; how many did.
+fn close(list: &mut [u16], e: usize, n: usize, more: usize) -> usize
+    requires { ⌜ e + 1 + n + more ≤ length (now list) ⌝ }
+    ensures { λ r. ⌜ (n ≤ r) × (r ≤ n + more) × (now (list .exit) ≡ closed (now (list .entry)) e r) ⌝ }
+{
+    if more < 32 {
+        lay(&mut list[..], e + 1, e, n);
+        return n;
+    }
+    let k = (n + 31) / 32 * 32;
+    lay(&mut list[..], e + 1, e, k);
+    k
+}
+
 fn wide16(x: u16) -> usize
     ensures { λ r. ⌜ r ≡ x ⌝ }
 {
     x as usize
 }
 
-fn at_most_1024(n: usize) -> usize
-    ensures { λ r. ⌜ r ≡ min n 1024 ⌝ }
+// How many numbers a block takes, about four times the side of a square list: few blocks are passed, and few numbers move.
+fn width_of(size: usize) -> usize
+    requires { ⌜ size ≤ 65536 ⌝ }
+    ensures { λ r. ⌜ (r ≤ 1024) × (size ≤ 64 * r) ⌝ }
 {
-    if n < 1024 { n } else { 1024 }
+    if size <= 1024 {
+        return 128;
+    }
+    if size <= 4096 {
+        return 256;
+    }
+    if size <= 16384 {
+        return 512;
+    }
+    1024
 }
 
-// How many numbers each of 64 blocks of 1,024 has.
-fn counts_of(free: usize) -> [u16; 64]
-    ensures { λ r. ⌜ r ≡ counts 1024 64 free ⌝ }
+fn at_most(n: usize, most: usize) -> usize
+    ensures { λ r. ⌜ r ≡ min n most ⌝ }
+{
+    if n < most { n } else { most }
+}
+
+// How many numbers each of 64 blocks of `width` has.
+fn counts_of(width: usize, free: usize) -> [u16; 64]
+    requires { ⌜ width ≤ 1024 ⌝ }
+    ensures { λ r. ⌜ r ≡ counts width 64 free ⌝ }
 {
     let mut c = [0u16; 64];
     let mut left = free;
     let mut i = 0;
     while i < 64 {
-        let n = at_most_1024(left);
+        let n = at_most(left, width);
         c[i] = n as u16;
         left = left - n;
         i += 1;
@@ -175,9 +207,16 @@ struct Taken {
 }
 
 // The d-th of the remaining numbers, taken out of its block.
-fn take_out(rest: &mut [u16], count: &mut [u16; 64], block: usize, before: usize, d: usize) -> Taken
-    requires { ⌜ Ready (now count) (now rest) × (block < 64) × (before ≡ sumTo block (now count)) × (d < total (now count)) ⌝ }
-    ensures { λ r. ⌜ Out (now (count .entry)) (now (rest .entry)) d (r .value) (now (count .exit)) (now (rest .exit)) × (r .block < 64) × (r .before ≡ sumTo (r .block) (now (count .exit))) ⌝ }
+fn take_out(
+    rest: &mut [u16],
+    count: &mut [u16; 64],
+    width: usize,
+    block: usize,
+    before: usize,
+    d: usize,
+) -> Taken
+    requires { ⌜ Ready width (now count) (now rest) × (block < 64) × (before ≡ sumTo block (now count)) × (d < total (now count)) ⌝ }
+    ensures { λ r. ⌜ Out width (now (count .entry)) (now (rest .entry)) d (r .value) (now (count .exit)) (now (rest .exit)) × (r .block < 64) × (r .before ≡ sumTo (r .block) (now (count .exit))) ⌝ }
 {
     let near = back(count, block, before, d);
     let s = find(count, near.block, near.before, d);
@@ -186,9 +225,10 @@ fn take_out(rest: &mut [u16], count: &mut [u16; 64], block: usize, before: usize
     let e = d - sum;
     let n = wide16(count[b]);
     let behind = n - 1 - e;
-    let start = b * 1024;
+    let start = b * width;
     let value = rest[start + e];
-    lay(&mut rest[start..], e + 1, e, behind);
+    let end = at_most(start + width, rest.len());
+    close(&mut rest[start..], e, behind, end - start - n);
     count[b] = (n - 1) as u16;
     Taken {
         value,
@@ -198,18 +238,18 @@ fn take_out(rest: &mut [u16], count: &mut [u16; 64], block: usize, before: usize
 }
 
 // A number for each digit, from `skip` on; what the blocks have left.
-fn draw(list: &mut [u16], size: usize, skip: usize, digits: &[u32]) -> [u16; 64]
-    requires { ⌜ (length (now list) ≡ 2 * size) × (size ≤ 65536) × (skip ≤ size) × Below (now digits) (size - skip) ⌝ }
-    ensures { λ r. ⌜ Drawn size skip (now (digits .entry)) (now (list .entry)) r (now (list .exit)) ⌝ }
+fn draw(list: &mut [u16], width: usize, size: usize, skip: usize, digits: &[u32]) -> [u16; 64]
+    requires { ⌜ (length (now list) ≡ 2 * size) × (width ≤ 1024) × (size ≤ 64 * width) × (skip ≤ size) × Below (now digits) (size - skip) ⌝ }
+    ensures { λ r. ⌜ Drawn width size skip (now (digits .entry)) (now (list .entry)) r (now (list .exit)) ⌝ }
 {
-    let mut count = counts_of(size - skip);
+    let mut count = counts_of(width, size - skip);
     let from = size + skip;
     let mut block = 0;
     let mut before = 0;
     let mut k = 0;
     while k < digits.len() {
         let d = wide(digits[k]);
-        let t = take_out(&mut list[from..], &mut count, block, before, d);
+        let t = take_out(&mut list[from..], &mut count, width, block, before, d);
         list[skip + k] = t.value;
         block = t.block;
         before = t.before;
@@ -219,10 +259,10 @@ fn draw(list: &mut [u16], size: usize, skip: usize, digits: &[u32]) -> [u16; 64]
 }
 
 // The numbers that remain, block by block, from `at` on.
-fn lay_rest(list: &mut [u16], from: usize, at: usize, count: &[u16; 64])
-    requires { ⌜ (length (now list) ≤ 131072) × (from ≤ length (now list)) × Ready (now count) (drop from (now list)) × (at + total (now count) ≤ from) ⌝ }
+fn lay_rest(list: &mut [u16], width: usize, from: usize, at: usize, count: &[u16; 64])
+    requires { ⌜ (length (now list) ≤ 131072) × (from ≤ length (now list)) × Ready width (now count) (drop from (now list)) × (at + total (now count) ≤ from) ⌝ }
     ensures { λ r. ⌜ (length (now (list .exit)) ≡ length (now (list .entry)))
-        × (take (at + total (now (count .entry))) (now (list .exit)) ≡ take at (now (list .entry)) ++ remaining 1024 (now (count .entry)) (drop from (now (list .entry)))) ⌝ }
+        × (take (at + total (now (count .entry))) (now (list .exit)) ≡ take at (now (list .entry)) ++ remaining width (now (count .entry)) (drop from (now (list .entry)))) ⌝ }
 {
     let mut to = at;
     let mut start = from;
@@ -231,7 +271,7 @@ fn lay_rest(list: &mut [u16], from: usize, at: usize, count: &[u16; 64])
         let n = wide16(count[b]);
         lay(&mut list[..], start, to, n);
         to += n;
-        start += 1024;
+        start += width;
         b += 1;
     }
 }
@@ -245,8 +285,15 @@ fn reorder(list: &mut [u16], size: usize, skip: usize, digits: &[u32])
     }
     pack(&mut list[..], size);
     lay(&mut list[..], size, 0, skip);
-    let count = draw(&mut list[..], size, skip, digits);
-    lay_rest(&mut list[..], size + skip, skip + digits.len(), &count);
+    let width = width_of(size);
+    let count = draw(&mut list[..], width, size, skip, digits);
+    lay_rest(
+        &mut list[..],
+        width,
+        size + skip,
+        skip + digits.len(),
+        &count,
+    );
     unpack(&mut list[..], size);
 }
 

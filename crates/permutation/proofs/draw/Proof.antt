@@ -14,10 +14,10 @@ use Rattle.permutation.proofs.take_out.Reads as take-out-reads
 use Rattle.permutation.proofs.wide.Reads as wide-reads
 
 abbrev Inv-loop : tie.InvT-loop
-Inv-loop list₀ size skip digits count₀ from block₀ before₀ k₀ list count block before k = Drawing size skip digits list₀ count list k × (block < 64) × (before ≡ sumTo block count)
+Inv-loop list₀ width size skip digits count₀ from block₀ before₀ k₀ list count block before k = Drawing width size skip digits list₀ count list k × (block < 64) × (before ≡ sumTo block count)
 
 abbrev μ-loop : tie.MeasureT-loop
-μ-loop list₀ size skip digits count₀ from block₀ before₀ k₀ list count block before k = length digits - k
+μ-loop list₀ width size skip digits count₀ from block₀ before₀ k₀ list count block before k = length digits - k
 
 sub-counts-of : tie.Need-sub-counts-of Inv-loop μ-loop
 sub-counts-of c = search needs
@@ -31,7 +31,7 @@ add-from c = search needs
 loop-holds : tie.Need-loop-holds Inv-loop μ-loop
 loop-holds c =
     let a = c .before .before .before .args in
-    (draw-start (a .size) (a .skip) (a .digits .now) (a .list .now) (c .before .before .before .pre .0) (c .before .before .before .pre .1) (c .before .before .before .pre .2) (c .before .before .before .pre .3) (c .counts-of .result) (c .counts-of .ensures), omega arith, sym (sum-start (c .counts-of .result)))
+    (draw-start (a .width) (a .size) (a .skip) (a .digits .now) (a .list .now) (c .before .before .before .pre .0) (c .before .before .before .pre .1) (c .before .before .before .pre .2) (c .before .before .before .pre .3) (c .before .before .before .pre .4) (c .counts-of .result) (c .counts-of .ensures), omega arith, sym (sum-start (c .counts-of .result)))
 
 mul-wide : tie.Need-mul-wide Inv-loop μ-loop
 mul-wide c = search needs
@@ -46,10 +46,10 @@ mul-take-out : tie.Need-mul-take-out Inv-loop μ-loop
 mul-take-out c = search needs
 
 sub-take-out : tie.Need-sub-take-out Inv-loop μ-loop
-sub-take-out c = omega (arith, c .before .before .before .loop .inv .0 .long, c .before .before .before .before .before .before .before .pre .2)
+sub-take-out c = omega (arith, c .before .before .before .loop .inv .0 .long, c .before .before .before .before .before .before .before .pre .3)
 
 part-take-out-start : tie.Need-part-take-out-start Inv-loop μ-loop
-part-take-out-start c = omega (arith, c .before .before .before .loop .inv .0 .long, c .before .before .before .before .before .before .before .pre .2)
+part-take-out-start c = omega (arith, c .before .before .before .loop .inv .0 .long, c .before .before .before .before .before .before .before .pre .3)
 
 part-take-out-end : tie.Need-part-take-out-end Inv-loop μ-loop
 part-take-out-end c = search needs
@@ -59,7 +59,7 @@ take-out-requires c κs =
     let a = c .before .before .before .before .before .before .before .before .before .args in
     let l = c .before .before .before .before .before .loop in
     let t : take (length (l .list) - (a .size + a .skip)) (drop (a .size + a .skip) (l .list)) ≡ drop (a .size + a .skip) (l .list) = tail-all (l .list) (a .size + a .skip) in
-    let q = digit-below (a .size) (a .skip) (a .digits .now) (a .list .now) (l .count) (l .list) (l .k) (l .inv .0) (omega arith) (c .before .before .before .before .before .before .before .before .before .pre .2) in
+    let q = digit-below (a .width) (a .size) (a .skip) (a .digits .now) (a .list .now) (l .count) (l .list) (l .k) (l .inv .0) (omega arith) (c .before .before .before .before .before .before .before .before .before .pre .3) in
     (rw t (l .inv .0 .ready), l .inv .1, l .inv .2, omega (arith, c .before .before .wide .ensures))
 
 add-list : tie.Need-add-list Inv-loop μ-loop
@@ -72,7 +72,7 @@ slice-write-list : tie.Need-slice-write-list Inv-loop μ-loop
 slice-write-list c =
     let a = c .before .before .before .before .before .before .before .before .before .before .before .before .args in
     let l = c .before .before .before .before .before .before .before .before .loop in
-    let r = draw-room (a .size) (a .skip) (a .digits .now) (a .list .now) (l .count) (l .list) (l .k) (l .inv .0) (omega arith) (c .before .before .before .before .before .before .before .before .before .before .before .before .pre .2) in
+    let r = draw-room (a .width) (a .size) (a .skip) (a .digits .now) (a .list .now) (l .count) (l .list) (l .k) (l .inv .0) (omega arith) (c .before .before .before .before .before .before .before .before .before .before .before .before .pre .3) in
     omega (arith, c .before .list .given .0, c .before .list .given .1)
 
 add-k : tie.Need-add-k Inv-loop μ-loop
@@ -86,7 +86,7 @@ loop-again c =
     let a = c .before .before .before .before .before .before .before .before .before .before .before .before .args in
     let l = c .before .before .before .before .before .before .before .before .loop in
     let o = c .before .before .take-out in
-    (draw-turn (a .size) (a .skip) (a .digits .now) (a .list .now) (l .count) (l .list) (l .k) (l .inv .0) (omega arith) (c .before .before .before .before .before .before .before .before .before .before .before .before .pre .2) (c .before .before .before .before .before .wide .result) (o .result .value) (o .last .1 .0) (o .last .0) (set (putMid (a .size + a .skip) (length (l .list) - (a .size + a .skip)) (l .list) (o .last .0)) (a .skip + l .k) (o .result .value)) (c .before .before .before .before .before .wide .ensures) (o .ensures .0) refl, o .ensures .1, o .ensures .2)
+    (draw-turn (a .width) (a .size) (a .skip) (a .digits .now) (a .list .now) (l .count) (l .list) (l .k) (l .inv .0) (omega arith) (c .before .before .before .before .before .before .before .before .before .before .before .before .pre .3) (c .before .before .before .before .before .wide .result) (o .result .value) (o .last .1 .0) (o .last .0) (set (putMid (a .size + a .skip) (length (l .list) - (a .size + a .skip)) (l .list) (o .last .0)) (a .skip + l .k) (o .result .value)) (c .before .before .before .before .before .wide .ensures) (o .ensures .0) refl, o .ensures .1, o .ensures .2)
 
 same-length : tie.Need-same-length Inv-loop μ-loop
 same-length c = c .before .loop .inv .0 .long ∙ sym (c .before .before .before .before .before .pre .0)
@@ -95,7 +95,7 @@ returns : tie.Need-returns Inv-loop μ-loop
 returns c =
     let a = c .before .before .before .before .before .args in
     let l = c .before .loop in
-    draw-end (a .size) (a .skip) (a .digits .now) (a .list .now) (l .count) (l .list) (l .k) (l .inv .0) (c .before .before .before .before .before .pre .2) (omega arith)
+    draw-end (a .width) (a .size) (a .skip) (a .digits .now) (a .list .now) (l .count) (l .list) (l .k) (l .inv .0) (c .before .before .before .before .before .pre .3) (omega arith)
 
 pub draw-spec : {M : Type 1} → statement M
 draw-spec =

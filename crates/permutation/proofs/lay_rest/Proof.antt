@@ -9,13 +9,13 @@ use Rattle.permutation.proofs.lay.Reads as lay-reads
 use Rattle.permutation.proofs.wide16.Reads as wide16-reads
 
 abbrev Inv-loop : tie.InvT-loop
-Inv-loop list₀ from at count to₀ start₀ b₀ list to start b = Laying from at count list₀ list to start b
+Inv-loop list₀ width from at count to₀ start₀ b₀ list to start b = Laying width from at count list₀ list to start b
 
 abbrev μ-loop : tie.MeasureT-loop
-μ-loop list₀ from at count to₀ start₀ b₀ list to start b = 64 - b
+μ-loop list₀ width from at count to₀ start₀ b₀ list to start b = 64 - b
 
 loop-holds : tie.Need-loop-holds Inv-loop μ-loop
-loop-holds c = lay-begin (c .before .args .from) (c .before .args .at) (c .before .args .count .now) (c .before .args .list .now) (c .before .pre .2)
+loop-holds c = lay-begin (c .before .args .width) (c .before .args .from) (c .before .args .at) (c .before .args .count .now) (c .before .args .list .now) (c .before .pre .2)
 
 mul-wide16 : tie.Need-mul-wide16 Inv-loop μ-loop
 mul-wide16 c = search needs
@@ -30,14 +30,14 @@ lay-requires : tie.Need-lay-requires Inv-loop μ-loop
 lay-requires c κs =
     let a = c .before .before .before .before .before .before .args in
     let l = c .before .before .before .before .loop in
-    let q = before-it (a .from) (a .at) (a .count .now) (a .list .now) (l .list) (l .to) (l .start) (l .b) (l .inv) (omega arith) (c .before .wide16 .result) (c .before .before .before .before .before .before .pre .2 .many) (c .before .wide16 .ensures) (c .before .before .before .before .before .before .pre .3) in
-    (omega arith, block-inside (a .from) (a .at) (a .count .now) (a .list .now) (l .list) (l .to) (l .start) (l .b) (l .inv) (omega arith) (c .before .wide16 .result) (c .before .before .before .before .before .before .pre .2 .many) (c .before .wide16 .ensures) (c .before .before .before .before .before .before .pre .3))
+    let q = before-it (a .width) (a .from) (a .at) (a .count .now) (a .list .now) (l .list) (l .to) (l .start) (l .b) (l .inv) (omega arith) (c .before .wide16 .result) (c .before .before .before .before .before .before .pre .2 .many) (c .before .wide16 .ensures) (c .before .before .before .before .before .before .pre .3) in
+    (omega arith, block-inside (a .width) (a .from) (a .at) (a .count .now) (a .list .now) (l .list) (l .to) (l .start) (l .b) (l .inv) (omega arith) (c .before .wide16 .result) (c .before .before .before .before .before .before .pre .2 .many) (c .before .wide16 .ensures) (c .before .before .before .before .before .before .pre .3))
 
 add-to : tie.Need-add-to Inv-loop μ-loop
 add-to c =
     let a = c .before .before .before .before .before .before .before .before .before .args in
     let l = c .before .before .before .before .before .before .before .loop in
-    let q = before-it (a .from) (a .at) (a .count .now) (a .list .now) (l .list) (l .to) (l .start) (l .b) (l .inv) (omega arith) (c .before .before .before .before .wide16 .result) (c .before .before .before .before .before .before .before .before .before .pre .2 .many) (c .before .before .before .before .wide16 .ensures) (c .before .before .before .before .before .before .before .before .before .pre .3) in
+    let q = before-it (a .width) (a .from) (a .at) (a .count .now) (a .list .now) (l .list) (l .to) (l .start) (l .b) (l .inv) (omega arith) (c .before .before .before .before .wide16 .result) (c .before .before .before .before .before .before .before .before .before .pre .2 .many) (c .before .before .before .before .wide16 .ensures) (c .before .before .before .before .before .before .before .before .before .pre .3) in
     omega (arith, l .inv .spot, c .before .before .before .before .before .before .before .before .before .pre .0, c .before .before .before .before .before .before .before .before .before .pre .1)
 
 add-start : tie.Need-add-start Inv-loop μ-loop
@@ -53,7 +53,7 @@ loop-again : tie.Need-loop-again Inv-loop μ-loop
 loop-again c =
     let a = c .before .before .before .before .before .before .before .before .before .args in
     let l = c .before .before .before .before .before .before .before .loop in
-    lay-block (a .from) (a .at) (a .count .now) (a .list .now) (l .list) (l .to) (l .start) (l .b) (l .inv) (omega arith) (c .before .before .before .before .wide16 .result) (c .before .before .before .before .before .before .before .before .before .pre .2 .many) (c .before .before .before .before .wide16 .ensures) (c .before .before .before .before .before .before .before .before .before .pre .3) (c .before .before .lay .last .0) (c .before .before .before .before .before .before .before .before .before .pre .1) (c .before .before .lay .ensures)
+    lay-block (a .width) (a .from) (a .at) (a .count .now) (a .list .now) (l .list) (l .to) (l .start) (l .b) (l .inv) (omega arith) (c .before .before .before .before .wide16 .result) (c .before .before .before .before .before .before .before .before .before .pre .2 .many) (c .before .before .before .before .wide16 .ensures) (c .before .before .before .before .before .before .before .before .before .pre .3) (c .before .before .lay .last .0) (c .before .before .before .before .before .before .before .before .before .pre .2 .small) (c .before .before .before .before .before .before .before .before .before .pre .1) (c .before .before .lay .ensures)
 
 same-length : tie.Need-same-length Inv-loop μ-loop
 same-length c = search needs
@@ -62,7 +62,7 @@ returns : tie.Need-returns Inv-loop μ-loop
 returns c =
     let a = c .before .before .before .args in
     let l = c .before .loop in
-    lay-done (a .from) (a .at) (a .count .now) (a .list .now) (l .list) (l .to) (l .start) (l .b) (l .inv) (c .before .before .before .pre .2 .many) (omega arith)
+    lay-done (a .width) (a .from) (a .at) (a .count .now) (a .list .now) (l .list) (l .to) (l .start) (l .b) (l .inv) (c .before .before .before .pre .2 .many) (omega arith)
 
 pub lay-rest-spec : {M : Type 1} → statement M
 lay-rest-spec =

@@ -10,6 +10,7 @@ use Rattle.permutation.proofs.lay.Reads as lay-reads
 use Rattle.permutation.proofs.lay_rest.Reads as lay-rest-reads
 use Rattle.permutation.proofs.pack.Reads as pack-reads
 use Rattle.permutation.proofs.unpack.Reads as unpack-reads
+use Rattle.permutation.proofs.width_of.Reads as width-of-reads
 
 returns : tie.Need-returns
 returns c =
@@ -21,6 +22,9 @@ pack-requires c κs = search needs
 
 lay-requires : tie.Need-lay-requires
 lay-requires c κs = search needs
+
+width-of-requires : tie.Need-width-of-requires
+width-of-requires c κs = search needs
 
 draw-requires : tie.Need-draw-requires
 draw-requires c κs = search needs
@@ -42,9 +46,15 @@ same-length c = search needs
 
 returns-2 : tie.Need-returns-2
 returns-2 c =
-    let a = c .before .before .before .before .before .before .before .before .before .before .before .before .before .before .before .before .before .before .before .before .before .before .before .before .args in
-    let p = c .before .before .before .before .before .before .before .before .before .before .before .before .before .before .before .before .before .before .before .before .before .before .before .before .pre in
-    all-drawn (a .size) (a .skip) (a .digits .now) (a .list .now) (p .0) (p .1) (p .2) (p .3) (p .4) (c .before .before .before .before .before .before .before .before .before .before .before .before .before .before .before .before .before .before .before .pack .last .0) (c .before .before .before .before .before .before .before .before .before .before .before .before .before .before .before .lay .last .0) (c .before .before .before .before .before .before .before .before .before .before .before .draw .result) (c .before .before .before .before .before .before .before .before .before .before .before .draw .last .0) (c .before .before .before .before .before .before .lay-rest .last .0) (c .before .before .unpack .last .0) (c .before .before .before .before .before .before .before .before .before .before .before .before .before .before .before .before .before .before .before .pack .ensures .0) (c .before .before .before .before .before .before .before .before .before .before .before .before .before .before .before .before .before .before .before .pack .ensures .1) (c .before .before .before .before .before .before .before .before .before .before .before .before .before .before .before .lay .ensures) (c .before .before .before .before .before .before .before .before .before .before .before .draw .ensures) (c .before .before .before .before .before .before .lay-rest .ensures .1) (c .before .before .unpack .ensures)
+    let a = c .before .before .before .before .before .before .before .before .before .before .before .before .before .before .before .before .before .before .before .before .before .before .before .before .before .args in
+    let p = c .before .before .before .before .before .before .before .before .before .before .before .before .before .before .before .before .before .before .before .before .before .before .before .before .before .pre in
+    let pack = c .before .before .before .before .before .before .before .before .before .before .before .before .before .before .before .before .before .before .before .before .pack in
+    let lay = c .before .before .before .before .before .before .before .before .before .before .before .before .before .before .before .before .lay in
+    let width = c .before .before .before .before .before .before .before .before .before .before .before .before .before .width-of .result in
+    let draw = c .before .before .before .before .before .before .before .before .before .before .before .draw in
+    let rest = c .before .before .before .before .before .before .lay-rest in
+    let back = c .before .before .unpack in
+    all-drawn width (a .size) (a .skip) (a .digits .now) (a .list .now) (p .0) (p .2) (p .3) (p .4) (pack .last .0) (lay .last .0) (draw .result) (draw .last .0) (rest .last .0) (back .last .0) (pack .ensures .0) (pack .ensures .1) (lay .ensures) (draw .ensures) (rest .ensures .1) (back .ensures)
 
 pub reorder-spec : {M : Type 1} → statement M
 reorder-spec =
@@ -53,6 +63,7 @@ reorder-spec =
     returns
     pack-requires
     lay-requires
+    width-of-requires
     draw-requires
     add-lay-rest
     add-lay-rest-2
