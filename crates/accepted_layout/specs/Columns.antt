@@ -11,9 +11,8 @@ use lib.ListN.{length, getD, take, length-map, length-take, getD-replicate}
 use lib.Seq.{take-suc, getD-take, length-take-le}
 use lib.Ieee.{Float}
 use borrow.Author.Tests.{le-leb, lt-leb, eqb-true, eqb-false, eq-eqb}
-use Rattle.laws.specs.Cases.{eq-or-ne, le-or-lt}
+use Rattle.laws.specs.Cases.{eq-or-ne, le-or-lt, and-true}
 use Rattle.dct_select.specs.Transforms.{wide, high}
-use Rattle.layout.specs.Both.{and-true}
 use Rattle.layout.specs.Walk.{beside}
 use Rattle.layout.specs.Grid.{at, place-lt}
 use Rattle.layout.specs.Valid.{Cells}

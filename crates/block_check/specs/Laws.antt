@@ -8,8 +8,8 @@ use native.Mathlib.Omega.{arith}
 use lib.Dec.{leb, eqb}
 use lib.ListN.{length}
 use borrow.Author.Tests.{leb-true, eqb-true, eqb-false, eq-eqb}
+use Rattle.laws.specs.Cases.{and-true}
 use Rattle.refusal.specs.Said.{at}
-use Rattle.layout.specs.Both.{and-true}
 use Rattle.layout.specs.Check.{isLayout}
 use Rattle.block_check.specs.Calls.{Answer, gives, refuses, unless, inLimits, lengthsFit, isLentLayout, checkOf}
 

@@ -17,7 +17,8 @@ use Rattle.hf_coeff_walk.specs.Outcome.{answerOf, logOf, gridOf}
 use Rattle.hf_coeff_walk.specs.Item.{Item, newRow, countOver, rowOf, countCluster, counted}
 use Rattle.hf_coeff_walk.specs.declared.item.Varblock.{Varblock}
 use Rattle.natural_order.specs.Places.{paired}
-use Rattle.hf_coeff_walk.specs.PlaceLaws.{length-paired, length-places}
+use Rattle.natural_order.specs.Flat.{length-paired}
+use Rattle.hf_coeff_walk.specs.PlaceLaws.{length-places}
 use Rattle.hf_coeff_walk.specs.Items.{itemAt, ItemReady, counted-15, counted-16}
 use Rattle.hf_coeff_walk.specs.Counts.{predicted-take, row-take}
 use Rattle.hf_coeff_walk.specs.Kept.{KeptBy, counted-kept}

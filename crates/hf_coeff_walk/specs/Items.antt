@@ -4,12 +4,14 @@ use mathlib.Core.List.{List}
 use Prim.Native.Nat.{ℕ, _+_, _*_, _-_, _/_, _^_, _<_, _≤_}
 use native.Mathlib.Omega.{arith}
 use native.Mathlib.Numerals.{add-one}
-use mathlib.Core.Bool.{Bool, true, false, cond, _&&_, false≢true}
+use mathlib.Core.Bool.{Bool, true, false, cond, _&&_}
 use borrow.Author.Tests.{ltb-true, leb-true, eqb-true, le-leb, lt-leb, lt-ltb, eq-eqb}
 use lib.Dec.{ltb, leb, eqb}
 use lib.ListN.{length, getD, set, take, drop, length-drop, drop-of-length-le}
 use lib.Pow.{pow-pos}
-use lib.Seq.{drop-cons, length-take-le, take-all}
+use lib.Seq.{drop-cons, length-take-le}
+use Rattle.laws.specs.Lists.{tail-all}
+use Rattle.laws.specs.Cases.{and-true}
 use Rattle.refusal.specs.declared.Refusal.the-variants.{Length, SymbolsEnd, Count}
 use Rattle.hf_coeff_walk.specs.Walk.{Walked, ended, stopped, walk}
 use Rattle.natural_order.specs.Places.{paired}
@@ -17,7 +19,7 @@ use Rattle.hf_coeff_walk.specs.Places.{placesOf}
 use Rattle.hf_coeff_walk.specs.Item.{Item, predicted, countIndex, countCluster, coeffPart, counted}
 use Rattle.hf_coeff_walk.specs.Counts.{part-entry}
 use Rattle.hf_coeff_walk.specs.Outcome.{Ready, Handed, walk-used}
-use Rattle.hf_coeff_walk.specs.PlaceLaws.{paired-drop}
+use Rattle.natural_order.specs.Flat.{paired-drop}
 use Rattle.hf_coeff_walk.specs.declared.Walk.{Walk}
 use Rattle.hf_coeff_walk.specs.declared.Walk.the-variants.{Stopped}
 use Rattle.hf_coeff_walk.specs.declared.item.Varblock.{Varblock}
@@ -72,26 +74,21 @@ pub record ItemReady (v : Varblock) (width context clusters map order symbols at
   pub shifts : shift ≤ 3
   pub room : at + 64 * 2 ^ (v .log) ≤ log
 
-both : (a b : Bool) → a && b ≡ true → (a ≡ true) × (b ≡ true)
-both true true e = (refl, refl)
-both true false e = absurd (false≢true e)
-both false b e = absurd (false≢true e)
-
 module _ (v : Varblock) (width context clusters map order symbols at shift log : ℕ) where
   pub fits-item : channelFits v width context clusters map order symbols at shift log ≡ true → ItemReady v width context clusters map order symbols at shift log
   unfolding channelFits
   fits-item e =
-      let l = both _ _ e in
-      let k = both _ _ (l .0) in
-      let j = both _ _ (k .0) in
-      let i = both _ _ (j .0) in
-      let h = both _ _ (i .0) in
-      let g = both _ _ (h .0) in
-      let f = both _ _ (g .0) in
-      let d = both _ _ (f .0) in
-      let c = both _ _ (d .0) in
-      let b = both _ _ (c .0) in
-      let a = both _ _ (b .0) in
+      let l = and-true _ _ e in
+      let k = and-true _ _ (l .0) in
+      let j = and-true _ _ (k .0) in
+      let i = and-true _ _ (j .0) in
+      let h = and-true _ _ (i .0) in
+      let g = and-true _ _ (h .0) in
+      let f = and-true _ _ (g .0) in
+      let d = and-true _ _ (f .0) in
+      let c = and-true _ _ (d .0) in
+      let b = and-true _ _ (c .0) in
+      let a = and-true _ _ (b .0) in
       let m = leb-true at log (k .1) in
       let n = leb-true (64 * 2 ^ (v .log)) (log - at) (l .1) in
       record {
@@ -140,9 +137,6 @@ module _ (shift clusters : ℕ) (stretch : List ℕ) (it : Item) (row symbols : 
         let log₁ = set log at (countCluster clusters stretch it row) in
         counted-goes (omega (arith, e)) ∙ walk-used shift (it .blocks) (coeffPart clusters stretch it) (it .places) symbols 0 (cond (leb n (4 * it .blocks)) 1 0) n (at + 1) log₁ g e
 
-whole-rest : (l : List ℕ) (k : ℕ) → take (length l - k) (drop k l) ≡ drop k l
-whole-rest l k = take-all (length l - k) (drop k l) (rw (length-drop k l) (omega arith))
-
 -- one channel of a varblock, as the code takes it apart: low places are left out, the part runs from begin to end
 module _ (v : Varblock) (width context clusters : ℕ) (map order row symbols : List ℕ) (at shift : ℕ) (log g : List ℕ) (low begin end next n first entry : ℕ) where
   abbrev it : Item
@@ -157,11 +151,11 @@ module _ (v : Varblock) (width context clusters : ℕ) (map order row symbols : 
   module _ (e : low ≡ 2 * 2 ^ (v .log)) where
     rest-places : placesOf (v .turn) (8 * width) (8 * v .x) (8 * v .y) (paired rest) ≡ it .places
     rest-places =
-        let f : paired rest ≡ drop (2 ^ (v .log)) (paired order) = ap paired (whole-rest order low) ∙ rw e (paired-drop (2 ^ (v .log)) order) in
+        let f : paired rest ≡ drop (2 ^ (v .log)) (paired order) = ap paired (tail-all order low) ∙ rw e (paired-drop (2 ^ (v .log)) order) in
         rw f
 
     pub rest-length : length order ≡ 128 * 2 ^ (v .log) → length rest / 2 ≡ 63 * 2 ^ (v .log)
-    rest-length h = rw (whole-rest order low, length-drop low order) (omega arith)
+    rest-length h = rw (tail-all order low, length-drop low order) (omega arith)
 
     module _ (b : begin ≡ context * 458 + 37 * clusters) (f : end ≡ begin + 458) where
       part-is : part ≡ coeffPart clusters map it

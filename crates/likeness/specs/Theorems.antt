@@ -5,8 +5,8 @@ use mathlib.Core.Logic.{_↔_}
 use Prim.Native.Nat.{ℕ}
 use native.Mathlib.Omega.{arith}
 use lib.ListN.{length}
+use Rattle.laws.specs.Cases.{and-true}
 use Rattle.layout.specs.Valid.{Layout}
-use Rattle.layout.specs.Both.{and-true}
 use Rattle.layout.specs.Like.{Lent, SameRectangles, alike}
 use Rattle.layout.specs.LikeLaws.{alike-iff, not-wider, same-itself, same-turned, same-joined}
 use Rattle.layout.specs.Theorems.{layout-iff}

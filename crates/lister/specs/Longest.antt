@@ -1,19 +1,17 @@
 -- No job's text is longer than the 90,000 bytes that the programs lend for it.
-use mathlib.Core.Path.{_≡_, refl, ap, sym, _∙_}
+use mathlib.Core.Path.{_≡_, refl, ap, _∙_}
 use mathlib.Core.Bool.{Bool, true, false, cond, _&&_}
 use mathlib.Core.Logic.{_⊎_, inl, inr}
 use mathlib.Core.List.{List, [], _∷_, _++_}
 use Prim.Native.Nat.{ℕ, zero, suc, _+_, _*_, _-_, _/_, _%_, _^_, _≤_, _<_}
 use native.Mathlib.Nat.{suc-mul, mul-le-mul}
 use native.Mathlib.Omega.{arith}
-use lib.Pow.{pow-add}
 use lib.Dec.{leb, eqb}
 use lib.ListN.{length, getD, drop, replicate, length-append}
 use lib.Seq.{length-sets, sets-eq}
 use borrow.Author.Tests.{lt-ltb, le-ltb, le-leb, lt-leb, leb-true}
-use Rattle.laws.specs.Cases.{le-or-lt}
+use Rattle.laws.specs.Cases.{le-or-lt, and-true}
 use Rattle.refusal.specs.declared.Said.{Said}
-use Rattle.layout.specs.Both.{and-true}
 use Rattle.layout.specs.Grid.{at}
 use Rattle.layout.specs.Valid.{Layout}
 use Rattle.layout.specs.Varblocks.{Varblock, varblocksOf, area, cornersRow, cornersFrom}

@@ -19,7 +19,8 @@ use Rattle.layout.specs.Varblocks.{Varblock}
 use Rattle.hf_pass_store.specs.Store.{stretch}
 use Rattle.hf_pass.specs.Wrote.{Wrote, listOf, wrote-order, wrote-stretch}
 use Rattle.hf_coeff_walk.specs.Places.{across, down, cellOf}
-use Rattle.hf_coeff_walk.specs.PlaceLaws.{length-places, paired-flat}
+use Rattle.natural_order.specs.Flat.{paired-flat}
+use Rattle.hf_coeff_walk.specs.PlaceLaws.{length-places}
 use Rattle.hf_coeff_walk.specs.Item.{Item}
 use Rattle.hf_coeff_group.specs.Pass.{Pass, varblocks, blocksOf, placesAt, itemOf, channels, itemsOf}
 use Rattle.hf_coeff_group.specs.Group.{Grids}

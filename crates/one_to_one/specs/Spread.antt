@@ -19,7 +19,6 @@ use Rattle.natural_order.specs.Places.{Place, is, tally, count}
 use Rattle.natural_order.specs.Bools.{tally-one}
 use Rattle.natural_order.specs.Sizes.{Size, size-of, bw-eights, bh-by}
 use Rattle.natural_order.specs.Counts.{is-hit}
-use Rattle.natural_order.specs.Rows.{inside-no-x, inside-no-y}
 use Rattle.natural_order.specs.Listing.{hit-of, listing-length, self, inside-of}
 use Rattle.natural_order.specs.Order.{Order, skip-by}
 use Rattle.natural_order.specs.Beyond.{beyond-count, corner-none, other-once}

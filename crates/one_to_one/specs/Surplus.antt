@@ -16,7 +16,7 @@ use Rattle.hf_coeff_walk.specs.Walk.{Walked, ended, stopped, walk, coeffContext
 use Rattle.hf_coeff_walk.specs.Item.{Item, newRow, countCluster, coeffPart, counted}
 use Rattle.hf_coeff_group.specs.Pass.{varblocks, itemsOf}
 use Rattle.hf_coeff_group.specs.Group.{Grids, Reading, going, refused, after, item, read, group-items}
-use Rattle.hf_coeff.specs.Call.{Lent, Answer, reads, refuses, Outcome, sidesFit, parametersFit, lengthsFit, layoutFits, clustersOf, rowsOf, presetMap, reading, outcome, refuse, readPreset, withPreset, call}
+use Rattle.hf_coeff.specs.Call.{Lent, reads, Outcome, sidesFit, parametersFit, lengthsFit, layoutFits, clustersOf, rowsOf, presetMap, reading, outcome, refuse, readPreset, withPreset, call}
 use Rattle.one_to_one.specs.Filling.{withSymbols}
 
 module _ (more : List ℕ) where

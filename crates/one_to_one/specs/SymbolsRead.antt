@@ -21,7 +21,8 @@ use Rattle.layout.specs.Varblocks.{Varblock, area}
 use Rattle.layout.specs.Theorems.{layout-iff, layout-area}
 use Rattle.hf_pass_store.specs.Store.{PLACES, stretch}
 use Rattle.natural_order.specs.Places.{paired}
-use Rattle.hf_coeff_walk.specs.PlaceLaws.{length-paired, length-places}
+use Rattle.natural_order.specs.Flat.{length-paired}
+use Rattle.hf_coeff_walk.specs.PlaceLaws.{length-places}
 use Rattle.hf_coeff_walk.specs.Item.{Item}
 use Rattle.hf_coeff_group.specs.Pass.{Pass, varblocks, blocksOf, placesAt, itemOf, channels, itemsOf}
 use Rattle.hf_coeff_group.specs.Group.{Reading, going, refused, read, readOf, group-items}

@@ -7,7 +7,8 @@ use native.Mathlib.Numerals.{add-one}
 use native.Mathlib.Omega.{arith}
 use lib.Dec.{ltb}
 use lib.ListN.{length, getD, take, drop, set, length-set, length-append, length-drop, drop-of-length-le, take-append-drop}
-use lib.Seq.{drop-cons, drop-drop, drop-at, take-all, take-append-le, take-take, take-suc-set, drop-set-lt, length-take-le, paste, take-paste, drop-paste, length-paste}
+use lib.Seq.{drop-cons, drop-drop, drop-at, take-append-le, take-take, take-suc-set, drop-set-lt, length-take-le, paste, take-paste, drop-paste, length-paste}
+use Rattle.laws.specs.Lists.{tail-all}
 use Rattle.natural_order.specs.Places.{Place, flat, paired}
 use Rattle.natural_order.specs.Bools.{and-right}
 use Rattle.permutation.specs.Digits.{without, chosen, ordered, Below}
@@ -34,9 +35,6 @@ pub record Out (m : ℕ) (count rest : List ℕ) (d v : ℕ) (count' rest' : Lis
   pub fewer : total count' ≡ total count - 1
 
 -- what lies from a on, lent and given back
-pub tail-all : (l : List ℕ) (a : ℕ) → take (length l - a) (drop a l) ≡ drop a l
-tail-all l a = take-all (length l - a) (drop a l) (omega (arith, length-drop a l))
-
 pub tail-length : (l : List ℕ) (a : ℕ) → length (take (length l - a) (drop a l)) ≡ length l - a
 tail-length l a = ap length (tail-all l a) ∙ length-drop a l
 

@@ -8,6 +8,7 @@ use native.Mathlib.Omega.{arith}
 use lib.Dec.{ltb}
 use lib.ListN.{length, getD, set, drop, length-append, drop-of-length-le}
 use lib.Seq.{sets, length-sets, set-out, drop-cons}
+use Rattle.laws.specs.Lists.{sets-append}
 use Rattle.laws.specs.Cases.{le-or-lt}
 
 -- the digits of n, at most k + 1 of them, the last one lowest
@@ -30,12 +31,6 @@ sets-out [] d i h = refl
 sets-out (a ∷ s) d i h =
     let e = set-out d i a h in
     ap (λ (l : List ℕ). sets l (suc i) s) e ∙ sets-out s d (suc i) (omega arith)
-
-sets-append : (s t d : List ℕ) (i : ℕ) → sets d i (s ++ t) ≡ sets (sets d i s) (i + length s) t
-sets-append [] t d i = let e : i ≡ i + 0 = omega arith in ap (λ (k : ℕ). sets d k t) e
-sets-append (a ∷ s) t d i =
-    let e : suc i + length s ≡ i + suc (length s) = omega arith in
-    sets-append s t (set d i a) (suc i) ∙ ap (λ (k : ℕ). sets (sets (set d i a) (suc i) s) k t) e
 
 -- a place that was cut to the length does as well
 clipped : (t d : List ℕ) (i : ℕ) → sets d (min i (length d)) t ≡ sets d i t
