@@ -1,6 +1,6 @@
 -- A group as the code reads it: what is required, and what is still due.
 use mathlib.Core.Path.{_≡_, refl, ap, sym, subst, _∙_}
-use mathlib.Core.Bool.{Bool, true, false}
+use mathlib.Core.Bool.{true, false}
 use mathlib.Core.List.{List, [], _∷_}
 use Prim.Native.Nat.{ℕ, zero, suc, _+_, _*_, _-_, _^_, _<_, _≤_}
 use native.Mathlib.Omega.{arith}
@@ -31,27 +31,6 @@ use Rattle.hf_coeff_group.specs.Stored.{stretch-long}
 use Rattle.hf_coeff_group.specs.Steps.{isStopped, readBy, Rows, cut, Shown}
 use Rattle.hf_coeff_group.specs.StepLaws.{shown-on}
 use Rattle.hf_coeff_group.specs.Plans.{planBy, itemsBy, PlanReady}
-
--- the pass of what is lent
-abbrev pub passOf : ℕ → ℕ → List ℕ → List ℕ → ℕ → List ℕ → List ℕ → List ℕ → List ℕ → Bool → List ℕ → List ℕ → List ℕ → List ℕ → Pass
-passOf width height kinds muls clusters lengths lf qf map there lf0 lf1 lf2 store = record {
-  width = width;
-  height = height;
-  kinds = kinds;
-  muls = muls;
-  contexts = record {
-    «num_block_clusters» = clusters;
-    lengths = lengths;
-    «lf_thresholds» = lf;
-    «qf_thresholds» = qf;
-    «block_ctx_map» = map;
-  };
-  lfThere = there;
-  lf0 = lf0;
-  lf1 = lf1;
-  lf2 = lf2;
-  store = store;
-}
 
 abbrev pub walkOf : Reading → Walk
 walkOf (going us at log grids rows left) = Ended at
@@ -112,7 +91,7 @@ abbrev pub wholeOf : ℕ → ℕ → List ℕ → Pass → List ℕ → List ℕ
 wholeOf shift clusters map P symbols log G = group shift clusters map P (varblocks P) (going symbols 0 log G (zeroRows (P .width)) 0)
 
 -- the symbols of a planned varblock at most
-pub few-is : (P : Pass) (x y at₀ : ℕ) (p : Plan) → p ≡ planAt P x y → K P x y - 2 < 27 → at₀ + 192 * 2 ^ (p .at .log) ≡ at₀ + 192 * (wide (K P x y - 2) * high (K P x y - 2))
+few-is : (P : Pass) (x y at₀ : ℕ) (p : Plan) → p ≡ planAt P x y → K P x y - 2 < 27 → at₀ + 192 * 2 ^ (p .at .log) ≡ at₀ + 192 * (wide (K P x y - 2) * high (K P x y - 2))
 few-is P x y at₀ p e h = rw (e, log-blocks (K P x y - 2) h)
 
 -- one corner
@@ -123,15 +102,15 @@ module _ (P : Pass) (clusters map shift log : ℕ) (r : GroupReady P clusters ma
   fits : Fits (P .width) (P .height) x y (K P x y) (M P x y)
   fits = r .layout .valid .fits x y hx hy corner
 
-  pub known : t < 27
+  known : t < 27
   known = let k = fits .known in omega arith
 
   -- the three channels are those of the definition
-  pub items-are : itemsBy (planAt P x y) (P .width) (P .store) ≡ channels P (cornerAt P x y)
+  items-are : itemsBy (planAt P x y) (P .width) (P .store) ≡ channels P (cornerAt P x y)
   unfolding itemOf
   items-are = rw (log-blocks t known)
 
-  pub right : x + wide t ≤ P .width
+  right : x + wide t ≤ P .width
   right = fits .inX
 
   bottom : y + high t ≤ P .height
@@ -152,7 +131,7 @@ module _ (P : Pass) (clusters map shift log : ℕ) (r : GroupReady P clusters ma
         let e = log-blocks t known in
         omega arith
 
-  pub plan-ready : (stretch₀ : List ℕ) → length stretch₀ ≡ map → (symbols at₀ : ℕ) → at₀ ≤ symbols → at₀ + 192 * (wide t * high t) ≤ log
+  plan-ready : (stretch₀ : List ℕ) → length stretch₀ ≡ map → (symbols at₀ : ℕ) → at₀ ≤ symbols → at₀ + 192 * (wide t * high t) ≤ log
       → PlanReady (planAt P x y) (P .width) clusters stretch₀ (P .store) symbols at₀ shift log
   plan-ready stretch₀ e symbols at₀ b m =
       let w = r .across in let h = r .below in let p = right in let l = log-blocks t known in
@@ -218,7 +197,7 @@ module _ (shift clusters : ℕ) (stretch₀ : List ℕ) (P : Pass) (symbols : Li
         subst (λ (vs : List layout.Varblock). Dues vs at₀ rows log G) (rw (e, f)) d
 
     -- a corner
-    pub due-corner : (x y : ℕ) (l : List layout.Varblock) → x < P .width → 2 ≤ K P x y → Dues (cornersRow (K P) (M P) (P .width - x) x y l) at₀ rows log G
+    due-corner : (x y : ℕ) (l : List layout.Varblock) → x < P .width → 2 ≤ K P x y → Dues (cornersRow (K P) (M P) (P .width - x) x y l) at₀ rows log G
         → Dues (cornerAt P x y ∷ cornersRow (K P) (M P) (P .width - (x + 1)) (x + 1) y l) at₀ rows log G
     unfolding cornersRow
     due-corner x y l h k d =
@@ -226,7 +205,7 @@ module _ (shift clusters : ℕ) (stretch₀ : List ℕ) (P : Pass) (symbols : Li
         let f : leb 2 (K P x y) ≡ true = le-leb 2 (K P x y) k in
         subst (λ (vs : List layout.Varblock). Dues vs at₀ rows log G) (rw (e, f)) d
 
-    pub room-of : (v : layout.Varblock) (l : List layout.Varblock) → Dues (v ∷ l) at₀ rows log G → at₀ + 192 * (wide (v .type) * high (v .type)) ≤ most
+    room-of : (v : layout.Varblock) (l : List layout.Varblock) → Dues (v ∷ l) at₀ rows log G → at₀ + 192 * (wide (v .type) * high (v .type)) ≤ most
     unfolding area
     room-of v l d = let m = d .room in omega arith
 
@@ -239,7 +218,7 @@ module _ (shift clusters : ℕ) (stretch₀ : List ℕ) (P : Pass) (symbols : Li
         (w : Walk) (rows₁ : Grids) (log₁ : List ℕ) (G₁ : Grids) (few : ℕ) (le : few ≡ at₀ + 192 * (wide (K P x y - 2) * high (K P x y - 2)))
         (shown : (left : ℕ) → Shown (P .width) symbols few w rows₁ log₁ G₁ (read shift clusters stretch₀ its (going (drop at₀ symbols) at₀ log G (cut (P .width) rows) left))) where
       -- the varblock was read
-      pub due-step : isStopped w ≡ false → Dues l (readBy w) rows₁ log₁ G₁
+      due-step : isStopped w ≡ false → Dues l (readBy w) rows₁ log₁ G₁
       unfolding group area
       due-step e =
           let R = read shift clusters stretch₀ its (going (drop at₀ symbols) at₀ log G (cut (P .width) rows) (d .left)) in
@@ -255,7 +234,7 @@ module _ (shift clusters : ℕ) (stretch₀ : List ℕ) (P : Pass) (symbols : Li
           }
 
       -- the reading stopped in it
-      pub due-stop : isStopped w ≡ true → Read w log₁ G₁ whole
+      due-stop : isStopped w ≡ true → Read w log₁ G₁ whole
       unfolding group
       due-stop e = go (read shift clusters stretch₀ its (going (drop at₀ symbols) at₀ log G (cut (P .width) rows) (d .left))) refl (shown (d .left))
         where
@@ -317,10 +296,10 @@ take-zeros zero n h = refl
 take-zeros (suc w) zero h = absurd (omega arith)
 take-zeros (suc w) (suc n) h = ap (λ (l : List ℕ). 0 ∷ l) (take-zeros w n (omega arith))
 
-pub zeros-cut : (w : ℕ) → w ≤ 32 → cut w (replicate 3 (replicate 32 0)) ≡ zeroRows w
+zeros-cut : (w : ℕ) → w ≤ 32 → cut w (replicate 3 (replicate 32 0)) ≡ zeroRows w
 zeros-cut w h = rw (take-zeros w 32 h)
 
-pub zeros-fine : Rows (replicate 3 (replicate 32 0))
+zeros-fine : Rows (replicate 3 (replicate 32 0))
 zeros-fine = record { three = refl }
 
 pub due-start : (shift clusters : ℕ) (stretch₀ : List ℕ) (P : Pass) (symbols log : List ℕ) (G : Grids) → P .width ≤ 32 → Layout (P .width) (P .height) (P .kinds) (P .muls)

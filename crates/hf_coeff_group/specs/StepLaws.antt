@@ -61,7 +61,7 @@ module _ (shift clusters : ℕ) (stretch : List ℕ) (c : ℕ) (it : Item) (row 
   abbrev v : Walked
   v = counted shift clusters stretch it row (drop at symbols) at log (getD G c [])
 
-  pub read-count : isStopped r ≡ false → (at < length symbols) × (getD symbols at 0 ≤ 63 * it .blocks)
+  read-count : isStopped r ≡ false → (at < length symbols) × (getD symbols at 0 ≤ 63 * it .blocks)
   read-count e = first (decLt at (length symbols))
     where
       now-stopped : (x : Walked) → v ≡ x → isStopped (answerOf x) ≡ false
@@ -143,7 +143,7 @@ module _ (shift clusters : ℕ) (stretch : List ℕ) (c width : ℕ) (it : Item)
             }
 
 -- an item has 63 places for each block
-pub item-size : (v : Varblock) (width context : ℕ) (order : List ℕ) → length order ≡ 128 * 2 ^ (v .log) → length (itemAt v width context order .places) ≡ 63 * 2 ^ (v .log)
+item-size : (v : Varblock) (width context : ℕ) (order : List ℕ) → length order ≡ 128 * 2 ^ (v .log) → length (itemAt v width context order .places) ≡ 63 * 2 ^ (v .log)
 item-size v width context order h =
     let e = length-paired order in
     length-places (v .turn) (8 * width) (8 * v .x) (8 * v .y) (drop (2 ^ (v .log)) (paired order)) ∙ length-drop (2 ^ (v .log)) (paired order) ∙ omega arith
@@ -178,7 +178,7 @@ module _ (width : ℕ) (symbols : List ℕ) where
     refused-stays (it ∷ its) why at log G = refused-stays its why at log G
 
     -- a reading that stopped stays so
-    pub shown-stop : (its : List Item) (most more : ℕ) (w : Walk) (rows rows₁ : Grids) (log : List ℕ) (G : Grids) (R : Reading)
+    shown-stop : (its : List Item) (most more : ℕ) (w : Walk) (rows rows₁ : Grids) (log : List ℕ) (G : Grids) (R : Reading)
         → Shown width symbols most w rows log G R → isStopped w ≡ true → Shown width symbols more w rows₁ log G (read shift clusters stretch its R)
     shown-stop its most more w rows rows₁ log G (going us at log′ G′ rows′ left) s e =
         absurd (let a : isStopped w ≡ false = ap isStopped (s .it .answer) in let y : _≡_ {A = ℕ} 0 1 = cc in omega arith)
