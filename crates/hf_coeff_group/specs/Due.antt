@@ -25,7 +25,7 @@ use Rattle.hf_coeff_walk.specs.Places.{across}
 use Rattle.hf_coeff_walk.specs.Item.{Item}
 use Rattle.hf_coeff_group.specs.declared.plan.Plan.{Plan}
 use Rattle.hf_coeff_group.specs.Pass.{Pass, varblocks, itemOf, channels}
-use Rattle.hf_coeff_group.specs.Group.{Grids, zeroRows, Reading, going, refused, item, read, varblock, group}
+use Rattle.hf_coeff_group.specs.Group.{Grids, zeroRows, Reading, going, refused, item, read, group}
 use Rattle.hf_coeff_group.specs.Sizes.{logOf, order-lt, log-blocks, log-le, Sides, swapped, straight, sides-of}
 use Rattle.hf_coeff_group.specs.Stored.{stretch-long}
 use Rattle.hf_coeff_group.specs.Steps.{isStopped, readBy, Rows, cut, Shown}
