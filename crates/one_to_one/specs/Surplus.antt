@@ -1,17 +1,23 @@
--- Surplus symbols are accepted (document 01, Coefficients): whatever follows the symbols that an accepted call read, it answers and
--- leaves the same. So are leftover counts: `outcome` of Call asks nothing of them.
+-- Surplus symbols are accepted (document 01, Orders and Coefficients): whatever follows the symbols of an accepted call, it answers
+-- and leaves the same. So are leftover counts: `outcome` of the coefficient call asks nothing of them.
 use mathlib.Core.Path.{_≡_, refl, ap, _∙_}
 use mathlib.Core.Bool.{Bool, true, false, cond, not}
 use mathlib.Core.List.{List, [], _∷_, _++_}
-use Prim.Native.Nat.{ℕ, zero, suc, _+_, _*_}
+use Prim.Native.Nat.{ℕ, zero, suc, _+_, _*_, _-_, _/_}
 use native.Mathlib.Omega.{arith}
-use lib.Dec.{ltb, leb}
-use lib.ListN.{getD, set}
+use lib.Dec.{ltb, leb, eqb}
+use lib.ListN.{length, getD, set}
 use Rattle.refusal.specs.declared.Refusal.{Refusal}
 use Rattle.refusal.specs.declared.Refusal.the-variants.{Size, Parameter, Context, Length, Layout, StoredPlace, BitsEnd, Preset}
 use Rattle.bits.specs.Bits.{Read, Value, Ended}
 use Rattle.block_context.specs.Record.{fit}
-use Rattle.hf_pass_store.specs.Store.{placesFit}
+use Rattle.dct_select.specs.BlockSizes.{BLOCK-SIZES}
+use Rattle.natural_order.specs.Places.{Place}
+use Rattle.hf_pass_store.specs.Store.{PLACES, placesFit}
+use Rattle.hf_pass.specs.Reading as orders
+use Rattle.hf_pass.specs.declared.OrdersAnswer.the-variants as orderAnswer
+use Rattle.hf_pass.specs.Call as orderCall
+use Rattle.hf_pass.specs.Call.{parsed}
 use Rattle.hf_coeff_walk.specs.Walk.{Walked, ended, stopped, walk, coeffContext, flag, less, gain}
 use Rattle.hf_coeff_walk.specs.Item.{Item, newRow, countCluster, coeffPart, counted}
 use Rattle.hf_coeff_group.specs.Pass.{varblocks, itemsOf}
@@ -150,3 +156,74 @@ module _ (more : List ℕ) where
         (past (lengthsFit L) n Length _ _
         (past (layoutFits (L .pass)) n Layout _ _
         (past (placesFit (L .pass .store)) n StoredPlace _ _ (preset-more (readPreset L) n)))))) e
+
+-- The same of the order call.
+module _ (more : List ℕ) where
+  abbrev moreGiven : {A : Type 0} → orders.Reading A → orders.Reading A
+  moreGiven (orders.Given a us at) = orders.Given a (us ++ more) at
+  moreGiven (orders.Refused why) = orders.Refused why
+
+  abbrev Gives : {A : Type 0} → orders.Reading A → Type 0
+  Gives (orders.Given a us at) = Unit
+  Gives (orders.Refused why) = ⊥
+
+  check-more : {A : Type 0} (ok : Bool) (at : ℕ) (r r′ : orders.Reading A) → (Gives r → r′ ≡ moreGiven r) → Gives (orders.check ok at r) → orders.check ok at r′ ≡ moreGiven (orders.check ok at r)
+  check-more true at r r′ f e = f e
+  check-more false at r r′ f e = absurd e
+
+  then-more : {A B : Type 0} (r r′ : orders.Reading A) (k : A → List ℕ → ℕ → orders.Reading B) → (Gives r → r′ ≡ moreGiven r)
+      → ((a : A) (us : List ℕ) (at : ℕ) → Gives (k a us at) → k a (us ++ more) at ≡ moreGiven (k a us at)) → Gives (orders.then r k) → orders.then r′ k ≡ moreGiven (orders.then r k)
+  then-more (orders.Given a us at) r′ k f g e = rw (f tt) (g a us at e)
+  then-more (orders.Refused why) r′ k f g e = absurd e
+
+  digits-more : (n left : ℕ) (us : List ℕ) (at : ℕ) → Gives (orders.digits n left us at) → orders.digits n left (us ++ more) at ≡ moreGiven (orders.digits n left us at)
+  unfolding orders.digits
+  digits-more zero left us at e = refl
+  digits-more (suc n) left [] at e = absurd e
+  digits-more (suc n) left (u ∷ us) at e =
+      check-more (ltb u left) (at + 1) _ _
+      (then-more (orders.digits n (left - 1) us (at + 1)) _ (λ ds. orders.Given (u ∷ ds)) (digits-more n (left - 1) us (at + 1)) (λ a vs k f. refl)) e
+
+  list-more : (bw bh : ℕ) (us : List ℕ) (at : ℕ) → Gives (orders.oneList bw bh us at) → orders.oneList bw bh (us ++ more) at ≡ moreGiven (orders.oneList bw bh us at)
+  unfolding orders.oneList
+  list-more bw bh [] at e = absurd e
+  list-more bw bh (n ∷ us) at e =
+      check-more (leb n (bw * bh - bw * bh / 64)) (at + 1) _ _
+      (then-more (orders.digits n (bw * bh - bw * bh / 64) us (at + 1)) _ _ (digits-more n (bw * bh - bw * bh / 64) us (at + 1)) (λ a vs k f. refl)) e
+
+  entry-more : (used : Bool) (bw bh : ℕ) (us : List ℕ) (at : ℕ) → Gives (orders.entryList used bw bh us at) → orders.entryList used bw bh (us ++ more) at ≡ moreGiven (orders.entryList used bw bh us at)
+  entry-more true bw bh us at e = list-more bw bh us at e
+  entry-more false bw bh us at e = refl
+
+  lists-more : (es : List orders.Entry) (us : List ℕ) (at : ℕ) → Gives (orders.lists es us at) → orders.lists es (us ++ more) at ≡ moreGiven (orders.lists es us at)
+  lists-more [] us at e = refl
+  lists-more (s ∷ es) us at e =
+      then-more (orders.entryList (s .used) (s .bw) (s .bh) us at) _ _ (entry-more (s .used) (s .bw) (s .bh) us at)
+      (λ l vs k. then-more (orders.lists es vs k) _ _ (lists-more es vs k) (λ a ws j f. refl)) e
+
+  module _ (bytes symbols store : List ℕ) where
+    gives : (r : orders.Reading (List (List Place))) (n : ℕ) → orderCall.written r .answer ≡ orderCall.reads n → Gives r
+    gives (orders.Given ls us at) n e = tt
+    gives (orders.Refused why) n e = let z : _≡_ {A = ℕ} 0 1 = cc in absurd (omega arith)
+
+    same-written : (r : orders.Reading (List (List Place))) → orderCall.written (moreGiven r) ≡ orderCall.written r
+    same-written (orders.Given ls us at) = refl
+    same-written (orders.Refused why) = refl
+
+    by-bits : (R : Read) (n : ℕ) → orderCall.read R symbols store .answer ≡ orderCall.reads n → orderCall.read R (symbols ++ more) store ≡ orderCall.read R symbols store
+    unfolding orders.orders
+    by-bits (Ended at) n e = refl
+    by-bits (Value used at) n e =
+        let l = orders.plan used 0 BLOCK-SIZES in
+        ap orderCall.written (lists-more l symbols 0 (gives (orders.lists l symbols 0) n e)) ∙ same-written (orders.lists l symbols 0)
+
+    -- an accepted order call stays so, with the same store, whatever symbols follow
+    pub surplus-orders : (n : ℕ) → parsed bytes symbols store .answer ≡ orderCall.reads n → parsed bytes (symbols ++ more) store ≡ parsed bytes symbols store
+    unfolding parsed
+    surplus-orders n e = go (eqb (length store) (2 * PLACES)) e
+      where
+        go : (b : Bool) → cond b (orderCall.read (orderCall.usedOrders bytes) symbols store) (orderCall.outcome (orderAnswer.Refused Length) store) .answer ≡ orderCall.reads n
+            → cond b (orderCall.read (orderCall.usedOrders bytes) (symbols ++ more) store) (orderCall.outcome (orderAnswer.Refused Length) store)
+            ≡ cond b (orderCall.read (orderCall.usedOrders bytes) symbols store) (orderCall.outcome (orderAnswer.Refused Length) store)
+        go true f = by-bits (orderCall.usedOrders bytes) n f
+        go false f = refl
