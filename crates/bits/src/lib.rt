@@ -5,8 +5,6 @@ ghost use lib.ListN.{length, take, drop};
 ghost use Rattle.bits.specs.Bits.{readBits, readU32, readChoice, chosen};
 ghost use Rattle.bits.specs.Numbers.{number};
 ghost use Rattle.bits.specs.Reads.{passed, placeAt, gotOf, choiceOf};
-ghost use Rattle.bits.specs.Signed.{unpackSigned};
-ghost use Rattle.bits.specs.Exponent.{exponent as exponentOf};
 
 // A place between two bits: whole bytes passed, and bits passed of the next one.
 pub struct Place {
@@ -153,28 +151,4 @@ pub fn read_u32(
         return Got::End(2);
     };
     Got::Value(v, last)
-}
-
-// A signed number as a 32-bit pattern: even u is u / 2, odd u is -(u + 1) / 2.
-pub fn unpack_signed(u: u32) -> u32
-    ensures { λ r. ⌜ r ≡ unpackSigned u ⌝ }
-{
-    if u % 2 == 0 {
-        u / 2
-    } else {
-        0xffff_ffff - u / 2
-    }
-}
-
-// The exponent of the least power of two not below n: as many bits tell n things apart.
-pub fn exponent(n: u32) -> u32
-    ensures { λ r. ⌜ r ≡ exponentOf n ⌝ }
-{
-    let mut e: u32 = 0;
-    let mut power: u64 = 1;
-    while power < n as u64 {
-        power = power * 2;
-        e += 1;
-    }
-    e
 }

@@ -1,14 +1,12 @@
 // The limits of a context record.
 use super::HfBlockContext;
-use super::sizes::lf_size;
-use super::sizes::used;
+use block_context_sizes::bsize;
 ghost use mathlib.Core.Path.{_≡_};
 ghost use Prim.Native.Nat.{max, _≤_};
 ghost use lib.ListN.{take};
 ghost use Rattle.laws.specs.Tables.{every};
 ghost use Rattle.block_context.specs.Largest.{largestFrom};
 ghost use Rattle.block_context.specs.Record.{qfFit, bytesBelow, fit};
-ghost use Rattle.block_context.specs.Laws.{cappedBsize};
 
 fn wide(x: u8) -> u32
     ensures { λ r. ⌜ r ≡ x ⌝ }
@@ -79,14 +77,6 @@ fn map_fit(block_ctx_map: &[u8; 2496], n: usize, count: u32) -> bool
 {
     let map = &block_ctx_map[..];
     all_below(&map[..n], count)
-}
-
-// The product of the four (length + 1), a length above 15 counting as 15.
-pub fn bsize(lengths: [u32; 4]) -> usize
-    ensures { λ r. ⌜ r ≡ cappedBsize lengths ⌝ }
-{
-    let qfs = used(lengths[3]) + 1;
-    lf_size(lengths) * qfs
 }
 
 // A lent record is not refused with 12.

@@ -12,9 +12,9 @@ use Rattle.layout.specs.Cut.{hasGroup, groupWide, groupHigh, cut}
 use Rattle.layout.specs.CutLaws.{cut-layout, starts-x, starts-y}
 use Rattle.layout.specs.Theorems.{layout-iff}
 use Rattle.block_check.specs.declared.Group.{Group}
-use Rattle.block_check.specs.Calls.{Answer, gives, refuses, inLimits, lengthsFit, checkOf, unless}
+use Rattle.block_check.specs.Calls.{Answer, gives, refuses, checkOf, unless}
+use Rattle.block_sides.specs.Limits.{inLimits, lengthsFit, lengths-fit}
 use Rattle.block_record.specs.Calls.{group, Outcome, outcome, cutCheck, cutBy, cutOf}
-use Rattle.block_check.specs.Laws.{lengths-fit}
 use Rattle.block_check.specs.Theorems.{checks}
 use Rattle.block_record.specs.CutSteps.{Passed, passed, cut-done, cut-refused}
 

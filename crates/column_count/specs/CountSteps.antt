@@ -14,7 +14,7 @@ use Rattle.bits.specs.Bits.{Value, readBits}
 use Rattle.bits.specs.Numbers.{number, Bytes}
 use Rattle.bits.specs.Reads.{gotOf, placeAt, passed}
 use Rattle.bits.specs.Laws.{read-whole, was-value, was-end, value-at, ended-at}
-use Rattle.bits.specs.Exponent.{exponent-least}
+use Rattle.coded_numbers.specs.Exponent.{exponent-least}
 use Rattle.lf_group.specs.Blocks.{sizeFits, modesFit, wideIn, highIn}
 use Rattle.lf_group.specs.Bounds.{wide-most, high-most}
 use Rattle.column_count.specs.Count.{count, refused, plusOne, fieldBits, countOf}

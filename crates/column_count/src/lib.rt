@@ -23,7 +23,7 @@ pub fn column_count(width: u32, height: u32, modes: [u32; 3], bytes: &[u8]) -> C
         return ColumnCount::Refused(Refusal::Parameter);
     }
     let blocks = lf_group::blocks_of(width, height, modes);
-    let n = bits::exponent((blocks.bh * blocks.bw) as u32);
+    let n = coded_numbers::exponent((blocks.bh * blocks.bw) as u32);
     let got = bits::read_bits(bytes, Place::start(), n);
     match got {
         Got::Value(v, _) => ColumnCount::Count(1 + v, n as usize),

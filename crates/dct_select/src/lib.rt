@@ -1,8 +1,6 @@
 // The transforms of a varblock: size in blocks, order and turn (`dct_select.rs`).
+use block_sizes::Sides;
 use refusal::Refusal;
-
-pub mod block_sizes;
-
 ghost use mathlib.Core.Path.{_≡_};
 ghost use Rattle.dct_select.specs.Transforms.{orderOf, turns};
 ghost use Rattle.dct_select.specs.LookUp.{numberOf, answered, lookUp, sizeOf, carriedBy};
@@ -42,12 +40,6 @@ pub enum TransformType {
 pub enum Looked {
     Known(TransformType),
     Refused(Refusal),
-}
-
-// Width and height, of a varblock in blocks, of an order in cells.
-pub struct Sides {
-    pub wide: usize,
-    pub high: usize,
 }
 
 // What a transform carries: width and height in blocks, order, turn.

@@ -4,7 +4,7 @@ use super::ContextResult;
 use super::record::padded;
 use block_context::HfBlockContext;
 use block_context::fit::all_below;
-use block_context::fit::bsize;
+use block_context_sizes::bsize;
 use refusal::Refusal;
 ghost use mathlib.Core.Path.{_≡_};
 ghost use Prim.Native.Nat.{_≤_};

@@ -6,7 +6,7 @@ use Prim.Native.Nat.{ℕ, zero, suc, _*_, _<_, _≤_}
 use native.Mathlib.Omega.{arith}
 use lib.Dec.{T, leb, eqb, leb→le, eqb→eq}
 use lib.ListN.{length, getD}
-use Rattle.block_check.specs.Calls.{inLimits}
+use Rattle.block_sides.specs.Limits.{inLimits}
 use Rattle.hf_pass_store.specs.Store.{PLACES}
 use Rattle.hf_coeff_group.specs.Pass.{Pass}
 use Rattle.hf_coeff.specs.Call.{Lent, blocks, clustersOf, sidesFit, parametersFit, lfFits, passFits, gridsFit, lengthsFit}

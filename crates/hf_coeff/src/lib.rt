@@ -1,14 +1,14 @@
 // The coefficients of a pass group (`hf_coeff.rs`).
 use crate::group::read_group;
 use block_check::Group;
-use block_check::check::in_limits;
 use block_context::HfBlockContext;
 use block_context::fit::is_fit;
+use block_sides::limits::in_limits;
 use hf_coeff_checks::checks;
 use hf_coeff_checks::preset;
 use hf_coeff_checks::preset::PresetAnswer;
 use hf_coeff_walk::Walk;
-use hf_pass_store::places_fit;
+use hf_pass_places::places_fit;
 use refusal::Refusal;
 
 pub mod channels;

@@ -11,7 +11,7 @@ use Rattle.bits.specs.declared.Place.{Place}
 use Rattle.bits.specs.Bits.{Value, readBits}
 use Rattle.bits.specs.Reads.{gotOf, placeAt, passed}
 use Rattle.bits.specs.Laws.{was-value, was-end, value-at, ended-at}
-use Rattle.bits.specs.Exponent.{exponent, exponent-least}
+use Rattle.coded_numbers.specs.Exponent.{exponent, exponent-least}
 use Rattle.hf_coeff_checks.specs.declared.preset.PresetAnswer.the-variants as preset
 use Rattle.hf_coeff_checks.specs.Preset.{presetOf}
 

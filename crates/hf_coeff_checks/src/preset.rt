@@ -4,7 +4,7 @@ use bits::Place;
 use refusal::Refusal;
 ghost use mathlib.Core.Path.{_≡_};
 ghost use Rattle.bits.specs.Bits.{readBits};
-ghost use Rattle.bits.specs.Exponent.{exponent as exponentOf};
+ghost use Rattle.coded_numbers.specs.Exponent.{exponent as exponentOf};
 ghost use Rattle.hf_coeff_checks.specs.Preset.{presetOf};
 
 pub enum PresetAnswer {
@@ -15,7 +15,7 @@ pub enum PresetAnswer {
 pub fn read_preset(bytes: &[u8], presets: u32) -> PresetAnswer
     ensures { λ r. ⌜ r ≡ presetOf presets (readBits (now (bytes .entry)) 0 (exponentOf presets)) ⌝ }
 {
-    let n = bits::exponent(presets);
+    let n = coded_numbers::exponent(presets);
     let Got::Value(v, _) = bits::read_bits(bytes, Place::start(), n) else {
         return PresetAnswer::Refused(Refusal::BitsEnd(0));
     };

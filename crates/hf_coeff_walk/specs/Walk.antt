@@ -6,7 +6,7 @@ use lib.Dec.{ltb}
 use lib.ListN.{getD, set}
 use Rattle.refusal.specs.declared.Refusal.{Refusal}
 use Rattle.refusal.specs.declared.Refusal.the-variants.{SymbolsEnd, TooManyZeros}
-use Rattle.bits.specs.Signed.{unpackSigned}
+use Rattle.coded_numbers.specs.Signed.{unpackSigned}
 
 -- COEFF_FREQ_CONTEXT
 unfoldable pub FREQ : List ℕ

@@ -17,9 +17,9 @@ use Rattle.natural_order.specs.Sizes.{Size, not-higher}
 use Rattle.natural_order.specs.Turns.{natural-numbers}
 use Rattle.natural_order.specs.Facts.{natural-facts}
 use Rattle.permutation.specs.Digits.{ordered}
-use Rattle.permutation.specs.Permuted.{leading, allBelow, permuted}
+use Rattle.permutation_digits.specs.Leading.{leading, leading-most}
+use Rattle.permutation.specs.Permuted.{allBelow, permuted}
 use Rattle.natural_order.specs.Flat.{paired-flat}
-use Rattle.permutation.specs.Leading.{leading-most}
 use Rattle.permutation.specs.Permuting.{moved}
 use Rattle.hf_pass.specs.declared.OrdersAnswer.{OrdersAnswer}
 use Rattle.hf_pass.specs.declared.OrdersAnswer.the-variants as answer

@@ -12,10 +12,10 @@ use Rattle.bits.specs.declared.Got.the-variants as got
 use Rattle.bits.specs.Bits.{Read, readU32}
 use Rattle.bits.specs.Reads.{passed, placeAt, gotOf, choiceOf}
 use Rattle.bits.specs.Laws.{was-value, was-end}
-use Rattle.dct_select.specs.BlockSizes.{BLOCK-SIZES}
+use Rattle.block_sizes.specs.BlockSizes.{BLOCK-SIZES}
 use Rattle.hf_pass_store.specs.Store.{stored, PLACES}
 use Rattle.hf_pass_store.specs.Offsets.{places-by}
-use Rattle.hf_pass_store.specs.Naturals.{naturals, naturalStore, natural-store, whole-long}
+use Rattle.hf_pass_naturals.specs.Naturals.{naturals, naturalStore, natural-store, whole-long}
 use Rattle.hf_pass.specs.declared.OrdersAnswer.the-variants as answer
 use Rattle.hf_pass.specs.Reading.{orders}
 use Rattle.hf_pass.specs.Call.{Outcome, outcome, usedOrders, written, read, parsed}

@@ -12,8 +12,8 @@ use Rattle.layout.specs.LikeLaws.{alike-iff, not-wider, same-itself, same-turne
 use Rattle.layout.specs.Theorems.{layout-iff}
 use Rattle.block_check.specs.Calls.{gives}
 use Rattle.likeness.specs.Calls.{sided, filled, holdsLayout, likeOf}
-use Rattle.block_check.specs.Laws.{pass, Sided, in-limits, lengths-fit, fit-lengths}
-use Rattle.block_check.specs.Theorems.{limits-in}
+use Rattle.block_check.specs.Laws.{pass}
+use Rattle.block_sides.specs.Limits.{Sided, in-limits, lengths-fit, fit-lengths, limits-in}
 use Rattle.likeness.specs.LikeSteps.{like-says}
 
 -- Likeness: yes exactly for layouts with the same rectangles and hf_mul, no exactly for other layouts.

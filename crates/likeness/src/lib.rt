@@ -1,15 +1,15 @@
 // Likeness of two lent layouts: the same rectangles and hf_mul.
-use block_check::check::HIGH;
-use block_check::check::WIDE;
-use block_check::check::in_limits;
 use block_check::check::is_layout;
-use block_check::check::lengths_fit;
-use block_check::check::size_of;
+use block_sides::limits::in_limits;
+use block_sides::limits::lengths_fit;
+use block_sides::sizes::HIGH;
+use block_sides::sizes::WIDE;
+use block_sides::sizes::size_of;
 use refusal::Refusal;
 ghost use mathlib.Core.Path.{_≡_};
 ghost use lib.ListN.{length};
 ghost use Rattle.layout.specs.Like.{lent, alikeCell, alikeFrom};
-ghost use Rattle.block_check.specs.Sizes.{widths, heights};
+ghost use Rattle.block_sides.specs.Sizes.{widths, heights};
 ghost use Rattle.likeness.specs.Calls.{saidLike, likeOf};
 
 pub enum LikeAnswer {

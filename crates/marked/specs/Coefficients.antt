@@ -10,15 +10,15 @@ use borrow.Author.Tests.{eq-eqb, le-leb}
 use Rattle.refusal.specs.declared.Refusal.the-variants.{Preset}
 use Rattle.refusal.specs.Said as refusals
 use Rattle.bits.specs.Bits.{Value, readBits, bitsOf, valueOf}
-use Rattle.bits.specs.Exponent.{exponent, exponentFrom}
-use Rattle.bits.specs.Signed.{unpackSigned}
+use Rattle.coded_numbers.specs.Exponent.{exponent, exponentFrom}
+use Rattle.coded_numbers.specs.Signed.{unpackSigned}
 use Rattle.dct_select.specs.Transforms.{TRANSFORMS, wide, high, orderOf, turns}
 use Rattle.natural_order.specs.Natural.{natural}
 use Rattle.layout.specs.Walk.{cells, rows}
 use Rattle.layout.specs.Grid.{fillFrom}
 use Rattle.layout.specs.Check.{clear, fitting, visitCell, checkRun}
 use Rattle.layout.specs.Varblocks.{cornersRow, cornersFrom}
-use Rattle.block_check.specs.Calls.{inLimits}
+use Rattle.block_sides.specs.Limits.{inLimits}
 use Rattle.block_context.specs.Record.{fit, fitOf, bsizeOf}
 use Rattle.block_context_index.specs.Contexts.{sizeOf, above, lfIndexIn, placeOf}
 use Rattle.hf_block_context.specs.Call.{stored as contextsOf}

@@ -6,12 +6,12 @@ use native.Mathlib.Omega.{arith}
 use lib.ListN.{length, getD, take, drop}
 use borrow.Author.Tests.{eq-eqb}
 use Rattle.bits.specs.Bits.{readBits, readU32, bitsOf, valueOf}
-use Rattle.dct_select.specs.BlockSizes.{BLOCK-SIZES}
+use Rattle.block_sizes.specs.BlockSizes.{BLOCK-SIZES}
 use Rattle.natural_order.specs.Places.{Place, flat}
 use Rattle.natural_order.specs.Natural.{natural}
 use Rattle.permutation.specs.Digits.{ordered}
 use Rattle.hf_pass_store.specs.Store.{PLACES, stored, stretch}
-use Rattle.hf_pass_store.specs.Naturals.{naturals}
+use Rattle.hf_pass_naturals.specs.Naturals.{naturals}
 use Rattle.hf_pass.specs.declared.OrdersAnswer.the-variants.{Accepted}
 use Rattle.hf_pass.specs.Reading.{Given, digits, oneList, orders}
 use Rattle.hf_pass.specs.Call.{Outcome, outcome, parsed}

@@ -77,5 +77,5 @@ pub extern "C" fn netbuff_order(
 pub extern "C" fn netbuff_places_fit(store: &[u16]) -> bool
     ensures { λ r. ⌜ r ≡ placesFit (now (store .entry)) ⌝ }
 {
-    hf_pass_store::places_fit(store)
+    hf_pass_places::places_fit(store)
 }

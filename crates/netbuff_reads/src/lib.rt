@@ -5,8 +5,8 @@ use bits::U32Specifier;
 ghost use mathlib.Core.Path.{_≡_};
 ghost use Prim.Native.Nat.{min};
 ghost use Rattle.bits.specs.Bits.{readBits, readU32};
-ghost use Rattle.bits.specs.Reads.{gotOf, choiceOf};
-ghost use Rattle.bits.specs.Signed.{unpackSigned};
+ghost use Rattle.bits.specs.Reads.{gotOf};
+ghost use Rattle.coded_numbers.specs.Signed.{unpackSigned};
 ghost use Rattle.netbuff_reads.specs.Reader.{handed, outcome, bitsAt, choice};
 
 // What a read hands out: the value and the place behind it, or 3 and the bits that the read took.
@@ -105,5 +105,5 @@ pub extern "C" fn netbuff_read_u32(
 pub extern "C" fn netbuff_unpack_signed(u: u32) -> u32
     ensures { λ r. ⌜ r ≡ unpackSigned u ⌝ }
 {
-    bits::unpack_signed(u)
+    coded_numbers::unpack_signed(u)
 }

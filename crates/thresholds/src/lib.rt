@@ -44,7 +44,7 @@ fn lf_value(bytes: &[u8], p: Place) -> Got
     };
     let got = bits::read_u32(bytes, p, d0, d1, d2, d3);
     match got {
-        Got::Value(u, next) => Got::Value(bits::unpack_signed(u), next),
+        Got::Value(u, next) => Got::Value(coded_numbers::unpack_signed(u), next),
         Got::End(taken) => Got::End(taken),
     }
 }

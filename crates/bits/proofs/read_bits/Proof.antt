@@ -1,10 +1,9 @@
-use Prim.Native.Nat.{_/_, _%_, min}
+use Prim.Native.Nat.{_/_, _%_, min, _+_}
 use Rattle.bits.specs.Reads.{passed}
 use Rattle.bits.specs.Laws.{read-end, read-window}
 use borrow.Author.Needs.{needs}
 use native.Mathlib.Omega.{arith}
 use mathlib.Core.Path.{_≡_, _∙_}
-use Prim.Native.Nat.{_+_}
 use Rattle.bits.proofs.read_bits.Statement.{statement}
 use Rattle.bits.proofs.read_bits.Tie as tie
 

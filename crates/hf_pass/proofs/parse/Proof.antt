@@ -1,16 +1,13 @@
 use Rattle.hf_pass.specs.Call.{outcome}
 use Rattle.hf_pass.specs.Parsing.{other-length, ready, bits-end, lists-read}
 use borrow.Author.Needs.{needs}
-use mathlib.Core.Path.{sym}
-use Prim.Native.Nat.{_-_}
-use lib.ListN.{length, take}
 use Rattle.hf_pass.proofs.parse.Statement.{statement}
 use Rattle.hf_pass.proofs.parse.Tie as tie
 use Rattle.bits.proofs.Place.start.Reads as start-reads
 use Rattle.bits.proofs.read_u32.Reads as read-u32-reads
 use Rattle.hf_pass.proofs.read_lists.Reads as read-lists-reads
 use Rattle.hf_pass.proofs.wide.Reads as wide-reads
-use Rattle.hf_pass_store.proofs.fill_natural_orders.Reads as fill-natural-orders-reads
+use Rattle.hf_pass_naturals.proofs.fill_natural_orders.Reads as fill-natural-orders-reads
 
 returns : tie.Need-returns
 returns c = let a = c .before .before .before .before .args in other-length (a .bytes .now) (a .symbols .now) (a .store .now) (c .if1 .taken)

@@ -1,17 +1,16 @@
 use mathlib.Core.Bool.{true, false}
 use Rattle.hf_pass.specs.Lists.{isRefused}
 use borrow.Rule.Slice.PartMut.{putMid}
-use mathlib.Core.Path.{refl}
+use mathlib.Core.Path.{refl, _≡_, _∙_, ap, sym}
 use Rattle.hf_pass.specs.Progress.{Progress, progress-start, progress-stop, progress-turn, progress-end, list-at}
 use Rattle.hf_pass_store.specs.Offsets.{from, from-start}
 use borrow.Author.Needs.{needs}
 use native.Mathlib.Omega.{arith}
-use mathlib.Core.Path.{_≡_, _∙_, ap, sym}
 use Prim.Native.Nat.{_-_, _+_, _*_}
-use lib.ListN.{length-replicate, length, take}
+use lib.ListN.{length-replicate, length}
 use Rattle.hf_pass.proofs.read_lists.Statement.{statement}
 use Rattle.hf_pass.proofs.read_lists.Tie as tie
-use Rattle.dct_select.proofs.block_sizes.block_size.Reads as block-size-reads
+use Rattle.block_sizes.proofs.block_size.Reads as block-size-reads
 use Rattle.hf_pass.proofs.count_of.Reads as count-of-reads
 use Rattle.hf_pass.proofs.is_refused.Reads as is-refused-reads
 use Rattle.hf_pass.proofs.is_used.Reads as is-used-reads

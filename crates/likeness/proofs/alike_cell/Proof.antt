@@ -1,11 +1,11 @@
 use mathlib.Core.Path.{_≡_, _∙_, sym, ap}
 use lib.Dec.{eqb}
 use Prim.Native.Nat.{ℕ}
-use Rattle.dct_select.specs.declared.Sides.{Sides}
-use Rattle.dct_select.specs.LookUp.{sides}
+use Rattle.block_sizes.specs.declared.Sides.{Sides}
+use Rattle.block_sizes.specs.BlockSizes.{sides}
 use Rattle.layout.specs.Kinds.{wideOf, highOf}
 use Rattle.likeness.specs.LikeSteps.{cell-plain, cell-odd, cell-mul, cell-wide, cell-high}
-use Rattle.block_check.specs.Sizes.{size-corner}
+use Rattle.block_check.specs.Corners.{size-corner}
 use borrow.Author.Needs.{needs}
 use native.Mathlib.Omega.{arith}
 use Rattle.likeness.proofs.alike_cell.Statement.{statement}

@@ -3,7 +3,7 @@ use Prim.Native.Nat.{_-_, _≤_}
 use lib.ListN.{length}
 use borrow.Author.Tests.{not-true, not-false}
 use Rattle.dct_select.specs.Transforms.{TRANSFORMS}
-use Rattle.block_check.specs.Sizes.{widths, heights}
+use Rattle.block_sides.specs.Sizes.{widths, heights}
 use Rattle.layout.specs.Like.{alikeFrom}
 use Rattle.likeness.specs.LikeSteps.{left, like-start, like-next, like-stop, like-end}
 use borrow.Author.Needs.{needs}

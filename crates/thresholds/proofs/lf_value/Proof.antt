@@ -1,6 +1,6 @@
 use Rattle.bits.specs.declared.Got.the-variants as got
 use Rattle.bits.specs.Reads.{passed}
-use Rattle.bits.specs.Signed.{unpackSigned}
+use Rattle.coded_numbers.specs.Signed.{unpackSigned}
 use Rattle.thresholds.specs.Reading.{lfU32, lfValue}
 use Rattle.thresholds.specs.StepLaws.{by-value, by-end}
 use borrow.Author.Needs.{needs}

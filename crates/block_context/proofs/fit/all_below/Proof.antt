@@ -1,7 +1,6 @@
 use Rattle.block_context.specs.Largest.{none-below, largest-below}
 use borrow.Author.Needs.{needs}
 use native.Mathlib.Omega.{arith}
-use Prim.Native.Nat.{_-_}
 use Rattle.block_context.proofs.fit.all_below.Statement.{statement}
 use Rattle.block_context.proofs.fit.all_below.Tie as tie
 

@@ -6,7 +6,7 @@ use Rattle.block_context.specs.Laws.{capped}
 use borrow.Author.Needs.{needs}
 use native.Mathlib.Omega.{arith}
 use mathlib.Core.Path.{_∙_, ap, sym}
-use Prim.Native.Nat.{ℕ, _-_, _*_}
+use Prim.Native.Nat.{ℕ, _*_}
 use lib.ListN.{getD, take}
 use Rattle.block_context.proofs.fit.is_fit.Statement.{statement}
 use Rattle.block_context.proofs.fit.is_fit.Tie as tie

@@ -1,0 +1,137 @@
+use Rattle.hf_pass_naturals.specs.Naturals.{part-length, naturals, fromOrder, order-start, order-at, order-laid, all-written, none-written}
+use borrow.Rule.Slice.PartMut.{putMid}
+use mathlib.Core.Path.{refl, _≡_, _∙_, sym}
+use Rattle.hf_pass_store.specs.Offsets.{from, from-start}
+use Rattle.hf_pass_store.specs.Store.{stored}
+use Rattle.block_sizes.specs.BlockSizes.{BLOCK-SIZES}
+use lib.Seq.{sets}
+use borrow.Author.Needs.{needs}
+use native.Mathlib.Omega.{arith}
+use Prim.Native.Nat.{_≤_, _-_, _+_, _*_}
+use lib.ListN.{length}
+use Rattle.hf_pass_naturals.proofs.fill_natural_orders.Statement.{statement}
+use Rattle.hf_pass_naturals.proofs.fill_natural_orders.Tie as tie
+use Rattle.block_sizes.proofs.block_size.Reads as block-size-reads
+use Rattle.hf_pass_naturals.proofs.fill_order.Reads as fill-order-reads
+
+abbrev Inv-loop : tie.InvT-loop
+Inv-loop store₀ start₀ k₀ store start k =
+    (k ≤ 13)
+    × (length store ≡ 787968)
+    × (length store₀ ≡ 787968)
+    × (start ≡ from (3 * k))
+    × (sets store start (fromOrder k) ≡ sets store₀ 0 (stored (naturals BLOCK-SIZES)))
+
+abbrev μ-loop : tie.MeasureT-loop
+μ-loop store₀ start₀ k₀ store start k = 13 - k
+
+returns : tie.Need-returns Inv-loop μ-loop
+returns c = none-written (c .before .before .args .store .now) (c .if1 .taken)
+
+loop-holds : tie.Need-loop-holds Inv-loop μ-loop
+loop-holds c = (omega arith, c .if1 .left, c .if1 .left, sym from-start, rw order-start)
+
+block-size-requires : tie.Need-block-size-requires Inv-loop μ-loop
+block-size-requires c κs = search needs
+
+mul-n : tie.Need-mul-n Inv-loop μ-loop
+mul-n c =
+    let l = c .before .before .loop in
+    let t = c .block-size in
+    let o = order-at (l .k) (omega arith) (t .result) (t .ensures) (l .start) (l .inv .3) in
+    omega (arith, o .room, l .inv .1)
+
+mul-n-2 : tie.Need-mul-n-2 Inv-loop μ-loop
+mul-n-2 c =
+    let l = c .before .before .loop in
+    let t = c .block-size in
+    let o = order-at (l .k) (omega arith) (t .result) (t .ensures) (l .start) (l .inv .3) in
+    omega (arith, o .room, l .inv .1)
+
+mul-e : tie.Need-mul-e Inv-loop μ-loop
+mul-e c =
+    let l = c .before .before .loop in
+    let t = c .block-size in
+    let o = order-at (l .k) (omega arith) (t .result) (t .ensures) (l .start) (l .inv .3) in
+    omega (arith, o .room, l .inv .1)
+
+add-e : tie.Need-add-e Inv-loop μ-loop
+add-e c =
+    let l = c .before .before .loop in
+    let t = c .block-size in
+    let o = order-at (l .k) (omega arith) (t .result) (t .ensures) (l .start) (l .inv .3) in
+    omega (arith, o .room, l .inv .1)
+
+mul-fill-order : tie.Need-mul-fill-order Inv-loop μ-loop
+mul-fill-order c =
+    let l = c .before .before .loop in
+    let t = c .block-size in
+    let o = order-at (l .k) (omega arith) (t .result) (t .ensures) (l .start) (l .inv .3) in
+    omega (arith, o .room, l .inv .1)
+
+sub-fill-order : tie.Need-sub-fill-order Inv-loop μ-loop
+sub-fill-order c = search needs
+
+part-fill-order-start : tie.Need-part-fill-order-start Inv-loop μ-loop
+part-fill-order-start c = search needs
+
+part-fill-order-end : tie.Need-part-fill-order-end Inv-loop μ-loop
+part-fill-order-end c =
+    let l = c .before .before .loop in
+    let t = c .block-size in
+    let o = order-at (l .k) (omega arith) (t .result) (t .ensures) (l .start) (l .inv .3) in
+    omega (arith, o .room, l .inv .1)
+
+fill-order-requires : tie.Need-fill-order-requires Inv-loop μ-loop
+fill-order-requires c κs =
+    let l = c .before .before .before .loop in
+    let t = c .before .block-size in
+    let o = order-at (l .k) (omega arith) (t .result) (t .ensures) (l .start) (l .inv .3) in
+    (omega arith, o .size, part-length (l .store) (l .start) (3 * (2 * (t .result .wide * t .result .high))) (omega (arith, o .room, l .inv .1)))
+
+add-k : tie.Need-add-k Inv-loop μ-loop
+add-k c = search needs
+
+loop-less : tie.Need-loop-less Inv-loop μ-loop
+loop-less c = search needs
+
+loop-again : tie.Need-loop-again Inv-loop μ-loop
+loop-again c =
+    let l = c .before .before .before .before .before .before .loop in
+    let t = c .before .before .before .before .block-size in
+    let o = order-at (l .k) (omega arith) (t .result) (t .ensures) (l .start) (l .inv .3) in
+    let f = c .before .before .fill-order in
+    let e = l .start + 3 * (2 * (t .result .wide * t .result .high)) in
+    (omega arith, search needs, l .inv .2, o .next, order-laid (l .k) (omega arith) (t .result) (t .ensures) (l .start) (l .inv .3) (l .store) (putMid (l .start) (e - l .start) (l .store) (f .last .0)) (f .last .0) (l .inv .1) (f .ensures) refl ∙ l .inv .4)
+
+same-length : tie.Need-same-length Inv-loop μ-loop
+same-length c = search needs
+
+returns-2 : tie.Need-returns-2 Inv-loop μ-loop
+returns-2 c =
+    let l = c .before .loop in
+    all-written (l .store) (c .before .before .before .before .args .store .now) (l .k) (l .start) (omega arith) (l .inv .2) (l .inv .4)
+
+pub fill-natural-orders-spec : {M : Type 1} → statement M
+fill-natural-orders-spec =
+    tie.close
+    (tie.spec
+    Inv-loop
+    μ-loop
+    returns
+    loop-holds
+    block-size-requires
+    mul-n
+    mul-n-2
+    mul-e
+    add-e
+    mul-fill-order
+    sub-fill-order
+    part-fill-order-start
+    part-fill-order-end
+    fill-order-requires
+    add-k
+    loop-less
+    loop-again
+    same-length
+    returns-2)
