@@ -7,10 +7,10 @@ use native.Mathlib.Omega.{arith}
 use lib.ListN.{length}
 use borrow.Author.Tests.{le-leb, lt-leb, eq-eqb, ne-eqb}
 use Rattle.refusal.specs.declared.Refusal.the-variants.{Length, BitsEnd, Context}
-use Rattle.bits.specs.declared.Place.{Place}
+use Rattle.bit_place.specs.declared.Place.{Place}
 use Rattle.bits.specs.Bits.{Read, Value, Ended, readBits}
 use Rattle.bits.specs.Numbers.{Bytes}
-use Rattle.bits.specs.Reads.{passed, placeAt}
+use Rattle.bit_place.specs.Place.{passed, placeAt}
 use Rattle.bits.specs.Laws.{passed-at}
 use Rattle.block_context.specs.declared.HfBlockContext.{HfBlockContext}
 use Rattle.block_context.specs.Record.{bsizeOf, bytesBelow}

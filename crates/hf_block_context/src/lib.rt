@@ -2,8 +2,8 @@
 mod judge;
 mod record;
 
+use bit_place::Place;
 use bits::Got;
-use bits::Place;
 use block_context::HfBlockContext;
 use judge::default_contexts;
 use judge::judge;
@@ -15,7 +15,7 @@ use thresholds::ListStep;
 use thresholds::read_list;
 ghost use mathlib.Core.Path.{_≡_};
 ghost use Prim.Native.Nat.{_≤_};
-ghost use Rattle.bits.specs.Reads.{passed};
+ghost use Rattle.bit_place.specs.Place.{passed};
 ghost use Rattle.thresholds.specs.Reading.{qfValue, readList, readLists};
 ghost use Rattle.hf_block_context.specs.Call.{handed, judgedLists, orEnded, parsed};
 ghost use Rattle.hf_block_context.specs.CallLaws.{judgedQf};

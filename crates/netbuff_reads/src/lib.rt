@@ -1,6 +1,6 @@
 // C interface: reads of the bit reader, one at a time.
+use bit_place::Place;
 use bits::Got;
-use bits::Place;
 use bits::U32Specifier;
 ghost use mathlib.Core.Path.{_≡_};
 ghost use Prim.Native.Nat.{min};

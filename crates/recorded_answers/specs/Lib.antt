@@ -1,5 +1,3 @@
--- digests of lists, and the comparison with what was recorded
-pub mod Digest
-pub mod DigestLaws
+-- what was recorded against what a call gave
 pub mod Compare
 pub mod CompareLaws

@@ -1,6 +1,6 @@
 // An answer as numbers: the refusal's number and position, 0, 0 and 0 where the call accepts, then
 // what the call gives.
-use recorded_answers::compare::agreeing;
+use recorded_answers::agreeing;
 use refusal::Refusal;
 
 pub(crate) fn refuse(out: &mut [usize; 48], why: Refusal) {

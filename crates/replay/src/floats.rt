@@ -1,5 +1,5 @@
 // Floats and their bit patterns. Every NaN is one value, recorded as 7fc00000.
-use recorded_answers::digest::with;
+use recorded_digests::with;
 ghost use Prim.Native.Nat.{_≤_};
 ghost use mathlib.Core.Path.{_≡_};
 ghost use lib.ListN.{length, take};

@@ -1,5 +1,5 @@
 use Rattle.bits.specs.Numbers.{Bytes}
-use Rattle.bits.specs.Reads.{passed}
+use Rattle.bit_place.specs.Place.{passed}
 use Rattle.refusal.specs.declared.Refusal.the-variants.{BitsEnd}
 use Rattle.thresholds.specs.Reading.{Reading, Lists, lfValue, qfValue, readList, readLists}
 use Rattle.hf_block_context.specs.Call.{refused, judgedLists, orEnded}

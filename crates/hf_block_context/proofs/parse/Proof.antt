@@ -1,8 +1,9 @@
 use Prim.Native.Nat.{ℕ}
 use Rattle.refusal.specs.declared.Refusal.the-variants.{BitsEnd}
-use Rattle.bits.specs.declared.Place.{Place}
+use Rattle.bit_place.specs.declared.Place.{Place}
 use Rattle.bits.specs.Bits.{readBits}
-use Rattle.bits.specs.Reads.{passed, gotOf}
+use Rattle.bit_place.specs.Place.{passed}
+use Rattle.bits.specs.Reads.{gotOf}
 use Rattle.bits.specs.Laws.{WasValue, was-value, was-end, passed-at, value-at}
 use Rattle.thresholds.specs.Reading.{readLists}
 use Rattle.hf_block_context.specs.Call.{judgedLists, orEnded, accepted, refused, stored, noLists, DEFAULT-MAP}

@@ -1,5 +1,5 @@
 use Rattle.bits.specs.Numbers.{Bytes}
-use Rattle.bits.specs.Reads.{passed}
+use Rattle.bit_place.specs.Place.{passed}
 use Rattle.thresholds.specs.Reading.{qfValue, readList}
 use Rattle.thresholds.specs.Reads.{qf-near}
 use Rattle.refusal.specs.declared.Refusal.the-variants.{BitsEnd}

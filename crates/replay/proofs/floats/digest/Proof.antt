@@ -3,7 +3,7 @@ use Prim.Native.Nat.{_≤_, _-_}
 use lib.ListN.{length}
 use Rattle.replay.proofs.floats.digest.Statement.{statement}
 use Rattle.replay.proofs.floats.digest.Tie as tie
-use Rattle.recorded_answers.proofs.digest.with.Reads as with-reads
+use Rattle.recorded_digests.proofs.with.Reads as with-reads
 use Rattle.replay.proofs.floats.pattern.Reads as pattern-reads
 
 abbrev Inv-loop : tie.InvT-loop
