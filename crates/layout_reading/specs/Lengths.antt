@@ -14,7 +14,8 @@ use Rattle.layout.specs.Walk.{walk}
 use Rattle.layout_reading.specs.declared.column.Step.{Step}
 use Rattle.layout_reading.specs.declared.column.Step.the-variants.{Going as GoesOn, Stopped as Stops}
 use Rattle.layout_reading.specs.Reading.{Job, Going, visit, zeros, zeroSigma, reading, stateOf, stepped}
-use Rattle.layout_reading.specs.Outcome.{handed, outcomeOf, countsFit, fits, readOf}
+use Rattle.layout_reading.specs.Outcome.{handed, outcomeOf, fits, readOf}
+use Rattle.layout_counts.specs.Counts.{countsFit}
 
 -- lengths that fit
 pub record Counts (types muls sharpness kinds hfMul sigma n : ℕ) : Type 0 where

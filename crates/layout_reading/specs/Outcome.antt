@@ -2,11 +2,12 @@
 use mathlib.Core.Bool.{Bool, cond, _&&_}
 use mathlib.Core.List.{List}
 use Prim.Native.Nat.{ℕ, _*_}
-use lib.Dec.{leb, eqb}
+use lib.Dec.{leb}
 use lib.ListN.{length}
 use lib.Ieee.{Float}
 use Rattle.refusal.specs.declared.Said.{Said}
 use Rattle.refusal.specs.Said as refusals
+use Rattle.layout_counts.specs.Counts.{countsFit}
 use Rattle.layout_reading.specs.declared.column.Step.{Step}
 use Rattle.layout_reading.specs.declared.column.Step.the-variants.{Going as GoesOn, Stopped as Stops}
 use Rattle.layout_reading.specs.Reading.{Job, Reading, Going, Stopped, zeros, zeroSigma, reading}
@@ -34,10 +35,6 @@ handed (Stops r) kinds hfMul sigma = outcome (refused (refusals.said r)) kinds h
 abbrev pub outcomeOf : (J : Job) → Reading → Outcome
 outcomeOf J (Going p) = outcome (accepted (p .used)) (p .kinds) (p .muls) (p .sigma)
 outcomeOf J (Stopped r) = outcome (refused r) (zeros J) (zeros J) (zeroSigma J)
-
--- 1: a mul for each type; a sharpness number, a kind, an hf_mul and a sigma for each of n blocks
-abbrev pub countsFit : ℕ → ℕ → ℕ → ℕ → ℕ → ℕ → ℕ → Bool
-countsFit types muls sharpness kinds hfMul sigma n = eqb muls types && eqb sharpness n && eqb kinds n && eqb hfMul n && eqb sigma n
 
 module _ (J : Job) (kinds hfMul : List ℕ) (sigma : List Float) where
   -- at most 256 blocks each way, and lent lengths that fit

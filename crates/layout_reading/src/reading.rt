@@ -2,40 +2,14 @@
 use crate::column::Step;
 use crate::column::visit;
 use filter_strength::Filter;
+use layout_counts::counts_fit;
 use refusal::Refusal;
 ghost use mathlib.Core.Path.{_≡_};
 ghost use Prim.Native.Nat.{_*_, _≤_};
 ghost use lib.ListN.{length};
 ghost use Rattle.layout.specs.Walk.{walk};
 ghost use Rattle.layout_reading.specs.Reading.{Going, visit as visitOf, reading as readingOf, stateOf, stepped, jobWith};
-ghost use Rattle.layout_reading.specs.Outcome.{handed, outcomeOf, countsFit, readOf};
-
-// As many muls as types, and n of each of the others.
-fn counts_fit(
-    types: usize,
-    muls: usize,
-    sharpness: usize,
-    kinds: usize,
-    hf_mul: usize,
-    sigma: usize,
-    n: usize,
-) -> bool
-    ensures { λ r. ⌜ r ≡ countsFit types muls sharpness kinds «hf_mul» sigma n ⌝ }
-{
-    if muls != types {
-        return false;
-    }
-    if sharpness != n {
-        return false;
-    }
-    if kinds != n {
-        return false;
-    }
-    if hf_mul != n {
-        return false;
-    }
-    sigma == n
-}
+ghost use Rattle.layout_reading.specs.Outcome.{handed, outcomeOf, readOf};
 
 // All blocks, over lengths that fit.
 fn read_blocks(
