@@ -52,19 +52,19 @@ pub extern "C" fn netbuff_block_context<'a, 'b>(
         (recordOf (now («num_block_clusters» .exit)) (now (lengths .exit)) (now («lf_thresholds» .exit)) (now («qf_thresholds» .exit)) (now («block_ctx_map» .exit)))
         ≡ handed (parsed (now (bytes .entry)) «num_clusters» (now (map .entry))) ⌝ }
 {
-    let result = hf_block_context::parse(bytes, num_clusters, map);
-    let answer = result.answer;
+    let parts = hf_block_context::parse_into(
+        bytes,
+        num_clusters,
+        map,
+        lf_thresholds,
+        qf_thresholds,
+        block_ctx_map,
+    );
+    let answer = parts.answer;
     let found = context_numbers(answer);
-    let contexts = result.contexts;
-    *num_block_clusters = contexts.num_block_clusters;
-    let list_lengths = contexts.lengths;
+    *num_block_clusters = parts.num_block_clusters;
+    let list_lengths = parts.lengths;
     *lengths = list_lengths;
-    let lf = contexts.lf_thresholds;
-    *lf_thresholds = lf;
-    let qf = contexts.qf_thresholds;
-    *qf_thresholds = qf;
-    let out = contexts.block_ctx_map;
-    *block_ctx_map = out;
     *bits_read = found.bits_read;
     *x = found.x;
     *y = found.y;
