@@ -1,4 +1,4 @@
-use calls::{CoefficientsCall, Layout};
+use calls::{list_start, CoefficientsCall, Layout, Store, ORDER_COUNT, ORDER_SIZES};
 use compare::cases::symbol_stream;
 use compare::make::{self, OrdersAndStore};
 use compare::rng::Rng;
@@ -32,12 +32,15 @@ pub fn benches() -> Vec<Bench> {
     let bench = |name: &str, group, sparseness| bench(orders, name, group, sparseness);
     let dct8 = || tiled(32, |_| DCT8);
     let halves = tiled(32, |x| if x < 16 { DCT32 } else { DCT64 });
+    let both = |name: &str, group, sparseness| checked(orders, name, group, sparseness);
     vec![
         bench("coefficients, 32 x 32 Dct8, dense", dct8(), 1),
         bench("coefficients, 32 x 32 Dct8, sparse", dct8(), 16),
         bench("coefficients, 32 x 32, Dct32 and Dct64", halves, 4),
         bench("coefficients, one Dct256", tiled(32, |_| DCT256), 4),
         bench("coefficients, 1 x 1 Dct8", tiled(1, |_| DCT8), 4),
+        both("coefficients, 32 x 32 Dct8, sparse", dct8(), 16),
+        both("coefficients, 1 x 1 Dct8", tiled(1, |_| DCT8), 4),
     ]
 }
 
@@ -65,15 +68,52 @@ fn tiled(side: usize, transform: impl Fn(usize) -> u8) -> Layout {
 }
 
 fn bench(orders: &'static OrdersAndStore, name: &str, group: Layout, sparseness: usize) -> Bench {
+    row(orders, name.into(), group, sparseness, || true)
+}
+
+/// The same where the Rust too looks at every stored place first, as document 01 asks of the call.
+fn checked(orders: &'static OrdersAndStore, name: &str, group: Layout, sparseness: usize) -> Bench {
+    let name = format!("{name}, both with stored places");
+    row(orders, name, group, sparseness, || {
+        places_inside(&orders.store)
+    })
+}
+
+/// Whether every stored place is inside its order's size, as fast as the Rust can tell: sides are
+/// powers of two, so all of a list's numbers are below one just if their or is.
+fn places_inside(store: &Store) -> bool {
+    (0..ORDER_COUNT).all(|order| {
+        let lists = &store[list_start(order, 0)..list_start(order + 1, 0)];
+        let mut or = [0; 16];
+        for numbers in lists.chunks_exact(or.len()) {
+            or.iter_mut().zip(numbers).for_each(|(or, n)| *or |= n);
+        }
+        let (wide, high) = ORDER_SIZES[order];
+        or.chunks_exact(2)
+            .all(|place| usize::from(place[0]) < wide && usize::from(place[1]) < high)
+    })
+}
+
+/// A row whose Rust side tests `first` before each call.
+fn row(
+    orders: &'static OrdersAndStore,
+    name: String,
+    group: Layout,
+    sparseness: usize,
+    first: impl Fn() -> bool + 'static,
+) -> Bench {
     let symbols = symbol_stream(&mut Rng::new(4), &group, sparseness);
     let call = orders.coefficients(group, make::default_contexts(), &symbols);
     let call: &'static CoefficientsCall = Box::leak(Box::new(call));
     let run = CoefficientsRun::new(call, &orders.orders);
     let (mut our_buffers, mut rust_buffers) = (call.buffers.clone(), call.buffers.clone());
     Bench {
-        name: name.into(),
+        name,
         units: (symbols.len(), "symbol"),
         ours: plain(move || ours::coefficients_into(call, &mut our_buffers)),
-        rust: Some(plain(move || run.run(&mut rust_buffers))),
+        rust: Some(plain(move || {
+            assert!(first(), "a place outside its order");
+            run.run(&mut rust_buffers)
+        })),
     }
 }
