@@ -1,8 +1,8 @@
 //! Holds docs/CLAIMS.md against the repository (the folder above `compare/`): every line of its
 //! tables has four cells, every must-fail edit that it names exists and every edit that exists is
-//! named, every name in backquotes behind a crate's name is defined in that crate, and every compared
-//! call is one. And what the page says of all public functions: each has a contract, and asks nothing
-//! of its caller. Ends with 1 where one does not.
+//! named, every name in backquotes behind a crate's name is defined in that crate, and every
+//! compared call is one. And what the page says of all public functions: each has a contract, and
+//! asks nothing of its caller. Ends with 1 where one does not.
 
 mod contracts;
 mod definitions;

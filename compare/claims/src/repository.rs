@@ -86,16 +86,15 @@ impl Crate {
             let label = path.file_stem().expect("a name").to_string_lossy();
             found.edits.insert(label.into_owned());
         });
-        each_file(&folder.join("src"), &mut |path| {
-            let text = fs::read_to_string(path).expect("text");
-            let names = definitions::of_code(&text);
-            found.names.extend(names.map(String::from));
-        });
-        each_file(&folder.join("specs"), &mut |path| {
-            let text = fs::read_to_string(path).expect("text");
-            let names = definitions::of_definitions(&text);
-            found.names.extend(names.map(String::from));
-        });
+        let mut look = |part, names_of: fn(&str) -> Vec<&str>| {
+            each_file(&folder.join(part), &mut |path| {
+                let text = fs::read_to_string(path).expect("text");
+                let names = names_of(&text).into_iter();
+                found.names.extend(names.map(String::from));
+            });
+        };
+        look("src", definitions::of_code);
+        look("specs", definitions::of_definitions);
         found
     }
 }

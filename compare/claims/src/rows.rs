@@ -9,7 +9,8 @@ pub struct Row<'a> {
 
 impl<'a> Row<'a> {
     /// The rows of a page's tables, but for their heads; and the numbers of those lines of tables
-    /// that have not four cells. A table begins with a line that has a bar, and ends at an empty one.
+    /// that have not four cells. A table begins with a line that has a bar, and ends at an empty
+    /// one.
     pub fn read_all(page: &'a str) -> (Vec<Self>, Vec<usize>) {
         let (mut rows, mut others) = (Vec::new(), Vec::new());
         let mut in_table = false;
