@@ -68,7 +68,8 @@ mod tests {
     fn code_defines_what_it_declares() {
         let source = "pub fn f<'a>(x: &'a u8) -> u8\n{\n    g(x)\n}\npub(crate) fn h()\n\
                       pub extern \"C\" fn i()\nconst J: u8 = 1;\n\
-                      pub struct K {\n    pub l: u8,\n}\npub enum M {\n    N(u8),\n}\nimpl M {\n    pub const O: u8 = 2;\n}\n";
+                      pub struct K {\n    pub l: u8,\n}\n\
+                      pub enum M {\n    N(u8),\n}\nimpl M {\n    pub const O: u8 = 2;\n}\n";
         assert_eq!(of_code(source), ["f", "h", "i", "J", "K", "M", "O"]);
     }
 
