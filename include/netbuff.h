@@ -4,8 +4,12 @@
  * A call that can be refused answers with the refusal's number, or with 0 when it accepted. On a
  * refusal *x and *y receive its position, on 0 they receive 0, 0; the two reads of bits, which have
  * no x and y, hand out the bits that they took instead. Results are handed out through further
- * pointers and are 0 beside a refusal. Lent memory may have any length: each list is a pointer and the
- * number of its elements. A list of no elements may come with any pointer that is not null.
+ * pointers and are 0 beside a refusal. Lent memory may have any length: each list is a pointer and
+ * the number of its elements. A list of no elements may come with any pointer that is not null.
+ *
+ * What the caller sees to: every pointer is valid and aligned for the call, that of a list for all
+ * its elements. What a call writes, lists and results alike, overlaps nothing else that is lent to
+ * it; what it only reads may overlap. A bool is 0 or 1.
  *
  * Refusals, and the position that goes with each:
  *    1  a lent length does not fit                                   0, 0
@@ -26,7 +30,7 @@
  *   15  symbols end                                                  symbols read, 0
  *   16  count above 63 x blocks                                      symbols read, 0
  *   17  coefficient context 458 or more                              symbols read, 0
- *   18  a lent layout or group is not one                             0, 0
+ *   18  a lent layout or group is not one                            0, 0
  */
 #ifndef NETBUFF_H
 #define NETBUFF_H
@@ -57,8 +61,10 @@ uint32_t netbuff_read_bits(const uint8_t *bytes, size_t bytes_length, size_t byt
 
 /*
  * A U32: a two-bit selector, then that one of the four choices. A choice is an offset and a number
- * of bits; the value is the offset plus the bits read, modulo 2^32. Refused: 3 when the bits end;
- * *taken receives the bits that were read of it: 2 when only the field is missing, else 0.
+ * of bits: choices[2k] is the offset of choice k and choices[2k + 1] its bits, more than 32
+ * counting as 32. The value is the offset plus the bits read, modulo 2^32. Refused: 3 when the bits
+ * end; value and place are then 0. *taken receives the bits that a refused U32 took: 2 when only
+ * the field is missing, else 0.
  */
 uint32_t netbuff_read_u32(const uint8_t *bytes, size_t bytes_length, size_t byte, uint32_t bit,
                           const uint32_t choices[8], uint32_t *value, size_t *next_byte,
@@ -78,16 +84,18 @@ uint32_t netbuff_column_count(const uint8_t *bytes, size_t bytes_length, uint32_
 
 /*
  * The layout of an LF group. A block is 8 x 8 pixels; bw and bh are the sides divided by 8, rounded
- * up; bw is made even if a mode is 1 or 2, bh if one is 1 or 3. Columns are lent as two lists of one
- * length, types and muls; surplus columns are accepted. With the filter on, its multiplier and the
- * eight look-up numbers (all from -65,504 to 65,504) and the scale (1 to 73,728) give a strength;
- * with the filter off the multiplier and the sharpness numbers are not looked at.
+ * up; bw is made even if a mode is 1 or 2, bh if one is 1 or 3. Columns are lent as two lists of
+ * one length, types and muls; surplus columns are accepted. Only the low eight bits of a type
+ * count. The hf_mul of a column is mul + 1 and must be positive: the largest mul wraps, and is
+ * refused with 6. With the filter on, its multiplier and the eight look-up numbers (all from
+ * -65,504 to 65,504) and the scale (1 to 73,728) give a strength; with the filter off the
+ * multiplier and the sharpness numbers are not looked at.
  *
  * Lengths that fit: bw * bh for sharpness, kinds, hf_mul and sigma. Filled, one place per block row
  * by row: kinds (1 occupied, 2 + type at a varblock's corner), hf_mul (0 off corners), sigma (+0.0
  * with the filter off). *used receives the number of columns used.
  *
- * Refused: 2, 11, 1 (nothing is written), then 4 to 10 (the three lists are all zero).
+ * Refused: 2, 11, 1 (the three lists stay as they were), then 4 to 10 (they are all zero).
  */
 uint32_t netbuff_layout(uint32_t width, uint32_t height, uint32_t mode0, uint32_t mode1,
                         uint32_t mode2, const int32_t *types, size_t types_length,
@@ -103,7 +111,8 @@ uint32_t netbuff_layout(uint32_t width, uint32_t height, uint32_t mode0, uint32_
  * receive the group's sides in blocks.
  *
  * Lengths that fit: bw * bh for kinds and hf_mul, wide * high for out_kinds and out_hf_mul.
- * Refused: 2 (sides, or an index outside the layout), 1, 18; nothing is written.
+ * Refused: 2 (sides, or an index outside the layout), 1, 18; out_kinds and out_hf_mul stay as they
+ * were.
  */
 uint32_t netbuff_cut(size_t bw, size_t bh, const uint8_t *kinds, size_t kinds_length,
                      const int32_t *hf_mul, size_t hf_mul_length, size_t index, uint8_t *out_kinds,
@@ -122,8 +131,8 @@ uint32_t netbuff_alike(size_t bw, size_t bh, const uint8_t *kinds, size_t kinds_
 
 /*
  * The block contexts of a frame. Where the first bit is 1, num_clusters and map are not looked at;
- * else map must have 39 bytes for each of bsize (the product of the four list lengths, each plus 1),
- * all below num_clusters, 1 to 16. The record is handed out whole, places that are not used 0:
+ * else map must have 39 bytes for each of bsize (the product of the four list lengths, each plus
+ * 1), all below num_clusters, 1 to 16. The record is handed out whole, places that are not used 0:
  * lengths of the LF lists of channels 0, 1, 2 and of the qf list; the LF thresholds of channel c
  * from 15 * c on. *bits_read receives the bits read.
  *
@@ -143,8 +152,8 @@ uint32_t netbuff_block_context(const uint8_t *bytes, size_t bytes_length, uint32
  * symbols (a length, then that many digits, for each channel). Orders that are not used are the
  * natural order. Surplus symbols are accepted. *symbols_read receives the symbols read.
  *
- * Length that fits: NETBUFF_STORE_LENGTH. Refused: 1, 3 (nothing is written), 13, 15 (the whole
- * store is zero).
+ * Length that fits: NETBUFF_STORE_LENGTH. Refused: 1, 3 (the store stays as it was), 13, 15 (the
+ * whole store is zero).
  */
 uint32_t netbuff_orders(const uint8_t *bytes, size_t bytes_length, const uint32_t *symbols,
                         size_t symbols_length, uint16_t *store, size_t store_length,
@@ -152,8 +161,8 @@ uint32_t netbuff_orders(const uint8_t *bytes, size_t bytes_length, const uint32_
 
 /*
  * Where the list of an order (0 to 12) and channel (0 to 2) stands in a store: its first number and
- * how many there are, two for each place. An order above 12, a channel above 2 or a store of another
- * length gets the empty stretch. Never refused.
+ * how many there are, two for each place. An order above 12, a channel above 2 or a store of
+ * another length gets the empty stretch. Never refused.
  */
 void netbuff_order(const uint16_t *store, size_t store_length, size_t order, size_t channel,
                    size_t *first, size_t *count);
@@ -162,17 +171,18 @@ void netbuff_order(const uint16_t *store, size_t store_length, size_t order, siz
 bool netbuff_places_fit(const uint16_t *store, size_t store_length);
 
 /*
- * The coefficients of a pass group of wide x high blocks (1 to 32 each way): reads the preset number
- * from the bytes, then counts and coefficients from the symbols, and adds each coefficient, shifted
- * (0 to 3), to the grid of its channel. kinds and hf_mul are those of a cut; the record is one of
+ * The coefficients of a pass group of wide x high blocks (1 to 32 each way): reads the preset
+ * number from the bytes, as many bits as the exponent of the least power of two not below presets,
+ * then counts and coefficients from the symbols, and adds each coefficient, shifted (0 to 3), to
+ * the grid of its channel. kinds and hf_mul are those of a cut; the record is one of
  * netbuff_block_context, the store one of netbuff_orders. Where lf_there is false the LF grids are
  * not looked at. *symbols_read receives the symbols read; the log receives the cluster of each.
  *
  * Lengths that fit: wide * high for kinds, hf_mul and each LF grid, NETBUFF_STORE_LENGTH for the
- * store, 495 * num_block_clusters * presets (0 to 256) for the cluster map, 64 * wide * high for each
- * grid, at least 192 * wide * high for the log. Refused: 2, 11, 12, 1, 18, 13 (a stored place), 3, 14:
- * nothing is written; 15, 16, 17: what was added and logged before stays, the refused count of 16
- * logged too. Log bytes behind the symbols read keep their contents.
+ * store, 495 * num_block_clusters * presets (0 to 256) for the cluster map, 64 * wide * high for
+ * each grid, at least 192 * wide * high for the log. Refused: 2, 11, 12, 1, 18, 13 (a stored
+ * place), 3, 14: grids and log stay as they were; 15, 16, 17: what was added and logged before
+ * stays, the refused count of 16 logged too. Log bytes behind the symbols read keep their contents.
  */
 uint32_t netbuff_coefficients(size_t wide, size_t high, const uint8_t *kinds, size_t kinds_length,
                               const int32_t *hf_mul, size_t hf_mul_length,

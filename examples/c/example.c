@@ -11,10 +11,13 @@
 
 enum { SIDE = 16, BLOCKS = 4, CLUSTERS = 15 };
 
-/* What is read of a scan, call by call. */
+/* What is read of a scan, call by call: its layout, the group that is cut from it, and so on. */
 struct scan {
     uint8_t kinds[BLOCKS];
     int32_t hf_mul[BLOCKS];
+    size_t wide, high;
+    uint8_t group_kinds[BLOCKS];
+    int32_t group_hf_mul[BLOCKS];
     uint32_t clusters, lengths[4], qf[15];
     int32_t lf[45];
     uint8_t map[2496];
@@ -83,16 +86,15 @@ static void read_layout(struct scan *scan)
 
 static void cut_group(struct scan *scan)
 {
-    uint8_t kinds[BLOCKS];
-    int32_t hf_mul[BLOCKS];
-    size_t wide, high, x, y;
+    size_t x, y;
     bool alike;
-    uint32_t refused = netbuff_cut(2, 2, scan->kinds, BLOCKS, scan->hf_mul, BLOCKS, 0, kinds, BLOCKS,
-                                   hf_mul, BLOCKS, &wide, &high, &x, &y);
-    printf("group 0: %zu x %zu blocks\n", wide, high);
-    expect(refused == 0 && wide == 2 && high == 2, "cut");
-    refused = netbuff_alike(2, 2, scan->kinds, BLOCKS, scan->hf_mul, BLOCKS, wide, high, kinds, BLOCKS,
-                            hf_mul, BLOCKS, &alike, &x, &y);
+    uint32_t refused =
+        netbuff_cut(2, 2, scan->kinds, BLOCKS, scan->hf_mul, BLOCKS, 0, scan->group_kinds, BLOCKS,
+                    scan->group_hf_mul, BLOCKS, &scan->wide, &scan->high, &x, &y);
+    printf("group 0: %zu x %zu blocks\n", scan->wide, scan->high);
+    expect(refused == 0 && scan->wide == 2 && scan->high == 2, "cut");
+    refused = netbuff_alike(2, 2, scan->kinds, BLOCKS, scan->hf_mul, BLOCKS, scan->wide, scan->high,
+                            scan->group_kinds, BLOCKS, scan->group_hf_mul, BLOCKS, &alike, &x, &y);
     expect(refused == 0 && alike, "the group is the whole layout");
 }
 
@@ -130,10 +132,11 @@ static void read_coefficients(const struct scan *scan)
     const int32_t no_lf[1] = {0};
     size_t read, x, y;
     uint32_t refused = netbuff_coefficients(
-        2, 2, scan->kinds, BLOCKS, scan->hf_mul, BLOCKS, scan->clusters, scan->lengths, scan->lf,
-        scan->qf, scan->map, false, no_lf, 0, no_lf, 0, no_lf, 0, scan->store, NETBUFF_STORE_LENGTH,
-        1, cluster_map, sizeof cluster_map, 0, cluster_map, 0, symbols, 10, log, sizeof log, grids[0],
-        64 * BLOCKS, grids[1], 64 * BLOCKS, grids[2], 64 * BLOCKS, &read, &x, &y);
+        scan->wide, scan->high, scan->group_kinds, BLOCKS, scan->group_hf_mul, BLOCKS,
+        scan->clusters, scan->lengths, scan->lf, scan->qf, scan->map, false, no_lf, 0, no_lf, 0, no_lf,
+        0, scan->store, NETBUFF_STORE_LENGTH, 1, cluster_map, sizeof cluster_map, 0, cluster_map, 0,
+        symbols, 10, log, sizeof log, grids[0], 64 * BLOCKS, grids[1], 64 * BLOCKS, grids[2],
+        64 * BLOCKS, &read, &x, &y);
     printf("coefficients: %zu symbols read, channel 1 at (1,0) holds %" PRId32 "\n", read, grids[1][1]);
     expect(refused == 0 && read == 10 && grids[1][1] == -2, "coefficients");
 }

@@ -8,9 +8,12 @@ pub struct CoefficientInput<'a> {
     /// LF grids of channels 0, 1, 2, if there are any.
     pub lf: Option<[&'a [i32]; 3]>,
     pub store: &'a [u16],
+    /// 0 to 256.
     pub presets: u32,
     pub cluster_map: &'a [u8],
     pub shift: u32,
+    /// Their first bits are the preset number: as many as the exponent of the least power of two
+    /// not below presets.
     pub bytes: &'a [u8],
     pub symbols: &'a [u32],
 }

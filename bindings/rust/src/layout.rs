@@ -43,7 +43,10 @@ pub fn column_count(bytes: &[u8], group: LfGroup) -> Result<ColumnCount> {
 #[derive(Debug, Copy, Clone)]
 pub struct LayoutInput<'a> {
     pub group: LfGroup,
+    /// Of each column; only the low eight bits count.
     pub types: &'a [i32],
+    /// Of each column; its hf_mul is mul + 1 and must be positive. The largest mul wraps, and is
+    /// refused with 6.
     pub muls: &'a [i32],
     pub sharpness: &'a [i32],
     pub filter: Filter,
@@ -66,7 +69,8 @@ pub struct LayoutOutput<'a> {
     pub sigma: &'a mut [f32],
 }
 
-/// Reads a layout; the answer is the number of columns used.
+/// Reads a layout; the answer is the number of columns used. Refused with 2, 11 or 1, the output
+/// stays as it was; refused with 4 to 10, it is all zero.
 pub fn layout(input: LayoutInput, output: LayoutOutput) -> Result<usize> {
     let LayoutInput {
         group,

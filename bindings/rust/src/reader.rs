@@ -18,10 +18,12 @@ pub struct Read {
 #[derive(Debug, Copy, Clone, Default, PartialEq, Eq)]
 pub struct Choice {
     pub offset: u32,
+    /// More than 32 count as 32.
     pub bits: u32,
 }
 
-/// One read of n bits, 0 to 32. Refused with 3; its x is the number of bits that the read took.
+/// One read of n bits, 0 to 32; a larger n reads 32. Refused with 3; its x is the number of bits
+/// that the read took, 0.
 pub fn read_bits(bytes: &[u8], at: Place, n: u32) -> Result<Read> {
     let (first, length) = (bytes.as_ptr(), bytes.len());
     read(|out, taken| {

@@ -1,10 +1,11 @@
-//! Holds docs/CLAIMS.md against the repository (the folder above `compare/`): every must-fail edit
-//! that it names exists and every edit that exists is named, every name in backquotes behind a
-//! crate's name stands in that crate, and every compared call is one. And what the page says of all
-//! public functions: each has a contract, and asks nothing of its caller. Ends with 1 where one does
-//! not.
+//! Holds docs/CLAIMS.md against the repository (the folder above `compare/`): every line of its
+//! tables has four cells, every must-fail edit that it names exists and every edit that exists is
+//! named, every name in backquotes behind a crate's name is defined in that crate, and every
+//! compared call is one. And what the page says of all public functions: each has a contract, and
+//! asks nothing of its caller. Ends with 1 where one does not.
 
 mod contracts;
+mod definitions;
 mod repository;
 mod rows;
 
@@ -17,8 +18,10 @@ fn main() -> std::process::ExitCode {
     let root = Path::new(env!("CARGO_MANIFEST_DIR")).join("../..");
     let page = std::fs::read_to_string(root.join("docs/CLAIMS.md")).expect("docs/CLAIMS.md");
     let repository = Repository::read(&root);
-    let rows: Vec<Row> = page.lines().filter_map(Row::read).collect();
-    let problems = problems(&repository, &rows);
+    let (rows, others) = Row::read_all(&page);
+    let mut problems = problems(&repository, &rows);
+    let others = others.into_iter();
+    problems.extend(others.map(|line| format!("line {line} has not four cells")));
     for problem in &problems {
         println!("docs/CLAIMS.md: {problem}");
     }
@@ -42,8 +45,8 @@ fn problems(repository: &Repository, rows: &[Row]) -> Vec<String> {
             }
         }
         for (name, word) in names(row.promise, |word| repository.has_crate(word)) {
-            if !repository.has_word(name, word) {
-                problems.push(format!("{word} does not stand in {name}"));
+            if !repository.defines(name, word) {
+                problems.push(format!("{word} is not defined in {name}"));
             }
         }
         for (_, call) in names(row.test, |word| word == "compare") {

@@ -2,7 +2,7 @@ use std::collections::{BTreeMap, BTreeSet};
 use std::fs;
 use std::path::Path;
 
-use crate::contracts;
+use crate::{contracts, definitions};
 
 /// The crates of the repository, with what the page may name of them.
 pub struct Repository {
@@ -14,7 +14,7 @@ pub struct Repository {
 #[derive(Default)]
 struct Crate {
     edits: BTreeSet<String>,
-    words: BTreeSet<String>,
+    names: BTreeSet<String>,
 }
 
 impl Repository {
@@ -61,9 +61,10 @@ impl Repository {
         found.is_some_and(|found| found.edits.contains(label))
     }
 
-    pub fn has_word(&self, name: &str, word: &str) -> bool {
+    /// Whether a name is one that the crate defines.
+    pub fn defines(&self, name: &str, word: &str) -> bool {
         let found = self.crates.get(name);
-        found.is_some_and(|found| found.words.contains(word))
+        found.is_some_and(|found| found.names.contains(word))
     }
 
     pub fn compares(&self, call: &str) -> bool {
@@ -85,14 +86,15 @@ impl Crate {
             let label = path.file_stem().expect("a name").to_string_lossy();
             found.edits.insert(label.into_owned());
         });
-        for part in ["src", "specs"] {
+        let mut look = |part, names_of: fn(&str) -> Vec<&str>| {
             each_file(&folder.join(part), &mut |path| {
                 let text = fs::read_to_string(path).expect("text");
-                let part_of_name = |c: char| c.is_alphanumeric() || c == '_' || c == '-';
-                let words = text.split(|c| !part_of_name(c));
-                found.words.extend(words.map(String::from));
+                let names = names_of(&text).into_iter();
+                found.names.extend(names.map(String::from));
             });
-        }
+        };
+        look("src", definitions::of_code);
+        look("specs", definitions::of_definitions);
         found
     }
 }

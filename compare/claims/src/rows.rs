@@ -1,3 +1,5 @@
+use crate::definitions::part_of_name;
+
 /// A row of the page: what is promised, the edits that are refused, and the test.
 pub struct Row<'a> {
     pub promise: &'a str,
@@ -6,12 +8,25 @@ pub struct Row<'a> {
 }
 
 impl<'a> Row<'a> {
-    /// A line of a table, but for its heads.
-    pub fn read(line: &'a str) -> Option<Self> {
-        let cells: Vec<_> = line.strip_prefix('|')?.split('|').map(str::trim).collect();
-        let &[sentence, promise, edits, test, ""] = cells.as_slice() else {
-            return None;
-        };
+    /// The rows of a page's tables, but for their heads; and the numbers of those lines of tables
+    /// that have not four cells. A table begins with a line that has a bar, and ends at an empty
+    /// one.
+    pub fn read_all(page: &'a str) -> (Vec<Self>, Vec<usize>) {
+        let (mut rows, mut others) = (Vec::new(), Vec::new());
+        let mut in_table = false;
+        for (line, number) in page.lines().zip(1..) {
+            in_table = !line.trim().is_empty() && (in_table || line.contains('|'));
+            match cells(line) {
+                Some(cells) => rows.extend(Self::of(cells)),
+                None if in_table => others.push(number),
+                None => (),
+            }
+        }
+        (rows, others)
+    }
+
+    /// None for a head.
+    fn of([sentence, promise, edits, test]: [&'a str; 4]) -> Option<Self> {
         let head = sentence.starts_with("--") || promise == "Promise" || promise == "Stopped by";
         (!head).then_some(Self {
             promise,
@@ -19,6 +34,13 @@ impl<'a> Row<'a> {
             test,
         })
     }
+}
+
+/// The four cells of a line, which begins and ends with a bar.
+fn cells(line: &str) -> Option<[&str; 4]> {
+    let inside = line.trim_end().strip_prefix('|')?.strip_suffix('|')?;
+    let cells: Vec<_> = inside.split('|').map(str::trim).collect();
+    cells.try_into().ok()
 }
 
 /// Edits with their crate, as `a, b (crate), c (other)`.
@@ -49,8 +71,7 @@ pub fn names(cell: &str, opens: impl Fn(&str) -> bool) -> Vec<(&str, &str)> {
 }
 
 fn is_name(word: &str) -> bool {
-    word.chars()
-        .all(|c| c.is_alphanumeric() || c == '_' || c == '-')
+    word.chars().all(part_of_name)
 }
 
 #[cfg(test)]
@@ -59,10 +80,24 @@ mod tests {
 
     #[test]
     fn rows_are_read_and_heads_are_not() {
-        let row = Row::read("| a | b `c` | d (e) | f |").expect("a row");
-        assert_eq!((row.promise, row.edits, row.test), ("b `c`", "d (e)", "f"));
-        assert!(Row::read("| Sentence | Promise | Edits | Test |").is_none());
-        assert!(Row::read("|--|--|--|--|").is_none() && Row::read("text").is_none());
+        let page = "text\n\n| Sentence | Promise | Edits | Test |\n|--|--|--|--|\n\
+                    | a | b `c` | d (e) | f |\n\ntext\n";
+        let (rows, others) = Row::read_all(page);
+        let row = |row: &Row<'static>| (row.promise, row.edits, row.test);
+        let found: Vec<_> = rows.iter().map(row).collect();
+        assert_eq!(found, [("b `c`", "d (e)", "f")]);
+        assert!(others.is_empty());
+    }
+
+    #[test]
+    fn a_line_of_a_table_has_four_cells() {
+        let others = |page| Row::read_all(page).1;
+        let torn = "| a | b | c | d |\n| a | b | c |\n| a | b | c | d | e |\n";
+        assert_eq!(others(torn), [2, 3]);
+        assert_eq!(others("text\n\n| a | b | c | d"), [3]);
+        assert_eq!(others("a | b | c | d |"), [1]);
+        assert_eq!(others("| a | b | c | d |\ntext"), [2]);
+        assert!(others("| a | b |  | |\n\ntext").is_empty());
     }
 
     #[test]

@@ -50,7 +50,7 @@ fn time_is_shared_out() {
     assert!(start.elapsed() >= total);
     for report in calls.iter().map(|call| call.report()) {
         let share = report.seconds / total.as_secs_f64();
-        assert!((0.2..0.6).contains(&share), "{}: {share}", report.name);
+        assert!((0.1..0.7).contains(&share), "{}: {share}", report.name);
     }
     assert!(rounds::difference(&calls).is_none());
 }
@@ -58,7 +58,7 @@ fn time_is_shared_out() {
 #[test]
 fn the_first_difference_ends_all() {
     let mut calls = [agreeing(&CutCase), differing(), agreeing(&OrdersCase)];
-    let total = Duration::from_secs(100);
+    let total = Duration::from_secs(20);
     let start = Instant::now();
     rounds::run(&mut calls, total, &mut |_| ());
     assert!(start.elapsed() < total);

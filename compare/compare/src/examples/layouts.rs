@@ -111,6 +111,8 @@ fn transforms(calls: &Calls) -> [Said; 3] {
     ]
 }
 
+/// M8: 0.5 × 65,536 / 32,768 is 1, and 1 / 16,777,216 the power of two 2^-24, which is shown as
+/// 5.9604645e-8; by 16,777,217 or 16,777,218 it would be a number below.
 fn strengths(calls: &Calls) -> [Said; 2] {
     let sigma = |hf_mul: i32, look_up| {
         let mut call = make::layout(8, 8, &[(0, hf_mul - 1)]);
@@ -119,10 +121,10 @@ fn strengths(calls: &Calls) -> [Said; 2] {
         call.lookup = [look_up; 8];
         format!("{:?}", (calls.layout)(&call).buffers.sigma)
     };
-    let exact = sigma(16_777_216, 1.0);
+    let large = sigma(16_777_217, 1.0);
     [
         row("M7: 0.5, 32,768, hf_mul 4, 2.0", sigma(4, 2.0), "[0.5]"),
-        row("M8: hf_mul 16,777,217", sigma(16_777_217, 1.0), exact),
+        row("M8: hf_mul 16,777,217", large, "[5.9604645e-8]"),
     ]
 }
 

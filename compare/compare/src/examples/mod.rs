@@ -50,10 +50,10 @@ const NETBUFF: Calls = Calls {
 
 /// What the Rust and Netbuff say of an example, and what the paper says.
 pub struct Row {
-    example: String,
+    example: &'static str,
     rust: String,
     netbuff: String,
-    paper: String,
+    paper: &'static str,
 }
 
 impl Row {
@@ -84,11 +84,11 @@ pub fn rows() -> Vec<Row> {
     .collect()
 }
 
-/// An example as one of them answers it.
+/// An example as one of them answers it. The paper's words are written down, not computed.
 struct Said {
-    example: String,
+    example: &'static str,
     answer: String,
-    paper: String,
+    paper: &'static str,
 }
 
 fn said(calls: &Calls) -> Vec<Said> {
@@ -101,11 +101,11 @@ fn said(calls: &Calls) -> Vec<Said> {
     parts.into_iter().flatten().collect()
 }
 
-fn row(example: impl Into<String>, answer: String, paper: impl Into<String>) -> Said {
+fn row(example: &'static str, answer: String, paper: &'static str) -> Said {
     Said {
-        example: example.into(),
+        example,
         answer,
-        paper: paper.into(),
+        paper,
     }
 }
 
