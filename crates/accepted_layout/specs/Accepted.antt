@@ -15,7 +15,7 @@ use Rattle.layout.specs.Walk.{forward}
 use Rattle.layout.specs.Grid.{at, place-lt}
 use Rattle.layout.specs.Valid.{Cells, Covers, Fits, Owned, Layout}
 use Rattle.layout.specs.Order.{Here, Before, later, last}
-use Rattle.layout_column.specs.Columns.{lowBits, hfMulOf}
+use Rattle.layout_column.specs.Columns.{lowEight, hfMulOf}
 use Rattle.layout_reading.specs.Reading.{Job, Placed, Reading, Going, Stopped, column, visit, start, reading}
 use Rattle.accepted_layout.specs.Took.{InRect}
 use Rattle.accepted_layout.specs.Puts.{Puts, Column, Spot, corner, body, beyond, spot, column-put}
@@ -254,7 +254,7 @@ module _ (J : Job) where
   -- what holds before anything is placed, and is kept by each column placed, holds of what was read
   module _ (Q : Placed → Type 0) (begin : Q (start J))
       (keep : (x y : ℕ) (p p′ : Placed) → x < J .bw → y < J .bh → p .used < length (J .types) → Sofar x y p
-      → Column J x y p p′ (lowBits (getD (J .types) (p .used) 0)) (hfMulOf (getD (J .muls) (p .used) 0)) → Q p → Q p′) where
+      → Column J x y p p′ (lowEight (getD (J .types) (p .used) 0)) (hfMulOf (getD (J .muls) (p .used) 0)) → Q p → Q p′) where
     Along : ℕ → ℕ → Reading → Type 0
     Along x y (Going p) = Sofar x y p × Q p
     Along x y (Stopped r) = Unit

@@ -18,7 +18,7 @@ use Rattle.layout.specs.Grid.{at, place-lt}
 use Rattle.layout.specs.Valid.{Cells}
 use Rattle.layout.specs.Order.{Here, From, Before, from-start}
 use Rattle.layout.specs.Varblocks.{Varblock, addVarblock, cornersRow, cornersFrom, varblocksOf}
-use Rattle.layout_column.specs.Columns.{lowBits, hfMulOf}
+use Rattle.layout_column.specs.Columns.{lowEight, hfMulOf}
 use Rattle.layout_reading.specs.Reading.{Job, Placed, Reading, Going, Stopped, judge, column, visit, start, reading}
 use Rattle.hf_metadata.specs.Call.{accepted, Outcome, outcomeOf, Inputs, inputs, jobOf, lengthsFit, layoutOf}
 use Rattle.accepted_layout.specs.Puts.{Column, Spot, corner, body, beyond, spot, column-put}
@@ -125,7 +125,7 @@ module _ (J : Job) (pairs : length (J .muls) ≡ length (J .types)) where
   -- the varblocks are those of the columns used so far
   record InTurn (p : Placed) : Type 0 where
     enough : p .used ≤ length (J .types)
-    typesAre : map (λ (v : Varblock). v .type) (varblocks p) ≡ map lowBits (take (p .used) (J .types))
+    typesAre : map (λ (v : Varblock). v .type) (varblocks p) ≡ map lowEight (take (p .used) (J .types))
     mulsAre : map (λ (v : Varblock). v .mul) (varblocks p) ≡ map hfMulOf (take (p .used) (J .muls))
 
   begin : InTurn (start J)
@@ -139,7 +139,7 @@ module _ (J : Job) (pairs : length (J .muls) ≡ length (J .types)) where
 
   module _ (x y : ℕ) (p q : Placed) (hx : x < J .bw) (hy : y < J .bh) (more : p .used < length (J .types)) (o : Sofar J x y p) where
     abbrev type : ℕ
-    type = lowBits (getD (J .types) (p .used) 0)
+    type = lowEight (getD (J .types) (p .used) 0)
 
     abbrev mul : ℕ
     mul = hfMulOf (getD (J .muls) (p .used) 0)
@@ -187,7 +187,7 @@ module _ (J : Job) (pairs : length (J .muls) ≡ length (J .types)) where
         typesAre =
             ap (map (λ (v : Varblock). v .type)) grown ∙ map-last (λ (v : Varblock). v .type) (varblocks p) _
             ∙ ap (λ (n : ℕ). map (λ (v : Varblock). v .type) (varblocks p) ++ (n ∷ [])) typeIs ∙ ap (λ (l : List ℕ). l ++ (type ∷ [])) (r .typesAre)
-            ∙ sym (ap (λ (n : ℕ). map lowBits (take n (J .types))) next ∙ ap (map lowBits) (take-suc (J .types) (p .used) 0 more) ∙ map-last lowBits (take (p .used) (J .types)) (getD (J .types) (p .used) 0));
+            ∙ sym (ap (λ (n : ℕ). map lowEight (take n (J .types))) next ∙ ap (map lowEight) (take-suc (J .types) (p .used) 0 more) ∙ map-last lowEight (take (p .used) (J .types)) (getD (J .types) (p .used) 0));
         mulsAre =
             ap (map (λ (v : Varblock). v .mul)) grown ∙ map-last (λ (v : Varblock). v .mul) (varblocks p) _
             ∙ ap (λ (n : ℕ). map (λ (v : Varblock). v .mul) (varblocks p) ++ (n ∷ [])) (c .puts .mulCorner) ∙ ap (λ (l : List ℕ). l ++ (mul ∷ [])) (r .mulsAre)
@@ -283,8 +283,8 @@ module _ (i : Inputs) (kinds hfMul : List ℕ) (sigma : List Float) where
     accepted-enough = let z = in-turn .enough in let u = read .used in omega arith
 
     -- the types of the varblocks are the first n columns' low eight bits, in turn
-    pub accepted-types : map (λ (v : Varblock). v .type) varblocksLeft ≡ map lowBits (take n (i .types))
-    accepted-types = ap (map (λ (v : Varblock). v .type)) left-are ∙ in-turn .typesAre ∙ ap (λ (k : ℕ). map lowBits (take k (i .types))) (read .used)
+    pub accepted-types : map (λ (v : Varblock). v .type) varblocksLeft ≡ map lowEight (take n (i .types))
+    accepted-types = ap (map (λ (v : Varblock). v .type)) left-are ∙ in-turn .typesAre ∙ ap (λ (k : ℕ). map lowEight (take k (i .types))) (read .used)
 
     -- their hf_mul are the first n columns' mul + 1, in turn
     pub accepted-muls : map (λ (v : Varblock). v .mul) varblocksLeft ≡ map hfMulOf (take n (i .muls))
@@ -294,7 +294,7 @@ module _ (i : Inputs) (kinds hfMul : List ℕ) (sigma : List Float) where
     pub accepted-count : length varblocksLeft ≡ n
     accepted-count =
         let h = accepted-enough in
-        sym (length-map varblocksLeft (λ (v : Varblock). v .type)) ∙ ap length accepted-types ∙ length-map (take n (i .types)) lowBits ∙ length-take-le n (i .types) h
+        sym (length-map varblocksLeft (λ (v : Varblock). v .type)) ∙ ap length accepted-types ∙ length-map (take n (i .types)) lowEight ∙ length-take-le n (i .types) h
 
     -- columns behind the first n do not matter: any others, or none, give the same
     pub accepted-surplus : (types muls : List ℕ) → length muls ≡ length types → take n types ≡ take n (i .types) → take n muls ≡ take n (i .muls)

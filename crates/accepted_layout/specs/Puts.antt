@@ -17,7 +17,7 @@ use Rattle.layout.specs.Stretch.{Place, left, inside, right, place}
 use Rattle.layout.specs.Grid.{at, set-same, set-other}
 use Rattle.layout.specs.Order.{Here}
 use Rattle.filter_strength.specs.Strength.{dividedFilter}
-use Rattle.layout_column.specs.Columns.{lowBits, hfMulOf, positive}
+use Rattle.layout_column.specs.Columns.{lowEight, hfMulOf, positive}
 use Rattle.layout_reading.specs.Scan.{Scan, Taking, Left, scan}
 use Rattle.layout_reading.specs.Reading.{Job, Placed, Reading, Going, refuseIf, placed, placeIn, judge, column}
 use Rattle.layout_reading.specs.Reading as reading
@@ -144,7 +144,7 @@ module _ (J : Job) (x y : ℕ) (p q : Placed) (lk : length (p .kinds) ≡ J .bh 
 
   -- the type and hf_mul are those of the next column
   abbrev pub nextType : ℕ
-  nextType = lowBits (getD (J .types) (p .used) 0)
+  nextType = lowEight (getD (J .types) (p .used) 0)
 
   abbrev pub nextMul : ℕ
   nextMul = hfMulOf (getD (J .muls) (p .used) 0)

@@ -17,7 +17,7 @@ use Rattle.layout.specs.Grid.{at}
 use Rattle.lf_group.specs.Blocks.{sizeFits}
 use Rattle.filter_strength.specs.declared.Filter.{Filter}
 use Rattle.filter_strength.specs.Strength.{zero32, dividedFilter}
-use Rattle.layout_column.specs.Columns.{lowBits, hfMulOf, positive}
+use Rattle.layout_column.specs.Columns.{lowEight, hfMulOf, positive}
 use Rattle.layout_reading.specs.Scan.{Scan, Taking, Left, isOn, takeCell, scan}
 use Rattle.layout_reading.specs.Reading.{Job, Placed, Reading, Going, Stopped, refuseIf, placed, place, placeIn, judge, column, visit, start, reading}
 use Rattle.hf_metadata.specs.Call.{accepted, refused, Outcome, outcomeOf, Inputs, jobOf, parametersFit, lengthsFit, refuseWith, layoutOf}
@@ -90,7 +90,7 @@ module _ (J : Job) where
     column-well : Well (column J x y p)
     unfolding column judge
     column-well =
-        let t = lowBits (getD (J .types) (p .used) 0) in
+        let t = lowEight (getD (J .types) (p .used) 0) in
         let h = hfMulOf (getD (J .muls) (p .used) 0) in
         if-well (leb (length (J .types)) (p .used)) 4 _ (omega arith) (omega arith)
         (if-well (leb COUNT t) 5 _ (omega arith) (omega arith)

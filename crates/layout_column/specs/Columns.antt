@@ -10,8 +10,8 @@ use Rattle.layout_column.specs.declared.Judged.{Judged}
 use Rattle.layout_column.specs.declared.Judged.the-variants.{Asks, Refused as NotAsked}
 
 -- the type's low eight bits
-abbrev pub lowBits : ℕ → ℕ
-lowBits type = type % 256
+abbrev pub lowEight : ℕ → ℕ
+lowEight type = type % 256
 
 -- mul + 1; the largest mul wraps
 abbrev pub hfMulOf : ℕ → ℕ

@@ -3,7 +3,7 @@ use dct_select::Looked;
 use dct_select::TransformType;
 use refusal::Refusal;
 ghost use mathlib.Core.Path.{_≡_};
-ghost use Rattle.layout_column.specs.Columns.{lowBits, hfMulOf, saidJudged, judgedOf};
+ghost use Rattle.layout_column.specs.Columns.{lowEight, hfMulOf, saidJudged, judgedOf};
 
 // What a column asks for: the kind of its corner, hf_mul, and the blocks across and down.
 pub struct Varblock {
@@ -21,7 +21,7 @@ pub enum Judged {
 
 // The type's low eight bits, hf_mul = mul + 1, and the borders, in turn.
 pub fn judge(transform: u32, mul: u32, x: usize, y: usize) -> Judged
-    ensures { λ r. ⌜ saidJudged r ≡ judgedOf (lowBits transform) (hfMulOf mul) x y ⌝ }
+    ensures { λ r. ⌜ saidJudged r ≡ judgedOf (lowEight transform) (hfMulOf mul) x y ⌝ }
 {
     let t = transform % 256;
     let looked = TransformType::from_number(t);

@@ -16,7 +16,7 @@ use Rattle.layout_reading.specs.declared.scan.Scanned.{Scanned}
 use Rattle.layout_column.specs.declared.Judged.{Judged}
 use Rattle.layout_reading.specs.declared.column.Step.{Step}
 use Rattle.layout_reading.specs.declared.column.Step.the-variants.{Stopped as Stops}
-use Rattle.layout_column.specs.Columns.{lowBits, hfMulOf, Asking, asks, refuses, saidJudged, varblockOf, judgedOf}
+use Rattle.layout_column.specs.Columns.{lowEight, hfMulOf, Asking, asks, refuses, saidJudged, varblockOf, judgedOf}
 use Rattle.layout_column.specs.Judged.{checks-by}
 use Rattle.layout_reading.specs.Scan.{Scan, Taking, scan, scanned}
 use Rattle.layout_reading.specs.Reading.{Job, Placed, Reading, Going, Stopped, placed, place, placeIn, judge, column, visit, stepped}
@@ -54,12 +54,12 @@ module _ (J : Job) (x y : ℕ) (p : Placed) where
     unfolding column
     visit-ends l = rw (eq-eqb (at (p .kinds) (J .bw) x y) 0 is-free, le-leb (length (J .types)) (p .used) l)
 
-    pub visit-judged : (j : Judged) → p .used < length (J .types) → saidJudged j ≡ judgedOf (lowBits (getD (J .types) (p .used) 0)) (hfMulOf (getD (J .muls) (p .used) 0)) x y
+    pub visit-judged : (j : Judged) → p .used < length (J .types) → saidJudged j ≡ judgedOf (lowEight (getD (J .types) (p .used) 0)) (hfMulOf (getD (J .muls) (p .used) 0)) x y
         → byJudged j ≡ visit J x y (Going p)
     unfolding column
     visit-judged j l e =
         rw (eq-eqb (at (p .kinds) (J .bw) x y) 0 is-free, lt-leb (length (J .types)) (p .used) l)
-        (ap byAsking e ∙ judge-by (lowBits (getD (J .types) (p .used) 0)) (hfMulOf (getD (J .muls) (p .used) 0)))
+        (ap byAsking e ∙ judge-by (lowEight (getD (J .types) (p .used) 0)) (hfMulOf (getD (J .muls) (p .used) 0)))
 
 -- a reading that was stopped stays so
 pub stop-stays : (J : Job) (s : Step) (r : Refusal) (k m : List ℕ) (g : List Float) → s ≡ Stops r → (a b : ℕ) → visit J a b (stepped s k m g) ≡ stepped s k m g

@@ -14,7 +14,7 @@ use Rattle.layout.specs.Walk.{walk}
 use Rattle.layout.specs.Grid.{at}
 use Rattle.filter_strength.specs.declared.Filter.{Filter}
 use Rattle.filter_strength.specs.Strength.{zero32, dividedFilter}
-use Rattle.layout_column.specs.Columns.{lowBits, hfMulOf, checks}
+use Rattle.layout_column.specs.Columns.{lowEight, hfMulOf, checks}
 use Rattle.layout_reading.specs.Scan.{Scan, Taking, Left, scan}
 
 -- what is read: a grid of bw x bh blocks, columns, a sharpness number per block, the filter with its multiplier × 65536 / scale,
@@ -71,7 +71,7 @@ module _ (J : Job) where
   unfoldable pub column : ℕ → ℕ → Placed → Reading
   column x y p =
       refuseIf (leb (length (J .types)) (p .used)) 4 x y
-      (judge (lowBits (getD (J .types) (p .used) 0)) (hfMulOf (getD (J .muls) (p .used) 0)) x y p)
+      (judge (lowEight (getD (J .types) (p .used) 0)) (hfMulOf (getD (J .muls) (p .used) 0)) x y p)
 
   abbrev pub visit : ℕ → ℕ → Reading → Reading
   visit x y (Stopped r) = Stopped r

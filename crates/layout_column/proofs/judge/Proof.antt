@@ -1,5 +1,5 @@
 use Rattle.layout_column.specs.Judged.{known-is, unknown-is, sized, judged-unknown, judged-zero, judged-negative, judged-wide, judged-high, judged-asks}
-use Rattle.layout_column.specs.Columns.{lowBits, hfMulOf}
+use Rattle.layout_column.specs.Columns.{lowEight, hfMulOf}
 use borrow.Author.Needs.{needs}
 use native.Mathlib.Omega.{arith}
 use mathlib.Core.Path.{_∙_, ap, sym}
@@ -20,7 +20,7 @@ returns : tie.Need-returns
 returns c =
     let a = c .before .before .before .args in
     let e = sym (c .before .before .from-number .ensures) ∙ ap answered (c .enum-told .given .1) in
-    judged-unknown (lowBits (a .transform)) (hfMulOf (a .mul)) (a .x) (a .y) (unknown-is (lowBits (a .transform)) _ e)
+    judged-unknown (lowEight (a .transform)) (hfMulOf (a .mul)) (a .x) (a .y) (unknown-is (lowEight (a .transform)) _ e)
 
 wrapping-add-u32-requires : tie.Need-wrapping-add-u32-requires
 wrapping-add-u32-requires c κs = search needs
@@ -30,14 +30,14 @@ returns-2 c =
     let a = c .before .before .before .before .before .before .args in
     let e = sym (c .before .before .before .before .before .from-number .ensures) ∙ ap answered (c .before .before .before .looked .given .1) in
     let w = c .before .wrapping-add-u32 .ensures in
-    judged-zero (lowBits (a .transform)) (hfMulOf (a .mul)) (a .x) (a .y) (known-is (lowBits (a .transform)) _ e .0) (omega arith)
+    judged-zero (lowEight (a .transform)) (hfMulOf (a .mul)) (a .x) (a .y) (known-is (lowEight (a .transform)) _ e .0) (omega arith)
 
 returns-3 : tie.Need-returns-3
 returns-3 c =
     let a = c .before .before .before .before .before .before .before .args in
     let e = sym (c .before .before .before .before .before .before .from-number .ensures) ∙ ap answered (c .before .before .before .before .looked .given .1) in
     let w = c .before .before .wrapping-add-u32 .ensures in
-    judged-negative (lowBits (a .transform)) (hfMulOf (a .mul)) (a .x) (a .y) (known-is (lowBits (a .transform)) _ e .0) (omega arith) (omega arith)
+    judged-negative (lowEight (a .transform)) (hfMulOf (a .mul)) (a .x) (a .y) (known-is (lowEight (a .transform)) _ e .0) (omega arith) (omega arith)
 
 dct-select-size-requires : tie.Need-dct-select-size-requires
 dct-select-size-requires c κs = search needs
@@ -46,31 +46,31 @@ add-if3 : tie.Need-add-if3
 add-if3 c =
     let a = c .before .before .before .before .before .before .before .before .args in
     let e = sym (c .before .before .before .before .before .before .before .from-number .ensures) ∙ ap answered (c .before .before .before .before .before .looked .given .1) in
-    let s = sized (lowBits (a .transform)) _ (c .dct-select-size .result) e (c .dct-select-size .ensures) in
+    let s = sized (lowEight (a .transform)) _ (c .dct-select-size .result) e (c .dct-select-size .ensures) in
     omega arith
 
 returns-4 : tie.Need-returns-4
 returns-4 c =
     let a = c .before .before .before .before .before .before .before .before .before .args in
     let e = sym (c .before .before .before .before .before .before .before .before .from-number .ensures) ∙ ap answered (c .before .before .before .before .before .before .looked .given .1) in
-    let s = sized (lowBits (a .transform)) _ (c .before .dct-select-size .result) e (c .before .dct-select-size .ensures) in
+    let s = sized (lowEight (a .transform)) _ (c .before .dct-select-size .result) e (c .before .dct-select-size .ensures) in
     let w = c .before .before .before .before .wrapping-add-u32 .ensures in
-    judged-wide (lowBits (a .transform)) (hfMulOf (a .mul)) (a .x) (a .y) (s .below) (omega arith) (omega arith) (omega arith)
+    judged-wide (lowEight (a .transform)) (hfMulOf (a .mul)) (a .x) (a .y) (s .below) (omega arith) (omega arith) (omega arith)
 
 add-if4 : tie.Need-add-if4
 add-if4 c =
     let a = c .before .before .before .before .before .before .before .before .before .args in
     let e = sym (c .before .before .before .before .before .before .before .before .from-number .ensures) ∙ ap answered (c .before .before .before .before .before .before .looked .given .1) in
-    let s = sized (lowBits (a .transform)) _ (c .before .dct-select-size .result) e (c .before .dct-select-size .ensures) in
+    let s = sized (lowEight (a .transform)) _ (c .before .dct-select-size .result) e (c .before .dct-select-size .ensures) in
     omega arith
 
 returns-5 : tie.Need-returns-5
 returns-5 c =
     let a = c .before .before .before .before .before .before .before .before .before .before .args in
     let e = sym (c .before .before .before .before .before .before .before .before .before .from-number .ensures) ∙ ap answered (c .before .before .before .before .before .before .before .looked .given .1) in
-    let s = sized (lowBits (a .transform)) _ (c .before .before .dct-select-size .result) e (c .before .before .dct-select-size .ensures) in
+    let s = sized (lowEight (a .transform)) _ (c .before .before .dct-select-size .result) e (c .before .before .dct-select-size .ensures) in
     let w = c .before .before .before .before .before .wrapping-add-u32 .ensures in
-    judged-high (lowBits (a .transform)) (hfMulOf (a .mul)) (a .x) (a .y) (s .below) (omega arith) (omega arith) (omega arith) (omega arith)
+    judged-high (lowEight (a .transform)) (hfMulOf (a .mul)) (a .x) (a .y) (s .below) (omega arith) (omega arith) (omega arith) (omega arith)
 
 add-kind : tie.Need-add-kind
 add-kind c = search needs
@@ -79,16 +79,16 @@ cast-kind : tie.Need-cast-kind
 cast-kind c =
     let a = c .before .before .before .before .before .before .before .before .before .before .args in
     let e = sym (c .before .before .before .before .before .before .before .before .before .from-number .ensures) ∙ ap answered (c .before .before .before .before .before .before .before .looked .given .1) in
-    let s = sized (lowBits (a .transform)) _ (c .before .before .dct-select-size .result) e (c .before .before .dct-select-size .ensures) in
+    let s = sized (lowEight (a .transform)) _ (c .before .before .dct-select-size .result) e (c .before .before .dct-select-size .ensures) in
     omega arith
 
 returns-6 : tie.Need-returns-6
 returns-6 c =
     let a = c .before .before .before .before .before .before .before .before .before .before .args in
     let e = sym (c .before .before .before .before .before .before .before .before .before .from-number .ensures) ∙ ap answered (c .before .before .before .before .before .before .before .looked .given .1) in
-    let s = sized (lowBits (a .transform)) _ (c .before .before .dct-select-size .result) e (c .before .before .dct-select-size .ensures) in
+    let s = sized (lowEight (a .transform)) _ (c .before .before .dct-select-size .result) e (c .before .before .dct-select-size .ensures) in
     let w = c .before .before .before .before .before .wrapping-add-u32 .ensures in
-    rw (w, s .wideIs, s .highIs) (judged-asks (lowBits (a .transform)) (hfMulOf (a .mul)) (a .x) (a .y) (s .below) (omega arith) (omega arith) (omega arith) (omega arith))
+    rw (w, s .wideIs, s .highIs) (judged-asks (lowEight (a .transform)) (hfMulOf (a .mul)) (a .x) (a .y) (s .below) (omega arith) (omega arith) (omega arith) (omega arith))
 
 pub judge-spec : {M : Type 1} → statement M
 judge-spec =

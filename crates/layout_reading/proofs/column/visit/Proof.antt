@@ -1,7 +1,7 @@
 use Rattle.layout_reading.specs.Places.{byJudged, visit-taken, visit-ends, visit-judged}
 use Rattle.layout_reading.specs.Reading.{stateOf, jobWith}
 use Rattle.layout_column.specs.Judged.{asks-most}
-use Rattle.layout_column.specs.Columns.{lowBits, hfMulOf, saidJudged}
+use Rattle.layout_column.specs.Columns.{lowEight, hfMulOf, saidJudged}
 use lib.Arith.{digits-lt}
 use borrow.Author.Needs.{needs}
 use native.Mathlib.Omega.{arith}
@@ -59,7 +59,7 @@ enum-known-judged-2 c = search needs
 place-requires : tie.Need-place-requires
 place-requires c κs =
     let a = c .before .before .before .before .before .before .before .before .before .before .before .before .before .before .before .before .before .before .args in
-    let m = asks-most (lowBits (getD (a .types .now) (a .used) 0)) (hfMulOf (getD (a .muls .now) (a .used) 0)) (a .x) (a .y) _ (sym (c .before .before .before .before .before .before .judge .ensures) ∙ ap saidJudged (c .before .before .before .before .judged2 .given .1)) in
+    let m = asks-most (lowEight (getD (a .types .now) (a .used) 0)) (hfMulOf (getD (a .muls .now) (a .used) 0)) (a .x) (a .y) _ (sym (c .before .before .before .before .before .before .judge .ensures) ∙ ap saidJudged (c .before .before .before .before .judged2 .given .1)) in
     search needs
 
 returns-3 : tie.Need-returns-3
