@@ -5,6 +5,7 @@
 #include "netbuff.h"
 
 #include <stdlib.h>
+#include <string.h>
 
 enum plant {
     NONE,
@@ -21,7 +22,12 @@ enum plant {
     STORE_KEPT,
     LOG_BEHIND,
     GRID_AFTER_14,
-    ONE_SYMBOL_MORE
+    ONE_SYMBOL_MORE,
+    SIGMA_BIT,
+    HF_MUL_MORE,
+    TRANSFORM_ALIKE,
+    OUTSIDE_AS_OVERLAP,
+    NEXT_BLOCK
 };
 
 /* The wrappers pass on what they are given, by these names and types of the header. */
@@ -77,6 +83,18 @@ uint32_t __wrap_netbuff_cut(size_t bw, size_t bh, const uint8_t *kinds, size_t k
     return refused;
 }
 
+/* An accepted layout that is another: in its strengths, multipliers or transforms. */
+static void spoil_layout(uint8_t *kinds, int32_t *hf_mul, float *sigma, size_t blocks)
+{
+    uint32_t bits;
+    memcpy(&bits, &sigma[blocks - 1], sizeof bits);
+    bits ^= planted() == SIGMA_BIT && bits != 0;
+    memcpy(&sigma[blocks - 1], &bits, sizeof bits);
+    hf_mul[0] += planted() == HF_MUL_MORE && hf_mul[0] < INT32_MAX;
+    if (planted() == TRANSFORM_ALIKE && kinds[0] == 2)
+        kinds[0] = 3;
+}
+
 uint32_t __wrap_netbuff_layout(uint32_t width, uint32_t height, uint32_t mode0, uint32_t mode1,
                                uint32_t mode2, const int32_t *types, size_t types_length,
                                const int32_t *muls, size_t muls_length, const int32_t *sharpness,
@@ -95,7 +113,10 @@ uint32_t __wrap_netbuff_layout(uint32_t width, uint32_t height, uint32_t mode0, 
         hf_mul[hf_mul_length - 1] = 1;
     if (planted() == NO_LAYOUT && refused == 0)
         kinds[kinds_length - 1] = 0;
-    return refused;
+    if (refused == 0)
+        spoil_layout(kinds, hf_mul, sigma, kinds_length);
+    *x += planted() == NEXT_BLOCK && refused == 5;
+    return planted() == OUTSIDE_AS_OVERLAP && refused == 9 ? 8 : refused;
 }
 
 uint32_t __wrap_netbuff_block_context(const uint8_t *bytes, size_t bytes_length, uint32_t num_clusters,
