@@ -27,6 +27,10 @@ struct sides {
 extern const struct sides transform_sides[TRANSFORMS];
 extern const struct sides order_sides[ORDERS_COUNT];
 
+/* The order of each transform, and whether x and y of its places are swapped. */
+extern const size_t transform_order[TRANSFORMS];
+bool transform_turns(uint32_t transform);
+
 /* Sides in blocks of an LF group whose pixels and modes are within limits. */
 struct sides lf_group_sides(uint32_t width, uint32_t height, const uint32_t modes[3]);
 bool pixels_fit(uint32_t width, uint32_t height);

@@ -27,7 +27,13 @@ enum plant {
     HF_MUL_MORE,
     TRANSFORM_ALIKE,
     OUTSIDE_AS_OVERLAP,
-    NEXT_BLOCK
+    NEXT_BLOCK,
+    TURNED_OTHERWISE,
+    ORDER_OF_ITS_SIZE,
+    CELL_LEFT,
+    CELL_BESIDE,
+    OTHER_CLUSTER,
+    ACCEPTED_AS_17
 };
 
 /* The wrappers pass on what they are given, by these names and types of the header. */
@@ -54,6 +60,10 @@ uint32_t __wrap_netbuff_transform(uint32_t number, size_t *wide, size_t *high, s
     uint32_t refused = __real_netbuff_transform(number, wide, high, order, turn, x, y);
     if (planted() == POSITION_LEFT && refused != 0)
         *x = before;
+    if (planted() == TURNED_OTHERWISE && refused == 0)
+        *turn = !*turn;
+    if (planted() == ORDER_OF_ITS_SIZE && refused == 0 && *order == 1)
+        *order = 0;
     return planted() == NUMBER_19 && refused != 0 ? 19 : refused;
 }
 
@@ -145,6 +155,37 @@ uint32_t __wrap_netbuff_orders(const uint8_t *bytes, size_t bytes_length, const 
     return refused;
 }
 
+/* What the first grid held before the call. */
+static int32_t grid_before[64 * 32 * 32];
+
+static bool grid_is_noted(size_t length)
+{
+    return length <= sizeof grid_before / sizeof grid_before[0];
+}
+
+/* The last coefficient of the first grid is not added, or added to the cell behind its own. */
+static void misplace(int32_t *grid, size_t length)
+{
+    for (size_t cell = length - 1; cell > 0; cell--) {
+        uint32_t gain = (uint32_t)grid[cell - 1] - (uint32_t)grid_before[cell - 1];
+        if (gain == 0)
+            continue;
+        grid[cell - 1] = grid_before[cell - 1];
+        if (planted() == CELL_BESIDE)
+            grid[cell] = (int32_t)((uint32_t)grid[cell] + gain);
+        return;
+    }
+}
+
+/* The log's last byte is another one of the cluster map. */
+static void log_other(uint8_t *last, const uint8_t *cluster_map, size_t length)
+{
+    size_t entry = 0;
+    while (entry + 1 < length && cluster_map[entry] == *last)
+        entry++;
+    *last = cluster_map[entry];
+}
+
 uint32_t __wrap_netbuff_coefficients(
     size_t wide, size_t high, const uint8_t *kinds, size_t kinds_length, const int32_t *hf_mul,
     size_t hf_mul_length, uint32_t num_block_clusters, const uint32_t lengths[4],
@@ -156,6 +197,8 @@ uint32_t __wrap_netbuff_coefficients(
     int32_t *grid0, size_t grid0_length, int32_t *grid1, size_t grid1_length, int32_t *grid2,
     size_t grid2_length, size_t *symbols_read, size_t *x, size_t *y)
 {
+    if (grid_is_noted(grid0_length))
+        memcpy(grid_before, grid0, grid0_length * sizeof grid0[0]);
     uint32_t refused = __real_netbuff_coefficients(
         wide, high, kinds, kinds_length, hf_mul, hf_mul_length, num_block_clusters, lengths,
         lf_thresholds, qf_thresholds, block_ctx_map, lf_there, lf0, lf0_length, lf1, lf1_length, lf2,
@@ -168,5 +211,14 @@ uint32_t __wrap_netbuff_coefficients(
         grid1[grid1_length - 1] ^= 1;
     if (planted() == ONE_SYMBOL_MORE && refused == 0)
         ++*symbols_read;
+    if ((planted() == CELL_LEFT || planted() == CELL_BESIDE) && refused == 0)
+        misplace(grid0, grid0_length);
+    if (planted() == OTHER_CLUSTER && refused == 0 && presets == 1)
+        log_other(&log[*symbols_read - 1], cluster_map, cluster_map_length);
+    if (planted() == ACCEPTED_AS_17 && refused == 0) {
+        *x = *symbols_read;
+        *symbols_read = 0;
+        return 17;
+    }
     return refused;
 }
