@@ -15,7 +15,8 @@ enum {
     LIST_MOST = 15,
     MAP_SETS = 39,
     MAP_MOST = 2496,
-    ENTRIES_PER_CLUSTER = 495
+    ENTRIES_PER_CLUSTER = 495,
+    STORE_NUMBERS = 787968
 };
 
 /* Sides in blocks, or in cells. */
@@ -60,6 +61,10 @@ size_t list_start(size_t order, size_t channel);
 size_t list_length(size_t order);
 
 bool places_inside(const uint16_t *store);
+
+/* The natural order's list, x and y of each place; the lists are made once. */
+void prepare_natural(void);
+const uint16_t *natural_list(size_t order);
 
 /* A context record. */
 struct record {

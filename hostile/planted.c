@@ -33,7 +33,11 @@ enum plant {
     CELL_LEFT,
     CELL_BESIDE,
     OTHER_CLUSTER,
-    ACCEPTED_AS_17
+    ACCEPTED_AS_17,
+    PLACES_SWAPPED,
+    CHANNEL_TWICE,
+    DIGIT_NOT_COUNTED,
+    OTHER_DEFAULT
 };
 
 /* The wrappers pass on what they are given, by these names and types of the header. */
@@ -141,7 +145,22 @@ uint32_t __wrap_netbuff_block_context(const uint8_t *bytes, size_t bytes_length,
                                                     qf_thresholds, block_ctx_map, bits_read, x, y);
     if (planted() == UNUSED_PLACE && lengths[3] < 15)
         qf_thresholds[14] = 1;
+    if (planted() == OTHER_DEFAULT && refused == 0 && (bytes[0] & 1) != 0)
+        block_ctx_map[2] = 3;
     return refused;
+}
+
+/* Order 0, which is used, has two places swapped, or its list of channel 0 for channel 1 too. */
+static void spoil_order_0(uint16_t *store)
+{
+    enum { LIST = 2 * 64 };
+    uint16_t *last = store + LIST - 2, before[2] = {last[-2], last[-1]};
+    if (planted() == PLACES_SWAPPED) {
+        memcpy(last - 2, last, sizeof before);
+        memcpy(last, before, sizeof before);
+    }
+    if (planted() == CHANNEL_TWICE)
+        memcpy(store + LIST, store, LIST * sizeof *store);
 }
 
 uint32_t __wrap_netbuff_orders(const uint8_t *bytes, size_t bytes_length, const uint32_t *symbols,
@@ -152,6 +171,9 @@ uint32_t __wrap_netbuff_orders(const uint8_t *bytes, size_t bytes_length, const 
                                              store_length, symbols_read, x, y);
     if (planted() == STORE_KEPT && refused == 15)
         store[store_length - 1] = 1;
+    *x -= planted() == DIGIT_NOT_COUNTED && refused == 13;
+    if (refused == 0 && (bytes[0] & 3) < 2)
+        spoil_order_0(store);
     return refused;
 }
 
