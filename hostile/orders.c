@@ -42,10 +42,20 @@ static bool used_orders(const uint8_t *bytes, size_t length, uint64_t *place, ui
     return u32_at(bytes, length, place, choices, used);
 }
 
-/* Symbols for the used orders: lengths and digits that fit, few for each list, at times many for one. */
+/* The number of the symbol that is to be refused: none, the first, or a later one. */
+static size_t take_refused(struct input *in)
+{
+    if (!take_once_in(in, 16))
+        return SIZE_MAX;
+    return take_once_in(in, 2) ? take_below(in, DIGITS_MOST) : 0;
+}
+
+/* Symbols for the used orders: lengths and digits that fit, few for each list, at times many for one;
+ * at times one symbol is the least that is too large. */
 static size_t write_symbols(struct input *in, uint32_t used, uint32_t *symbols)
 {
     size_t count = 0, longest = take_below(in, 4 * 3 * ORDERS_COUNT);
+    size_t refused = take_refused(in);
     uint32_t most = 1 + take_below(in, DIGITS_MOST);
     for (size_t list = 0; list < 3 * ORDERS_COUNT; list++) {
         uint32_t room = (uint32_t)free_of(list / 3);
@@ -56,9 +66,10 @@ static size_t write_symbols(struct input *in, uint32_t used, uint32_t *symbols)
             digits = room;
         if (list == longest)
             digits = room < LONG_MOST ? room : spread_below(in, LONG_MOST);
-        symbols[count++] = digits;
-        for (uint32_t digit = 0; digit < digits; digit++)
-            symbols[count++] = spread_below(in, room - digit);
+        symbols[count] = count == refused ? room + 1 : digits;
+        count++;
+        for (uint32_t digit = 0; digit < digits; digit++, count++)
+            symbols[count] = count == refused ? room - digit : spread_below(in, room - digit);
     }
     return count;
 }
