@@ -27,7 +27,7 @@ enum plant {
     HF_MUL_MORE,
     TRANSFORM_ALIKE,
     OUTSIDE_AS_OVERLAP,
-    NEXT_BLOCK,
+    BLOCK_BEFORE,
     TURNED_OTHERWISE,
     ORDER_OF_ITS_SIZE,
     CELL_LEFT,
@@ -129,7 +129,7 @@ uint32_t __wrap_netbuff_layout(uint32_t width, uint32_t height, uint32_t mode0, 
         kinds[kinds_length - 1] = 0;
     if (refused == 0)
         spoil_layout(kinds, hf_mul, sigma, kinds_length);
-    *x += planted() == NEXT_BLOCK && refused == 5;
+    *x -= planted() == BLOCK_BEFORE && refused == 5 && *x > 0;
     return planted() == OUTSIDE_AS_OVERLAP && refused == 9 ? 8 : refused;
 }
 
