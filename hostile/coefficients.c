@@ -141,6 +141,14 @@ struct manner {
     bool ends_at_17;
 };
 
+/* A number other than 0, of any size. */
+static uint32_t spread_filled(struct input *in)
+{
+    uint32_t number = (uint32_t)next_spread(&in->spread);
+    number >>= spread_below(in, 32);
+    return number > 0 ? number : 1;
+}
+
 /* The coefficients behind a count; false where the symbols end there. */
 static bool write_places(struct input *in, struct manner manner, uint32_t blocks, uint32_t left,
                          uint32_t *symbols, size_t *count)
@@ -150,7 +158,7 @@ static bool write_places(struct input *in, struct manner manner, uint32_t blocks
         if (manner.ends_at_17 && coefficient_context(left, place, blocks, filled) >= COEFFICIENT_ENTRIES)
             return false;
         filled = spread_below(in, manner.sparse) == 0;
-        symbols[(*count)++] = filled ? 1 + (uint32_t)(next_spread(&in->spread) >> 40) : 0;
+        symbols[(*count)++] = filled ? spread_filled(in) : 0;
         left -= filled;
     }
     return true;
