@@ -115,13 +115,23 @@ static void damage_list(struct input *in, int32_t *list, size_t length, const in
     }
 }
 
+/* Small varblocks, most of them high, whatever room there is: wide ones then meet others. */
+static void spread_types(struct input *in, int32_t *types, size_t length)
+{
+    static const int32_t small[8] = {0, 0, 6, 6, 6, 8, 7, 4};
+    for (size_t column = 0; length < VAST && column < length; column++)
+        types[column] = small[spread_below(in, 8)];
+}
+
 static void take_damage(struct input *in, struct layout_call *call)
 {
     static const int32_t types[8] = {27, 28, 255, 256, -1, -256, 24, 281};
     static const int32_t muls[8] = {-1, INT32_MAX, INT32_MIN, -2, 0, 300, 1, 2};
     static const int32_t numbers[8] = {8, -1, 7, INT32_MIN, INT32_MAX, 9, 0, 256};
     uint32_t which = take_below(in, 8);
-    call->undamaged &= which < 4;
+    call->undamaged &= which < 3;
+    if (which == 3)
+        spread_types(in, call->types, call->types_length);
     if (which == 4 || which == 7)
         damage_list(in, call->types, call->types_length, types);
     if (which == 5)
