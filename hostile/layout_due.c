@@ -4,7 +4,7 @@
 #include <float.h>
 #include <string.h>
 
-/* A sum or product of floats is rounded to a float, once, and not kept in anything wider. */
+/* A product or quotient of floats is rounded to a float, once, and not kept in anything wider. */
 _Static_assert(FLT_EVAL_METHOD == 0, "floats are computed as floats");
 
 enum { SHARPNESS_NUMBERS = 8 };
