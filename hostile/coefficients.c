@@ -1,5 +1,5 @@
 /* The coefficient call: taken from bytes, and made. */
-#include "coefficients.h"
+#include "walk.h"
 
 #include "netbuff.h"
 
@@ -134,12 +134,43 @@ static void take_presets(struct input *in, struct group_call *call)
     call->bytes = take_preset(in, call->presets, &call->bytes_length);
 }
 
+/* How symbols are made: how often a coefficient is other than 0, how large counts are for each block,
+ * the count that is the least too large, and whether they end where no context is left. */
+struct manner {
+    uint32_t sparse, most, refused;
+    bool ends_at_17;
+};
+
+/* A number other than 0, of any size. */
+static uint32_t spread_filled(struct input *in)
+{
+    uint32_t number = (uint32_t)next_spread(&in->spread);
+    number >>= spread_below(in, 32);
+    return number > 0 ? number : 1;
+}
+
+/* The coefficients behind a count; false where the symbols end there. */
+static bool write_places(struct input *in, struct manner manner, uint32_t blocks, uint32_t left,
+                         uint32_t *symbols, size_t *count)
+{
+    bool filled = left <= 4 * blocks;
+    for (uint32_t place = 0; left > 0 && place < 63 * blocks; place++) {
+        if (manner.ends_at_17 && coefficient_context(left, place, blocks, filled) >= COEFFICIENT_ENTRIES)
+            return false;
+        filled = spread_below(in, manner.sparse) == 0;
+        symbols[(*count)++] = filled ? spread_filled(in) : 0;
+        left -= filled;
+    }
+    return true;
+}
+
 /* Symbols that read a group to its end, or as far as there is room (the corners of a damaged group may
  * be more than its blocks), its counts mostly small. */
-static size_t write_symbols(struct input *in, const struct grid *grid, uint32_t *symbols)
+static size_t write_symbols(struct input *in, struct manner manner, const struct grid *grid,
+                            uint32_t *symbols)
 {
     size_t count = 0;
-    uint32_t sparse = 1 + take_below(in, 8), most = take_once_in(in, 4) ? 63 : 4;
+    uint32_t number = 0;
     for (size_t cell = 0; cell < grid->sides.wide * grid->sides.high; cell++) {
         uint8_t kind = grid->kinds[cell];
         if (kind < 2 || kind >= 2 + TRANSFORMS)
@@ -147,23 +178,32 @@ static size_t write_symbols(struct input *in, const struct grid *grid, uint32_t 
         uint32_t blocks = (uint32_t)(transform_sides[kind - 2].wide * transform_sides[kind - 2].high);
         if (count + 192 * (size_t)blocks > SYMBOLS_MOST)
             break;
-        for (int channel = 0; channel < 3; channel++) {
-            uint32_t left = spread_below(in, most * blocks + 1), places = 63 * blocks;
-            symbols[count++] = left;
-            for (; left > 0 && places > 0; places--) {
-                bool filled = spread_below(in, sparse) == 0;
-                symbols[count++] = filled ? 1 + (uint32_t)(next_spread(&in->spread) >> 40) : 0;
-                left -= filled;
-            }
+        for (int channel = 0; channel < 3; channel++, number++) {
+            uint32_t left = spread_below(in, manner.most * blocks + 1);
+            symbols[count++] = number == manner.refused ? 63 * blocks + 1 : left;
+            if (!write_places(in, manner, blocks, left, symbols, &count))
+                return count;
         }
     }
     return count;
 }
 
+static struct manner take_manner(struct input *in)
+{
+    struct manner manner;
+    manner.sparse = 1 + take_below(in, 8);
+    manner.most = take_once_in(in, 4) ? 63 : 4;
+    manner.refused = UINT32_MAX;
+    if (take_once_in(in, 16))
+        manner.refused = take_below(in, 8);
+    manner.ends_at_17 = take_once_in(in, 4);
+    return manner;
+}
+
 static void take_symbols(struct input *in, struct group_call *call, const struct grid *grid)
 {
     static uint32_t symbols[SYMBOLS_MOST];
-    size_t count = write_symbols(in, grid, symbols);
+    size_t count = write_symbols(in, take_manner(in), grid, symbols);
     uint32_t fault = take_below(in, 10);
     if (fault == 9 && count > 0)
         symbols[take_below(in, (uint32_t)count)] = take_any(in);

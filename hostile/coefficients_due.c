@@ -1,5 +1,5 @@
 /* The coefficient call: the answer that is due, and what then stands in what was lent. */
-#include "coefficients.h"
+#include "walk.h"
 
 #include "netbuff.h"
 
@@ -47,63 +47,6 @@ static struct answer due_before(const struct group_call *call, uint32_t *preset)
     return (struct answer){0, 0, 0};
 }
 
-/* How the symbols are read: the symbols, those of them that are coefficients other than 0. */
-struct walk {
-    struct answer answer;
-    size_t read, filled;
-};
-
-static bool walk_channel(const struct group_call *call, uint32_t blocks, struct walk *walk)
-{
-    for (uint32_t left = 0, place = 0; place <= 63 * blocks; place++) {
-        if (place > 0 && left == 0)
-            return true;
-        if (walk->read == call->symbols_length) {
-            walk->answer = (struct answer){15, walk->read, 0};
-            return false;
-        }
-        uint32_t symbol = call->symbols[walk->read++];
-        if (place > 0) {
-            left -= symbol != 0;
-            walk->filled += symbol != 0;
-            continue;
-        }
-        left = symbol;
-        if (left > 63 * blocks) {
-            walk->answer = (struct answer){16, walk->read, 0};
-            return false;
-        }
-    }
-    return true;
-}
-
-/* What reading gives where no coefficient context is too large. */
-static struct walk walk_group(const struct group_call *call)
-{
-    struct walk walk = {{0, 0, 0}, 0, 0};
-    for (size_t cell = 0; cell < call->sides.wide * call->sides.high; cell++) {
-        if (call->kinds[cell] < 2)
-            continue;
-        struct sides of = transform_sides[call->kinds[cell] - 2];
-        for (int channel = 0; channel < 3; channel++)
-            if (!walk_channel(call, (uint32_t)(of.wide * of.high), &walk))
-                return walk;
-    }
-    return walk;
-}
-
-/* Cells of the grids that are not as they were. */
-static size_t changed_cells(const struct group_call *call)
-{
-    size_t changed = 0;
-    for (int channel = 0; channel < 3; channel++) {
-        const int32_t *before = noted(call->grids[channel]);
-        for (size_t cell = 0; cell < call->grid_length[channel]; cell++)
-            changed += call->grids[channel][cell] != before[cell];
-    }
-    return changed;
-}
-
 /* The low-frequency cells, which no order of an order call reads, are as they were. */
 static void check_low_cells(const struct group_call *call)
 {
@@ -123,32 +66,32 @@ static void check_low_cells(const struct group_call *call)
     }
 }
 
-/* Each logged byte is one of the preset's stretch of the cluster map. */
-static void check_log(const struct group_call *call, uint32_t preset, size_t read)
+/* The log's bytes are the clusters that are due, and behind them it stays. */
+static void check_log(const struct group_call *call, const struct walk *walk)
 {
-    bool known[256] = {false};
-    size_t stretch = (size_t)ENTRIES_PER_CLUSTER * call->record->count;
-    for (size_t entry = 0; entry < stretch; entry++)
-        known[call->cluster_map[preset * stretch + entry]] = true;
-    for (size_t symbol = 0; symbol < read; symbol++)
-        promise(known[call->log[symbol]], "the log's byte %zu is a cluster of the preset", symbol);
-    stays(call->log, read);
+    for (size_t symbol = 0; symbol < walk->read; symbol++)
+        promise(call->log[symbol] == walk->log[symbol], "cluster %d of symbol %zu where %d is due",
+                call->log[symbol], symbol, walk->log[symbol]);
+    stays(call->log, walk->read);
+}
+
+static void check_grids(const struct group_call *call, const struct walk *walk)
+{
+    for (int channel = 0; channel < 3; channel++)
+        for (size_t cell = 0; cell < call->grid_length[channel]; cell++)
+            promise((uint32_t)call->grids[channel][cell] == walk->grids[channel][cell],
+                    "cell %zu of grid %d", cell, channel);
 }
 
 static void check_read(const struct group_call *call, struct answer answer, uint32_t preset)
 {
-    struct walk walk = walk_group(call);
-    size_t read = answer.number == 0 ? *call->read : answer.x;
-    if (answer.number == 17) {
-        answered_any(answer);
-        promise(read <= walk.read && read > 0, "refused 17 after %zu symbols of %zu", read, walk.read);
-    } else {
-        answered(answer, walk.answer);
-        promise(read == walk.read, "%zu symbols read where %zu are due", read, walk.read);
-    }
-    promise(read <= 192 * call->sides.wide * call->sides.high, "%zu symbols read", read);
-    check_log(call, preset, read);
-    promise(changed_cells(call) <= walk.filled, "no more cells change than coefficients are read");
+    static struct walk walk;
+    walk_group(call, preset, &walk);
+    answered(answer, walk.answer);
+    promise(answer.number != 0 || *call->read == walk.read, "%zu symbols read where %zu are due",
+            *call->read, walk.read);
+    check_log(call, &walk);
+    check_grids(call, &walk);
     if (is_kept(call))
         check_low_cells(call);
 }

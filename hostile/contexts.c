@@ -40,6 +40,12 @@ static size_t write_record(struct input *in, struct bits *bits)
     return MAP_SETS * (bsize <= 64 ? bsize : 1);
 }
 
+/* The record where the first bit is 1: 15 clusters, this map, no thresholds. */
+static const uint8_t default_map[MAP_SETS] = {
+    0,  1,  2,  2,  3,  3,  4, 5, 6, 6, 6,  6,  6,  7,  8,  9,  9,  10, 11, 12,
+    13, 14, 14, 14, 14, 14, 7, 8, 9, 9, 10, 11, 12, 13, 14, 14, 14, 14, 14,
+};
+
 /* The record that bits and clusters say, and the answer that is due. */
 struct due {
     struct record record;
@@ -82,6 +88,12 @@ static uint32_t clusters_refused(struct record *record, uint32_t count, const ui
     return 0;
 }
 
+static void default_clusters(struct record *record)
+{
+    record->count = 15;
+    memcpy(record->map, default_map, sizeof default_map);
+}
+
 static void expect_record(const uint8_t *bytes, size_t length, uint32_t count, const uint8_t *map,
                           size_t map_length, struct due *due)
 {
@@ -95,6 +107,8 @@ static void expect_record(const uint8_t *bytes, size_t length, uint32_t count, c
         due->answer = (struct answer){3, place, 0};
     else if (first == 0)
         due->answer.number = clusters_refused(&due->record, count, map, map_length);
+    else
+        default_clusters(&due->record);
     due->bits = due->answer.number == 0 ? place : 0;
     if (due->answer.number != 0)
         memset(&due->record, 0, sizeof due->record);
@@ -122,24 +136,15 @@ static struct outs lend_outs(struct input *in)
     };
 }
 
-static void check_record(const struct outs *outs, const struct due *due, bool by_default)
+static void check_record(const struct outs *outs, const struct due *due)
 {
     const struct record *record = &due->record;
     promise(*outs->bits == due->bits, "%zu bits read where %zu are due", *outs->bits, due->bits);
     promise(memcmp(outs->lengths, record->lengths, sizeof record->lengths) == 0, "lengths");
     promise(memcmp(outs->qf, record->qf, sizeof record->qf) == 0, "qf_thresholds");
     promise(memcmp(outs->lf, record->lf, sizeof record->lf) == 0, "lf_thresholds");
-    if (!by_default) {
-        promise(*outs->count == record->count, "num_block_clusters");
-        promise(memcmp(outs->map, record->map, sizeof record->map) == 0, "block_ctx_map");
-        return;
-    }
-    struct record found = *record;
-    found.count = *outs->count;
-    memcpy(found.map, outs->map, sizeof found.map);
-    promise(found.count == 15 && is_fit(&found), "the default record is fit and has 15 clusters");
-    for (size_t k = MAP_SETS; k < MAP_MOST; k++)
-        promise(found.map[k] == 0, "places of the map that are not used are 0");
+    promise(*outs->count == record->count, "num_block_clusters");
+    promise(memcmp(outs->map, record->map, sizeof record->map) == 0, "block_ctx_map");
 }
 
 /* The bytes of a call: any, or those of a record, at times cut short. */
@@ -175,5 +180,5 @@ void host_block_context(struct input *in)
     lend_check();
     expect_record(bytes, length, count, map, map_length, &due);
     answered((struct answer){refused, *outs.x, *outs.y}, due.answer);
-    check_record(&outs, &due, refused == 0 && (bytes[0] & 1) != 0);
+    check_record(&outs, &due);
 }

@@ -28,6 +28,7 @@ static const enum call turns[] = {
 
 void host_prepare(void)
 {
+    prepare_natural();
     prepare_stores();
 }
 

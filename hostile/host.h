@@ -64,7 +64,7 @@ void fill_single(struct input *in, struct grid *grid, uint32_t transform);
 /* Changes single cells, so that most grids are no layout any more. */
 void damage_grid(struct input *in, struct grid *grid);
 
-/* Stores that order calls wrote: the natural one, and one with permuted lists. */
+/* Stores as order calls write them: the natural one, and one with permuted lists. */
 extern const uint16_t *natural_store;
 extern const uint16_t *permuted_store;
 

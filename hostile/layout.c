@@ -1,17 +1,11 @@
 /* The column count and the layout of an LF group. */
-#include "host.h"
+#include "layout.h"
 
 #include "netbuff.h"
 
-#include <math.h>
 #include <string.h>
 
 enum { SCALE_MOST = 73728 };
-
-/* Size and modes of an LF group: mostly small and within limits. */
-struct lf_group {
-    uint32_t width, height, modes[3];
-};
 
 static uint32_t take_pixels(struct input *in)
 {
@@ -22,6 +16,7 @@ static uint32_t take_pixels(struct input *in)
     return class >= 232 ? take_between(in, 1, 300) : take_between(in, 1, 64);
 }
 
+/* Mostly small and within limits. */
 static struct lf_group take_group(struct input *in)
 {
     struct lf_group group = {take_pixels(in), take_pixels(in), {0, 0, 0}};
@@ -62,22 +57,6 @@ void host_column_count(struct input *in)
     promise(*count == (due == 0 ? value + 1 : 0), "count %u", *count);
     promise(*bits == (due == 0 ? place : 0), "%zu bits read", *bits);
 }
-
-/* What is lent to a layout call. */
-struct layout_call {
-    struct lf_group group;
-    struct sides sides;
-    int32_t *types, *muls, *sharpness, *hf_mul;
-    size_t types_length, muls_length, sharpness_length;
-    bool filter_on;
-    float multiplier, *lookup, *sigma;
-    uint32_t scale;
-    uint8_t *kinds;
-    size_t kinds_length, hf_mul_length, sigma_length;
-    size_t *used, *x, *y;
-    /* Whether the columns and sharpness numbers are those of the grid. */
-    bool undamaged;
-};
 
 static float take_float(struct input *in)
 {
@@ -136,13 +115,23 @@ static void damage_list(struct input *in, int32_t *list, size_t length, const in
     }
 }
 
+/* Small varblocks, most of them high, whatever room there is: wide ones then meet others. */
+static void spread_types(struct input *in, int32_t *types, size_t length)
+{
+    static const int32_t small[8] = {0, 0, 6, 6, 6, 8, 7, 4};
+    for (size_t column = 0; length < VAST && column < length; column++)
+        types[column] = small[spread_below(in, 8)];
+}
+
 static void take_damage(struct input *in, struct layout_call *call)
 {
     static const int32_t types[8] = {27, 28, 255, 256, -1, -256, 24, 281};
     static const int32_t muls[8] = {-1, INT32_MAX, INT32_MIN, -2, 0, 300, 1, 2};
     static const int32_t numbers[8] = {8, -1, 7, INT32_MIN, INT32_MAX, 9, 0, 256};
     uint32_t which = take_below(in, 8);
-    call->undamaged &= which < 4;
+    call->undamaged &= which < 3;
+    if (which == 3)
+        spread_types(in, call->types, call->types_length);
     if (which == 4 || which == 7)
         damage_list(in, call->types, call->types_length, types);
     if (which == 5)
@@ -190,7 +179,7 @@ static void take_layout(struct input *in, struct layout_call *call)
 }
 
 /* The refusal that is due before work: sizes, then parameters, then lengths. */
-static uint32_t layout_due(const struct layout_call *call)
+static uint32_t due_before(const struct layout_call *call)
 {
     uint32_t due = refused_before(call->group);
     if (due != 0)
@@ -208,19 +197,22 @@ static uint32_t layout_due(const struct layout_call *call)
     return lengths ? 0 : 1;
 }
 
-/* What an accepted call filled is a layout, with as many corners as columns were used. */
+/* A list is the one that is due, block by block. */
+static void same_list(const char *name, const void *list, const void *due, size_t blocks, size_t size)
+{
+    const uint8_t *found = list, *wanted = due;
+    if (memcmp(list, due, blocks * size) == 0)
+        return;
+    for (size_t block = 0; block < blocks; block++)
+        promise(memcmp(found + block * size, wanted + block * size, size) == 0, "%s of block %zu", name,
+                block);
+}
+
+/* What an accepted call filled is a layout, like itself. */
 static void check_filled(const struct layout_call *call)
 {
-    size_t corners = 0, blocks = call->sides.wide * call->sides.high;
-    promise(*call->used <= call->types_length, "no more columns are used than are lent");
+    size_t blocks = call->sides.wide * call->sides.high;
     promise(is_layout(call->sides, call->kinds, call->hf_mul), "kinds and hf_mul are a layout");
-    for (size_t block = 0; block < blocks; block++) {
-        uint32_t bits;
-        memcpy(&bits, &call->sigma[block], sizeof bits);
-        corners += call->kinds[block] >= 2;
-        promise(call->filter_on ? isfinite(call->sigma[block]) : bits == 0, "sigma of block %zu", block);
-    }
-    promise(corners == *call->used, "a corner for each column used");
     const uint8_t *kinds = call->kinds;
     const int32_t *hf_mul = call->hf_mul;
     struct sides sides = call->sides;
@@ -233,28 +225,27 @@ static void check_filled(const struct layout_call *call)
 
 static void check_layout(const struct layout_call *call, uint32_t refused)
 {
-    uint32_t due = layout_due(call);
+    static struct layout_due due;
+    uint32_t before = due_before(call);
     struct answer answer = {refused, *call->x, *call->y};
-    answered_any(answer);
-    promise(due != 0 ? refused == due : refused == 0 || (refused >= 4 && refused <= 10),
-            "refused %u where %u is due", refused, due);
-    promise(refused == 0 || *call->used == 0, "used is 0 beside a refusal");
-    if (due != 0) {
+    if (before != 0) {
+        answered(answer, (struct answer){before, 0, 0});
+        promise(*call->used == 0, "used is 0 beside a refusal");
         stays(call->kinds, 0);
         stays(call->hf_mul, 0);
         stays(call->sigma, 0);
         return;
     }
+    size_t blocks = call->sides.wide * call->sides.high;
+    expect_layout(call, &due);
+    answered(answer, due.answer);
+    promise(*call->used == due.used, "%zu columns used where %zu are due", *call->used, due.used);
+    same_list("kinds", call->kinds, due.kinds, blocks, sizeof due.kinds[0]);
+    same_list("hf_mul", call->hf_mul, due.hf_mul, blocks, sizeof due.hf_mul[0]);
+    same_list("sigma", call->sigma, due.sigma, blocks, sizeof due.sigma[0]);
     promise(!call->undamaged || refused == 0, "columns that fill the grid are accepted");
-    promise(call->filter_on || refused != 10, "sharpness is not looked at with the filter off");
-    if (refused == 0) {
+    if (refused == 0)
         check_filled(call);
-        return;
-    }
-    promise(answer.x < call->sides.wide && answer.y < call->sides.high, "a block inside");
-    is_cleared(call->kinds);
-    is_cleared(call->hf_mul);
-    is_cleared(call->sigma);
 }
 
 void host_layout(struct input *in)

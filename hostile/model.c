@@ -14,6 +14,17 @@ const struct sides order_sides[ORDERS_COUNT] = {
     {64, 64}, {64, 32}, {128, 128}, {128, 64}, {256, 256}, {256, 128},
 };
 
+const size_t transform_order[TRANSFORMS] = {
+    0, 1, 1, 1, 2, 3, 4, 4, 5, 5, 6, 6, 1, 1, 1, 1, 1, 1, 7, 8, 8, 9, 10, 10, 11, 12, 12,
+};
+
+bool transform_turns(uint32_t transform)
+{
+    if ((transform >= 1 && transform <= 3) || (transform >= 12 && transform <= 17))
+        return false;
+    return transform_sides[transform].high >= transform_sides[transform].wide;
+}
+
 bool pixels_fit(uint32_t width, uint32_t height)
 {
     return width >= 1 && width <= PIXELS_MOST && height >= 1 && height <= PIXELS_MOST;

@@ -15,7 +15,8 @@ enum {
     LIST_MOST = 15,
     MAP_SETS = 39,
     MAP_MOST = 2496,
-    ENTRIES_PER_CLUSTER = 495
+    ENTRIES_PER_CLUSTER = 495,
+    STORE_NUMBERS = 787968
 };
 
 /* Sides in blocks, or in cells. */
@@ -26,6 +27,10 @@ struct sides {
 /* Width and height of the transforms in blocks, and of the orders in cells. */
 extern const struct sides transform_sides[TRANSFORMS];
 extern const struct sides order_sides[ORDERS_COUNT];
+
+/* The order of each transform, and whether x and y of its places are swapped. */
+extern const size_t transform_order[TRANSFORMS];
+bool transform_turns(uint32_t transform);
 
 /* Sides in blocks of an LF group whose pixels and modes are within limits. */
 struct sides lf_group_sides(uint32_t width, uint32_t height, const uint32_t modes[3]);
@@ -56,6 +61,10 @@ size_t list_start(size_t order, size_t channel);
 size_t list_length(size_t order);
 
 bool places_inside(const uint16_t *store);
+
+/* The natural order's list, x and y of each place; the lists are made once. */
+void prepare_natural(void);
+const uint16_t *natural_list(size_t order);
 
 /* A context record. */
 struct record {

@@ -1,44 +1,38 @@
 /* The order call, the look-up of an order, and the check of stored places. */
-#include "host.h"
+#include "orders.h"
 
 #include "netbuff.h"
 
 #include <string.h>
 
-enum { SYMBOLS_MOST = 8192, DIGITS_MOST = 64 };
+enum { SYMBOLS_MOST = 8192, DIGITS_MOST = 64, LONG_MOST = 4096 };
 
 const uint16_t *natural_store;
 const uint16_t *permuted_store;
 
-/* A store of just these orders, kept. */
-static const uint16_t *store_of(const uint8_t bytes[2], const uint32_t *symbols, size_t length)
+/* A store of these orders, kept; it is the model's, so that no call decides what is lent. */
+static const uint16_t *store_of(uint32_t used, const uint32_t *symbols, size_t length)
 {
-    lend_start();
-    uint16_t *store = lend("store", NETBUFF_STORE_LENGTH, sizeof *store, WRITE, true);
-    size_t read, x, y;
-    uint32_t refused =
-        netbuff_orders(bytes, 2, symbols, length, store, NETBUFF_STORE_LENGTH, &read, &x, &y);
-    promise(refused == 0 && read == length, "orders of the host itself are accepted");
-    const uint16_t *kept = keep(store, NETBUFF_STORE_LENGTH * sizeof *store);
-    lend_start();
-    return kept;
+    static uint16_t store[NETBUFF_STORE_LENGTH];
+    size_t read;
+    if (expect_orders(used, symbols, length, &read, store).number != 0 || read != length)
+        give_up("orders of the host are refused");
+    return keep(store, sizeof store);
 }
 
 void prepare_stores(void)
 {
-    static const uint8_t none[2] = {2, 0}, all[2] = {0xff, 0x7f};
+    static const uint8_t none[1] = {0};
     static uint32_t symbols[ORDERS_COUNT * 3 * 9];
-    struct input in = input_of(none, 2);
+    struct input in = input_of(none, sizeof none);
     size_t length = 0;
-    promise_about(ORDERS);
-    for (size_t order = 0; order < ORDERS_COUNT; order++)
-        for (int channel = 0; channel < 3; channel++) {
-            symbols[length++] = 8;
-            for (int digit = 0; digit < 8; digit++)
-                symbols[length++] = spread_below(&in, 50);
-        }
-    natural_store = store_of(none, symbols, 0);
-    permuted_store = store_of(all, symbols, length);
+    for (size_t list = 0; list < 3 * ORDERS_COUNT; list++) {
+        symbols[length++] = 8;
+        for (int digit = 0; digit < 8; digit++)
+            symbols[length++] = spread_below(&in, 50);
+    }
+    natural_store = store_of(0, symbols, 0);
+    permuted_store = store_of((1 << ORDERS_COUNT) - 1, symbols, length);
 }
 
 /* Which orders the bytes say to be used; false where the bits end. */
@@ -48,40 +42,20 @@ static bool used_orders(const uint8_t *bytes, size_t length, uint64_t *place, ui
     return u32_at(bytes, length, place, choices, used);
 }
 
-/* How many numbers of an order are free to be permuted. */
-static size_t free_of(size_t order)
+/* The number of the symbol that is to be refused: none, the first, or a later one. */
+static size_t take_refused(struct input *in)
 {
-    size_t size = order_sides[order].wide * order_sides[order].high;
-    return size - size / 64;
+    if (!take_once_in(in, 16))
+        return SIZE_MAX;
+    return take_once_in(in, 2) ? take_below(in, DIGITS_MOST) : 0;
 }
 
-/* The answer that is due once the used orders are known, and the symbols read. */
-static struct answer walk_symbols(uint32_t used, const uint32_t *symbols, size_t length, size_t *read)
-{
-    *read = 0;
-    for (size_t list = 0; list < 3 * ORDERS_COUNT; list++) {
-        size_t room = free_of(list / 3);
-        if ((used >> list / 3 & 1) == 0)
-            continue;
-        if (*read == length)
-            return (struct answer){15, *read, 0};
-        size_t digits = symbols[(*read)++];
-        if (digits > room)
-            return (struct answer){13, *read, 0};
-        for (size_t digit = 0; digit < digits; digit++) {
-            if (*read == length)
-                return (struct answer){15, *read, 0};
-            if (symbols[(*read)++] >= room - digit)
-                return (struct answer){13, *read, 0};
-        }
-    }
-    return (struct answer){0, 0, 0};
-}
-
-/* Symbols for the used orders: lengths and digits that fit, few for each list. */
+/* Symbols for the used orders: lengths and digits that fit, few for each list, at times many for one;
+ * at times one symbol is the least that is too large. */
 static size_t write_symbols(struct input *in, uint32_t used, uint32_t *symbols)
 {
-    size_t count = 0;
+    size_t count = 0, longest = take_below(in, 4 * 3 * ORDERS_COUNT);
+    size_t refused = take_refused(in);
     uint32_t most = 1 + take_below(in, DIGITS_MOST);
     for (size_t list = 0; list < 3 * ORDERS_COUNT; list++) {
         uint32_t room = (uint32_t)free_of(list / 3);
@@ -90,9 +64,12 @@ static size_t write_symbols(struct input *in, uint32_t used, uint32_t *symbols)
         uint32_t digits = spread_below(in, most);
         if (room < DIGITS_MOST && spread_below(in, 4) == 0)
             digits = room;
-        symbols[count++] = digits;
-        for (uint32_t digit = 0; digit < digits; digit++)
-            symbols[count++] = spread_below(in, room - digit);
+        if (list == longest)
+            digits = room < LONG_MOST ? room : spread_below(in, LONG_MOST);
+        symbols[count] = count == refused ? room + 1 : digits;
+        count++;
+        for (uint32_t digit = 0; digit < digits; digit++, count++)
+            symbols[count] = count == refused ? room - digit : spread_below(in, room - digit);
     }
     return count;
 }
@@ -113,36 +90,19 @@ static const uint32_t *take_symbols(struct input *in, uint32_t used, size_t *len
     return lend_copy(in, "symbols", symbols, count, *length, sizeof symbols[0]);
 }
 
-/* A list is a permutation of its order's places, the fixed ones in front in their natural turn. */
-static void check_list(const uint16_t *store, size_t order, size_t channel)
+/* The store is the one that is due, place by place. */
+static void check_store(const uint16_t *store, const uint16_t *due)
 {
-    static uint8_t seen[256 * 256];
-    struct sides sides = order_sides[order];
-    size_t start = list_start(order, channel), cells = sides.wide * sides.high;
-    const uint16_t *list = store + start, *natural = natural_store + start;
-    memset(seen, 0, cells);
-    for (size_t place = 0; place < cells; place++) {
-        size_t x = list[2 * place], y = list[2 * place + 1];
-        promise(x < sides.wide && y < sides.high, "a place inside order %zu", order);
-        promise(seen[y * sides.wide + x]++ == 0, "no place twice in order %zu", order);
-    }
-    promise(memcmp(list, natural, 4 * (cells / 64)) == 0, "the fixed places of order %zu", order);
-}
-
-static void check_store(const uint16_t *store, uint32_t used)
-{
-    for (size_t order = 0; order < ORDERS_COUNT; order++) {
-        size_t start = list_start(order, 0), numbers = 3 * list_length(order);
-        if ((used >> order & 1) == 0)
-            promise(memcmp(store + start, natural_store + start, 2 * numbers) == 0,
-                    "order %zu is natural", order);
-        for (size_t channel = 0; channel < 3 && (used >> order & 1) != 0; channel++)
-            check_list(store, order, channel);
-    }
+    if (memcmp(store, due, NETBUFF_STORE_LENGTH * sizeof *store) == 0)
+        return;
+    for (size_t number = 0; number < NETBUFF_STORE_LENGTH; number++)
+        promise(store[number] == due[number], "number %zu of the store is %d where %d is due", number,
+                store[number], due[number]);
 }
 
 void host_orders(struct input *in)
 {
+    static uint16_t due_store[NETBUFF_STORE_LENGTH];
     size_t length, symbols_length, due_read = 0;
     const uint8_t *bytes = lend_bytes(in, &length);
     uint64_t place = 0;
@@ -162,11 +122,11 @@ void host_orders(struct input *in)
     else if (!whole)
         due = (struct answer){3, place, 0};
     else
-        due = walk_symbols(used, symbols, symbols_length, &due_read);
+        due = expect_orders(used, symbols, symbols_length, &due_read, due_store);
     answered((struct answer){refused, *x, *y}, due);
-    promise(*read == (due.number == 0 ? due_read : 0), "%zu symbols read", *read);
+    promise(*read == due_read, "%zu symbols read where %zu are due", *read, due_read);
     if (due.number == 0)
-        check_store(store, used);
+        check_store(store, due_store);
     else if (due.number == 13 || due.number == 15)
         is_cleared(store);
     else

@@ -5,6 +5,7 @@
 #include "netbuff.h"
 
 #include <stdlib.h>
+#include <string.h>
 
 enum plant {
     NONE,
@@ -21,7 +22,22 @@ enum plant {
     STORE_KEPT,
     LOG_BEHIND,
     GRID_AFTER_14,
-    ONE_SYMBOL_MORE
+    ONE_SYMBOL_MORE,
+    SIGMA_BIT,
+    HF_MUL_MORE,
+    TRANSFORM_ALIKE,
+    OUTSIDE_AS_OVERLAP,
+    BLOCK_BEFORE,
+    TURNED_OTHERWISE,
+    ORDER_OF_ITS_SIZE,
+    CELL_LEFT,
+    CELL_BESIDE,
+    OTHER_CLUSTER,
+    ACCEPTED_AS_17,
+    PLACES_SWAPPED,
+    CHANNEL_TWICE,
+    DIGIT_NOT_COUNTED,
+    OTHER_DEFAULT
 };
 
 /* The wrappers pass on what they are given, by these names and types of the header. */
@@ -48,6 +64,10 @@ uint32_t __wrap_netbuff_transform(uint32_t number, size_t *wide, size_t *high, s
     uint32_t refused = __real_netbuff_transform(number, wide, high, order, turn, x, y);
     if (planted() == POSITION_LEFT && refused != 0)
         *x = before;
+    if (planted() == TURNED_OTHERWISE && refused == 0)
+        *turn = !*turn;
+    if (planted() == ORDER_OF_ITS_SIZE && refused == 0 && *order == 1)
+        *order = 0;
     return planted() == NUMBER_19 && refused != 0 ? 19 : refused;
 }
 
@@ -77,6 +97,18 @@ uint32_t __wrap_netbuff_cut(size_t bw, size_t bh, const uint8_t *kinds, size_t k
     return refused;
 }
 
+/* An accepted layout that is another: in its strengths, multipliers or transforms. */
+static void spoil_layout(uint8_t *kinds, int32_t *hf_mul, float *sigma, size_t blocks)
+{
+    uint32_t bits;
+    memcpy(&bits, &sigma[blocks - 1], sizeof bits);
+    bits ^= planted() == SIGMA_BIT && bits != 0;
+    memcpy(&sigma[blocks - 1], &bits, sizeof bits);
+    hf_mul[0] += planted() == HF_MUL_MORE && hf_mul[0] < INT32_MAX;
+    if (planted() == TRANSFORM_ALIKE && kinds[0] == 2)
+        kinds[0] = 3;
+}
+
 uint32_t __wrap_netbuff_layout(uint32_t width, uint32_t height, uint32_t mode0, uint32_t mode1,
                                uint32_t mode2, const int32_t *types, size_t types_length,
                                const int32_t *muls, size_t muls_length, const int32_t *sharpness,
@@ -95,7 +127,10 @@ uint32_t __wrap_netbuff_layout(uint32_t width, uint32_t height, uint32_t mode0, 
         hf_mul[hf_mul_length - 1] = 1;
     if (planted() == NO_LAYOUT && refused == 0)
         kinds[kinds_length - 1] = 0;
-    return refused;
+    if (refused == 0)
+        spoil_layout(kinds, hf_mul, sigma, kinds_length);
+    *x -= planted() == BLOCK_BEFORE && refused == 5 && *x > 0;
+    return planted() == OUTSIDE_AS_OVERLAP && refused == 9 ? 8 : refused;
 }
 
 uint32_t __wrap_netbuff_block_context(const uint8_t *bytes, size_t bytes_length, uint32_t num_clusters,
@@ -110,7 +145,22 @@ uint32_t __wrap_netbuff_block_context(const uint8_t *bytes, size_t bytes_length,
                                                     qf_thresholds, block_ctx_map, bits_read, x, y);
     if (planted() == UNUSED_PLACE && lengths[3] < 15)
         qf_thresholds[14] = 1;
+    if (planted() == OTHER_DEFAULT && refused == 0 && (bytes[0] & 1) != 0)
+        block_ctx_map[2] = 3;
     return refused;
+}
+
+/* Order 0, which is used, has two places swapped, or its list of channel 0 for channel 1 too. */
+static void spoil_order_0(uint16_t *store)
+{
+    enum { LIST = 2 * 64 };
+    uint16_t *last = store + LIST - 2, before[2] = {last[-2], last[-1]};
+    if (planted() == PLACES_SWAPPED) {
+        memcpy(last - 2, last, sizeof before);
+        memcpy(last, before, sizeof before);
+    }
+    if (planted() == CHANNEL_TWICE)
+        memcpy(store + LIST, store, LIST * sizeof *store);
 }
 
 uint32_t __wrap_netbuff_orders(const uint8_t *bytes, size_t bytes_length, const uint32_t *symbols,
@@ -121,7 +171,41 @@ uint32_t __wrap_netbuff_orders(const uint8_t *bytes, size_t bytes_length, const 
                                              store_length, symbols_read, x, y);
     if (planted() == STORE_KEPT && refused == 15)
         store[store_length - 1] = 1;
+    *x -= planted() == DIGIT_NOT_COUNTED && refused == 13;
+    if (refused == 0 && (bytes[0] & 3) < 2)
+        spoil_order_0(store);
     return refused;
+}
+
+/* What the first grid held before the call. */
+static int32_t grid_before[64 * 32 * 32];
+
+static bool grid_is_noted(size_t length)
+{
+    return length <= sizeof grid_before / sizeof grid_before[0];
+}
+
+/* The last coefficient of the first grid is not added, or added to the cell behind its own. */
+static void misplace(int32_t *grid, size_t length)
+{
+    for (size_t cell = length - 1; cell > 0; cell--) {
+        uint32_t gain = (uint32_t)grid[cell - 1] - (uint32_t)grid_before[cell - 1];
+        if (gain == 0)
+            continue;
+        grid[cell - 1] = grid_before[cell - 1];
+        if (planted() == CELL_BESIDE)
+            grid[cell] = (int32_t)((uint32_t)grid[cell] + gain);
+        return;
+    }
+}
+
+/* The log's last byte is another one of the cluster map. */
+static void log_other(uint8_t *last, const uint8_t *cluster_map, size_t length)
+{
+    size_t entry = 0;
+    while (entry + 1 < length && cluster_map[entry] == *last)
+        entry++;
+    *last = cluster_map[entry];
 }
 
 uint32_t __wrap_netbuff_coefficients(
@@ -135,6 +219,8 @@ uint32_t __wrap_netbuff_coefficients(
     int32_t *grid0, size_t grid0_length, int32_t *grid1, size_t grid1_length, int32_t *grid2,
     size_t grid2_length, size_t *symbols_read, size_t *x, size_t *y)
 {
+    if (grid_is_noted(grid0_length))
+        memcpy(grid_before, grid0, grid0_length * sizeof grid0[0]);
     uint32_t refused = __real_netbuff_coefficients(
         wide, high, kinds, kinds_length, hf_mul, hf_mul_length, num_block_clusters, lengths,
         lf_thresholds, qf_thresholds, block_ctx_map, lf_there, lf0, lf0_length, lf1, lf1_length, lf2,
@@ -147,5 +233,14 @@ uint32_t __wrap_netbuff_coefficients(
         grid1[grid1_length - 1] ^= 1;
     if (planted() == ONE_SYMBOL_MORE && refused == 0)
         ++*symbols_read;
+    if ((planted() == CELL_LEFT || planted() == CELL_BESIDE) && refused == 0)
+        misplace(grid0, grid0_length);
+    if (planted() == OTHER_CLUSTER && refused == 0 && presets == 1)
+        log_other(&log[*symbols_read - 1], cluster_map, cluster_map_length);
+    if (planted() == ACCEPTED_AS_17 && refused == 0) {
+        *x = *symbols_read;
+        *symbols_read = 0;
+        return 17;
+    }
     return refused;
 }

@@ -21,9 +21,8 @@ void host_transform(struct input *in)
     }
     struct sides sides = transform_sides[number];
     promise(*wide == sides.wide && *high == sides.high, "sides of transform %u", number);
-    promise(*order < ORDERS_COUNT, "an order below 13, not %zu", *order);
-    struct sides cells = order_sides[*order];
-    promise(64 * sides.wide * sides.high == cells.wide * cells.high, "the order has its size");
+    promise(*order == transform_order[number], "order %zu of transform %u", *order, number);
+    promise(turns == transform_turns(number), "turn %d of transform %u", turns, number);
 }
 
 void host_unpack_signed(struct input *in)
