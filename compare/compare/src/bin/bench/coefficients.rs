@@ -73,7 +73,7 @@ fn bench(orders: &'static OrdersAndStore, name: &str, group: Layout, sparseness:
 
 /// The same where the Rust too looks at every stored place first, as document 01 asks of the call.
 fn checked(orders: &'static OrdersAndStore, name: &str, group: Layout, sparseness: usize) -> Bench {
-    let name = format!("{name}, both with stored places");
+    let name = format!("{name}, places in both");
     row(orders, name, group, sparseness, || {
         places_inside(&orders.store)
     })
