@@ -1,11 +1,11 @@
-use calls::{CutCall, Layout};
+use calls::{AlikeCall, CutCall, Layout};
 use compare::cases::fill;
 use compare::rng::Rng;
 
 use crate::measure::{plain, Bench};
 
 /// The check of a lent layout, by way of a cut: of a group that is the whole layout, and of the
-/// largest layout. The Rust has no such check.
+/// largest layout; and likeness, of a layout to itself. The Rust has no such calls.
 pub fn benches() -> Vec<Bench> {
     let mut rng = Rng::new(5);
     let mut mixed = |side| fill(&mut rng, side, side, None).layout;
@@ -13,17 +13,22 @@ pub fn benches() -> Vec<Bench> {
         bench("cut, 32 x 32 blocks, mixed", mixed(32)),
         bench("cut, 256 x 256 blocks, mixed", mixed(256)),
         bench("cut, 256 x 256 blocks, Dct8", dct8(256)),
+        likeness("likeness, 256 x 256 blocks, mixed", mixed(256)),
     ]
 }
 
-/// Layouts of growing sides, of which the first group is cut.
+/// Layouts of growing sides: the first group is cut, and each is held against itself.
 pub fn growth() -> Vec<Bench> {
+    const SIDES: [usize; 4] = [32, 64, 128, 256];
     let mut rng = Rng::new(5);
-    let mut row = |side| {
-        let layout = fill(&mut rng, side, side, None).layout;
-        bench(&format!("cut, {side} x {side} blocks, mixed"), layout)
+    let layouts = SIDES.map(|side| fill(&mut rng, side, side, None).layout);
+    let name = |call: &str, layout: &Layout| {
+        let (wide, high) = (layout.wide, layout.high);
+        format!("{call}, {wide} x {high} blocks, mixed")
     };
-    [32, 64, 128, 256].map(&mut row).into()
+    let cuts = layouts.clone().map(|l| bench(&name("cut", &l), l));
+    let alike = layouts.map(|l| likeness(&name("likeness", &l), l));
+    cuts.into_iter().chain(alike).collect()
 }
 
 fn dct8(side: usize) -> Layout {
@@ -50,6 +55,18 @@ fn bench(name: &str, layout: Layout) -> Bench {
         name: name.into(),
         units,
         ours: plain(move || ours::cut_into(&call, &mut buffers)),
+        rust: None,
+    }
+}
+
+fn likeness(name: &str, layout: Layout) -> Bench {
+    let units = (layout.blocks(), "block");
+    let (left, right) = (layout.clone(), layout);
+    let call = AlikeCall { left, right };
+    Bench {
+        name: name.into(),
+        units,
+        ours: plain(move || ours::alike(&call).answer),
         rust: None,
     }
 }
