@@ -9,7 +9,6 @@ use native.Mathlib.Omega.{arith}
 use lib.Dec.{leb, eqb}
 use lib.ListN.{length, getD, take, length-map, length-take, getD-replicate}
 use lib.Seq.{take-suc, getD-take, length-take-le}
-use lib.Ieee.{Float}
 use borrow.Author.Tests.{le-leb, lt-leb, eqb-true, eqb-false, eq-eqb}
 use Rattle.laws.specs.Cases.{eq-or-ne, le-or-lt, and-true}
 use Rattle.dct_select.specs.Transforms.{wide, high}
@@ -245,7 +244,7 @@ module _ (J : Job) (n : ℕ) (types muls : List ℕ) (long : n ≤ length types)
   unfolding reading Beside
   reads-same p e l = (rw e at (beside (visit J) (visit other) (J .bw) (J .bh) Beside step turn (Going (start J)) (Going (start J)) (begun J, λ l. refl))) .1 l
 
-module _ (i : Inputs) (kinds hfMul : List ℕ) (sigma : List Float) where
+module _ (i : Inputs) (kinds hfMul sigma : List ℕ) where
   abbrev outcome : Outcome
   outcome = layoutOf i kinds hfMul sigma
 

@@ -7,7 +7,6 @@ use Prim.Native.Nat.{ℕ, _+_, _*_, _-_, _%_, _^_, _≤_, _<_}
 use native.Mathlib.Omega.{arith}
 use lib.Dec.{T, ltb, leb, leb→le, ltb→lt}
 use lib.ListN.{length, getD, set, length-set}
-use lib.Ieee.{Float}
 use lib.Ieee.Fits.{and-l, and-r}
 use borrow.Author.Tests.{ltb-false, leb-false, not-false}
 use Rattle.laws.specs.Cases.{eq-or-ne}
@@ -76,7 +75,7 @@ module _ (J : Job) (x y : ℕ) (p q : Placed) (lk : length (p .kinds) ≡ J .bh 
     scanned : Scan
     scanned = scan (J .bw) (J .bh) (dividedFilter (J .filter) h) (J .lookups) (J .sharpness) x y (wide t) (high t) (Taking (p .kinds) (p .sigma))
 
-    put : (k : List ℕ) (s : List Float) → scanned ≡ Taking k s
+    put : (k s : List ℕ) → scanned ≡ Taking k s
         → q ≡ record { used = p .used + 1; kinds = set k (y * J .bw + x) (2 + t); muls = set (p .muls) (y * J .bw + x) h; sigma = s } → Column J x y p q t h
     unfolding scanned
     put k s f g = record {

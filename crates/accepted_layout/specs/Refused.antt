@@ -16,7 +16,7 @@ use Rattle.layout.specs.Walk.{forward}
 use Rattle.layout.specs.Grid.{at}
 use Rattle.lf_group.specs.Blocks.{sizeFits}
 use Rattle.filter_strength.specs.declared.Filter.{Filter}
-use Rattle.filter_strength.specs.Strength.{zero32, dividedFilter}
+use Rattle.filter_strength.specs.Strength.{dividedFilter}
 use Rattle.layout_column.specs.Columns.{lowEight, hfMulOf, positive}
 use Rattle.layout_reading.specs.Scan.{Scan, Taking, Left, isOn, takeCell, scan}
 use Rattle.layout_reading.specs.Reading.{Job, Placed, Reading, Going, Stopped, refuseIf, placed, place, placeIn, judge, column, visit, start, reading}
@@ -134,7 +134,7 @@ module _ (J : Job) where
   unfolding reading Sound
   read-stops r e = rw e at (forward (visit J) (J .bw) (J .bh) Sound step turn (Going (start J)) (begun J))
 
-module _ (i : Inputs) (kinds hfMul : List ℕ) (sigma : List Float) where
+module _ (i : Inputs) (kinds hfMul sigma : List ℕ) where
   abbrev outcome : Outcome
   outcome = layoutOf i kinds hfMul sigma
 
@@ -151,7 +151,7 @@ module _ (i : Inputs) (kinds hfMul : List ℕ) (sigma : List Float) where
     pub free : AtFree (jobOf i) r
     pub kindsZero : outcome .kinds ≡ replicate (bhOf i * bwOf i) 0
     pub hfMulZero : outcome .hfMul ≡ replicate (bhOf i * bwOf i) 0
-    pub sigmaZero : outcome .sigma ≡ replicate (bhOf i * bwOf i) zero32
+    pub sigmaZero : outcome .sigma ≡ replicate (bhOf i * bwOf i) 0
 
   pub data Refuses (r : Said) : Type 0 where
     size : sizeFits (i .width) (i .height) ≡ false → BeforeWork 2 r → Refuses r

@@ -4,7 +4,6 @@ use mathlib.Core.Bool.{Bool, true, false}
 use mathlib.Core.List.{List}
 use Prim.Native.Nat.{ℕ, _*_, _<_}
 use native.Mathlib.Omega.{arith}
-use lib.Ieee.{Float}
 use Rattle.refusal.specs.Said as refusals
 use Rattle.lf_group.specs.Blocks.{sizeFits, wideIn, highIn}
 use Rattle.layout.specs.Grid.{at}
@@ -25,7 +24,7 @@ bwOf i = wideIn (i .width) (i .modes)
 abbrev pub bhOf : Inputs → ℕ
 bhOf i = highIn (i .height) (i .modes)
 
-module _ (i : Inputs) (kinds hfMul : List ℕ) (sigma : List Float) where
+module _ (i : Inputs) (kinds hfMul sigma : List ℕ) where
   -- the call's outcome
   abbrev pub outcome : Outcome
   outcome = layoutOf i kinds hfMul sigma

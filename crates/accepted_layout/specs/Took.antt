@@ -35,15 +35,15 @@ pub record CellTook (bw bh cx cy : ℕ) (k k′ : List ℕ) : Type 0 where
   pub free : at k bw cx cy ≡ 0
   pub now : k′ ≡ set k (cy * bw + cx) 1
 
-pub passed : (b : Bool) (n cx cy : ℕ) (t : Scan) (k : List ℕ) (s : List Float) → cond b (Left n cx cy) t ≡ Taking k s → (b ≡ false) × (t ≡ Taking k s)
+pub passed : (b : Bool) (n cx cy : ℕ) (t : Scan) (k s : List ℕ) → cond b (Left n cx cy) t ≡ Taking k s → (b ≡ false) × (t ≡ Taking k s)
 passed true n cx cy t k s e = absurd (let z : _≡_ {A = ℕ} 0 1 = cc in omega arith)
 passed false n cx cy t k s e = (refl, e)
 
-same-kinds : (k k′ : List ℕ) (s s′ : List Float) → Taking k s ≡ Taking k′ s′ → k ≡ k′
+same-kinds : (k k′ s s′ : List ℕ) → Taking k s ≡ Taking k′ s′ → k ≡ k′
 same-kinds k k′ s s′ e = cc
 
 module _ (bw bh : ℕ) (filter : Filter) (lookups : List Float) (sharpness : List ℕ) where
-  pub cell-took : (cx cy : ℕ) (k k′ : List ℕ) (s s′ : List Float) → takeCell bw bh filter lookups sharpness cx cy (Taking k s) ≡ Taking k′ s′ → CellTook bw bh cx cy k k′
+  pub cell-took : (cx cy : ℕ) (k k′ s s′ : List ℕ) → takeCell bw bh filter lookups sharpness cx cy (Taking k s) ≡ Taking k′ s′ → CellTook bw bh cx cy k k′
   unfolding takeCell
   cell-took cx cy k k′ s s′ e =
       let p1 = passed (leb bw cx) 9 cx cy _ k′ s′ e in
@@ -172,12 +172,12 @@ module _ (bw bh : ℕ) (filter : Filter) (lookups : List Float) (sharpness : Lis
         none i j (inl g) = omega arith
         none i j (inr g) = omega arith
 
-    ended : (s s′ : List Float) (k′ : List ℕ) → length k ≡ bh * bw → scan bw bh filter lookups sharpness x y w h (Taking k s) ≡ Taking k′ s′ → Sofar 0 h k′
+    ended : (s s′ k′ : List ℕ) → length k ≡ bh * bw → scan bw bh filter lookups sharpness x y w h (Taking k s) ≡ Taking k′ s′ → Sofar 0 h k′
     unfolding scan Sound
     ended s s′ k′ e f = rw f at (forward (λ (dx dy : ℕ). takeCell bw bh filter lookups sharpness (x + dx) (y + dy)) w h Sound step turn (Taking k s) (started e))
 
     -- by cells of the grid
-    pub took : (s s′ : List Float) (k′ : List ℕ) → length k ≡ bh * bw → scan bw bh filter lookups sharpness x y w h (Taking k s) ≡ Taking k′ s′
+    pub took : (s s′ k′ : List ℕ) → length k ≡ bh * bw → scan bw bh filter lookups sharpness x y w h (Taking k s) ≡ Taking k′ s′
         → Took bw bh (at k bw) (at k′ bw) x y w h × (length k′ ≡ bh * bw)
     took s s′ k′ e f = (
       record {

@@ -4,7 +4,6 @@ use mathlib.Core.Bool.{Bool, true, false, cond, not}
 use mathlib.Core.List.{List}
 use Prim.Native.Nat.{ℕ, _≤_}
 use native.Mathlib.Omega.{arith}
-use lib.Ieee.{Float}
 use borrow.Author.Tests.{le-leb}
 use Rattle.lf_group.specs.declared.Blocks.{Blocks}
 use Rattle.lf_group.specs.Blocks.{sizeFits, modesFit, wideIn, highIn, blocksOf}
@@ -25,7 +24,7 @@ abbrev pub answerBy : Step → LayoutAnswer
 answerBy (GoesOn used) = Accepted used
 answerBy (Stops r) = Refused r
 
-hands-on : (s : Step) (k m : List ℕ) (g : List Float) → leaves (answerBy s) k m g ≡ handed s k m g
+hands-on : (s : Step) (k m g : List ℕ) → leaves (answerBy s) k m g ≡ handed s k m g
 hands-on (GoesOn used) k m g = refl
 hands-on (Stops r) k m g = refl
 
@@ -33,7 +32,7 @@ turned : (t : Bool) (x y : Outcome) → cond t x y ≡ cond (not t) y x
 turned true x y = refl
 turned false x y = refl
 
-module _ (i : Inputs) (k m : List ℕ) (g : List Float) where
+module _ (i : Inputs) (k m g : List ℕ) where
   pub call-size : sizeFits (i .width) (i .height) ≡ false → refuseWith i k m g 2 ≡ layoutOf i k m g
   unfolding layoutOf
   call-size a = rw a
@@ -58,7 +57,7 @@ module _ (i : Inputs) (k m : List ℕ) (g : List Float) where
             (rw (p, q, r) (turned (lengthsFit i k m g) (outcomeOf (jobOf i) (reading (jobOf i))) (refuseWith i k m g 1)))
 
         pub call-reads : (blocks : Blocks) (f : Filter) → blocks ≡ blocksOf (i .width) (i .height) (i .modes) → f ≡ scaledFilter (i .filter) (i .scale)
-            → (r : LayoutAnswer) (s : Step) (k′ m′ : List ℕ) (g′ : List Float) → r ≡ answerBy s
+            → (r : LayoutAnswer) (s : Step) (k′ m′ g′ : List ℕ) → r ≡ answerBy s
             → handed s k′ m′ g′ ≡ readOf (jobWith (blocks .bw) (blocks .bh) (i .types) (i .muls) (i .sharpness) f (i .lookups)) k m g
             → leaves r k′ m′ g′ ≡ layoutOf i k m g
         call-reads blocks f p q r s k′ m′ g′ e h =

@@ -22,7 +22,7 @@ fn answer(step: Step) -> LayoutAnswer
     }
 }
 
-// Places the columns (type, mul) on the blocks of an LF group of width x height pixels.
+// Places the columns (type, mul) on the blocks of an LF group of width x height pixels. sigma takes bit patterns of f32.
 pub fn layout(
     width: u32,
     height: u32,
@@ -35,7 +35,7 @@ pub fn layout(
     scale: u32,
     kinds: &mut [u8],
     hf_mul: &mut [u32],
-    sigma: &mut [f32],
+    sigma: &mut [u32],
 ) -> LayoutAnswer
     ensures { λ r. ⌜ leaves r (now (kinds .exit)) (now («hf_mul» .exit)) (now (sigma .exit)) ≡ layoutOf (inputs width height modes (now (types .entry)) (now (muls .entry)) (now (sharpness .entry)) filter lookups scale) (now (kinds .entry)) (now («hf_mul» .entry)) (now (sigma .entry)) ⌝ }
 {

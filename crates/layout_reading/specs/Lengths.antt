@@ -5,7 +5,6 @@ use mathlib.Core.List.{List}
 use Prim.Native.Nat.{ℕ, _*_, _≤_, _<_}
 use lib.Dec.{T, eqb, eqb→eq}
 use lib.ListN.{length}
-use lib.Ieee.{Float}
 use lib.Ieee.Fits.{and-l, and-r}
 use borrow.Author.Tests.{le-leb, lt-leb}
 use Rattle.refusal.specs.declared.Refusal.{Refusal}
@@ -13,7 +12,7 @@ use Rattle.refusal.specs.declared.Refusal.the-variants.{Length}
 use Rattle.layout.specs.Walk.{walk}
 use Rattle.layout_reading.specs.declared.column.Step.{Step}
 use Rattle.layout_reading.specs.declared.column.Step.the-variants.{Going as GoesOn, Stopped as Stops}
-use Rattle.layout_reading.specs.Reading.{Job, Going, visit, zeros, zeroSigma, reading, stateOf, stepped}
+use Rattle.layout_reading.specs.Reading.{Job, Going, visit, zeros, reading, stateOf, stepped}
 use Rattle.layout_reading.specs.Outcome.{handed, outcomeOf, fits, readOf}
 use Rattle.layout_counts.specs.Counts.{countsFit}
 
@@ -40,7 +39,7 @@ counts types muls sharpness kinds hfMul sigma n e =
     }
 
 -- one law for each way out of the reading
-module _ (J : Job) (k m : List ℕ) (s : List Float) where
+module _ (J : Job) (k m s : List ℕ) where
   refused : fits J k m s ≡ false → handed (Stops Length) k m s ≡ readOf J k m s
   unfolding readOf
   refused e = rw e
@@ -64,7 +63,7 @@ module _ (J : Job) (k m : List ℕ) (s : List Float) where
       read-works c = rw (le-leb (J .bw) 256 a, le-leb (J .bh) 256 b, c)
 
 -- the blocks visited from cleared buffers
-module _ (J : Job) (t : Step) (k m k′ m′ : List ℕ) (g g′ : List Float) (zk : k ≡ zeros J) (zm : m ≡ zeros J) (zg : g ≡ zeroSigma J)
+module _ (J : Job) (t : Step) (k m k′ m′ g g′ : List ℕ) (zk : k ≡ zeros J) (zm : m ≡ zeros J) (zg : g ≡ zeros J)
     (e : stepped t k′ m′ g′ ≡ walk (visit J) (J .bw) (J .bh) (Going (stateOf 0 k m g))) where
   read-all : stepped t k′ m′ g′ ≡ reading J
   unfolding reading
@@ -73,6 +72,6 @@ module _ (J : Job) (t : Step) (k m k′ m′ : List ℕ) (g g′ : List Float) (
   pub read-accepts : (used : ℕ) → t ≡ GoesOn used → handed t k′ m′ g′ ≡ outcomeOf J (reading J)
   read-accepts used d = ap (λ (z : Step). handed z k′ m′ g′) d ∙ ap (outcomeOf J) (sym (ap (λ (z : Step). stepped z k′ m′ g′) d) ∙ read-all)
 
-  pub read-refuses : (r : Refusal) (ck cm : List ℕ) (cg : List Float) → t ≡ Stops r → ck ≡ zeros J → cm ≡ zeros J → cg ≡ zeroSigma J
+  pub read-refuses : (r : Refusal) (ck cm cg : List ℕ) → t ≡ Stops r → ck ≡ zeros J → cm ≡ zeros J → cg ≡ zeros J
       → handed (Stops r) ck cm cg ≡ outcomeOf J (reading J)
   read-refuses r ck cm cg d a b c = rw (a, b, c) (ap (outcomeOf J) (sym (ap (λ (z : Step). stepped z k′ m′ g′) d) ∙ read-all))

@@ -4,13 +4,12 @@ use mathlib.Core.List.{List}
 use Prim.Native.Nat.{ℕ, _*_}
 use lib.Dec.{leb}
 use lib.ListN.{length}
-use lib.Ieee.{Float}
 use Rattle.refusal.specs.declared.Said.{Said}
 use Rattle.refusal.specs.Said as refusals
 use Rattle.layout_counts.specs.Counts.{countsFit}
 use Rattle.layout_reading.specs.declared.column.Step.{Step}
 use Rattle.layout_reading.specs.declared.column.Step.the-variants.{Going as GoesOn, Stopped as Stops}
-use Rattle.layout_reading.specs.Reading.{Job, Reading, Going, Stopped, zeros, zeroSigma, reading}
+use Rattle.layout_reading.specs.Reading.{Job, Reading, Going, Stopped, zeros, reading}
 
 -- accepted with the number of columns used, or refused with a number and a position
 pub data Answer : Type 0 where
@@ -21,22 +20,22 @@ pub record Outcome : Type 0 where
   pub answer : Answer
   pub kinds : List ℕ
   pub hfMul : List ℕ
-  pub sigma : List Float
+  pub sigma : List ℕ
 
-abbrev pub outcome : Answer → List ℕ → List ℕ → List Float → Outcome
+abbrev pub outcome : Answer → List ℕ → List ℕ → List ℕ → Outcome
 outcome answer kinds hfMul sigma = record { answer = answer; kinds = kinds; hfMul = hfMul; sigma = sigma }
 
 -- what the code answers and leaves
-abbrev pub handed : Step → List ℕ → List ℕ → List Float → Outcome
+abbrev pub handed : Step → List ℕ → List ℕ → List ℕ → Outcome
 handed (GoesOn used) kinds hfMul sigma = outcome (accepted used) kinds hfMul sigma
 handed (Stops r) kinds hfMul sigma = outcome (refused (refusals.said r)) kinds hfMul sigma
 
 -- 4 to 10 leave layout and sigma all zero
 abbrev pub outcomeOf : (J : Job) → Reading → Outcome
 outcomeOf J (Going p) = outcome (accepted (p .used)) (p .kinds) (p .muls) (p .sigma)
-outcomeOf J (Stopped r) = outcome (refused r) (zeros J) (zeros J) (zeroSigma J)
+outcomeOf J (Stopped r) = outcome (refused r) (zeros J) (zeros J) (zeros J)
 
-module _ (J : Job) (kinds hfMul : List ℕ) (sigma : List Float) where
+module _ (J : Job) (kinds hfMul sigma : List ℕ) where
   -- at most 256 blocks each way, and lent lengths that fit
   abbrev pub fits : Bool
   fits =

@@ -22,7 +22,7 @@ use Rattle.layout_reading.specs.Scan.{Scan, Taking, scan, scanned}
 use Rattle.layout_reading.specs.Reading.{Job, Placed, Reading, Going, Stopped, placed, place, placeIn, judge, column, visit, stepped}
 
 module _ (bw bh : ℕ) (filter : Filter) (lookups : List Float) (sharpness : List ℕ) (kind h w n x y : ℕ) (p : Placed) where
-  pub place-by : (f g : Scanned) (divided : Filter) (k : List ℕ) (s : List Float) → divided ≡ dividedFilter filter h
+  pub place-by : (f g : Scanned) (divided : Filter) (k s : List ℕ) → divided ≡ dividedFilter filter h
       → scanned f k s ≡ scan bw bh divided lookups sharpness x y w n (Taking (p .kinds) (p .sigma)) → f ≡ g
       → placed bw kind h x y p (scanned g k s) ≡ place bw bh filter lookups sharpness kind h w n x y p
   unfolding place
@@ -62,5 +62,5 @@ module _ (J : Job) (x y : ℕ) (p : Placed) where
         (ap byAsking e ∙ judge-by (lowEight (getD (J .types) (p .used) 0)) (hfMulOf (getD (J .muls) (p .used) 0)))
 
 -- a reading that was stopped stays so
-pub stop-stays : (J : Job) (s : Step) (r : Refusal) (k m : List ℕ) (g : List Float) → s ≡ Stops r → (a b : ℕ) → visit J a b (stepped s k m g) ≡ stepped s k m g
+pub stop-stays : (J : Job) (s : Step) (r : Refusal) (k m g : List ℕ) → s ≡ Stops r → (a b : ℕ) → visit J a b (stepped s k m g) ≡ stepped s k m g
 stop-stays J s r k m g e a b = rw e

@@ -13,7 +13,7 @@ use Rattle.dct_select.specs.Transforms.{wide, high}
 use Rattle.layout.specs.Walk.{walk}
 use Rattle.layout.specs.Grid.{at}
 use Rattle.filter_strength.specs.declared.Filter.{Filter}
-use Rattle.filter_strength.specs.Strength.{zero32, dividedFilter}
+use Rattle.filter_strength.specs.Strength.{dividedFilter}
 use Rattle.layout_column.specs.Columns.{lowEight, hfMulOf, checks}
 use Rattle.layout_reading.specs.Scan.{Scan, Taking, Left, scan}
 
@@ -28,12 +28,12 @@ pub record Job : Type 0 where
   pub filter : Filter
   pub lookups : List Float
 
--- columns used so far, and what they have placed: kinds, hf_mul, sigma
+-- columns used so far, and what they have placed: kinds, hf_mul, bit patterns of sigma
 pub record Placed : Type 0 where
   pub used : ℕ
   pub kinds : List ℕ
   pub muls : List ℕ
-  pub sigma : List Float
+  pub sigma : List ℕ
 
 pub data Reading : Type 0 where
   Going : Placed → Reading
@@ -81,17 +81,14 @@ module _ (J : Job) where
   abbrev pub zeros : List ℕ
   zeros = replicate (J .bh * J .bw) 0
 
-  abbrev pub zeroSigma : List Float
-  zeroSigma = replicate (J .bh * J .bw) zero32
-
   abbrev pub start : Placed
-  start = record { used = 0; kinds = zeros; muls = zeros; sigma = zeroSigma }
+  start = record { used = 0; kinds = zeros; muls = zeros; sigma = zeros }
 
   unfoldable pub reading : Reading
   reading = walk visit (J .bw) (J .bh) (Going start)
 
 -- the state and the job by their fields, as the code has them
-abbrev pub stateOf : ℕ → List ℕ → List ℕ → List Float → Placed
+abbrev pub stateOf : ℕ → List ℕ → List ℕ → List ℕ → Placed
 stateOf used kinds muls sigma = record { used = used; kinds = kinds; muls = muls; sigma = sigma }
 
 abbrev pub jobWith : ℕ → ℕ → List ℕ → List ℕ → List ℕ → Filter → List Float → Job
@@ -99,6 +96,6 @@ jobWith bw bh types muls sharpness filter lookups =
     record { bw = bw; bh = bh; types = types; muls = muls; sharpness = sharpness; filter = filter; lookups = lookups }
 
 -- a reading from what the code answers and what it left in kinds, hf_mul and sigma
-abbrev pub stepped : Step → List ℕ → List ℕ → List Float → Reading
+abbrev pub stepped : Step → List ℕ → List ℕ → List ℕ → Reading
 stepped (GoesOn used) kinds muls sigma = Going (stateOf used kinds muls sigma)
 stepped (Stops r) kinds muls sigma = Stopped (refusals.said r)

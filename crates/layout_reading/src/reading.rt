@@ -7,6 +7,7 @@ use refusal::Refusal;
 ghost use mathlib.Core.Path.{_≡_};
 ghost use Prim.Native.Nat.{_*_, _≤_};
 ghost use lib.ListN.{length};
+ghost use Rattle.filter_strength.specs.Finite.{Bounded};
 ghost use Rattle.layout.specs.Walk.{walk};
 ghost use Rattle.layout_reading.specs.Reading.{Going, visit as visitOf, reading as readingOf, stateOf, stepped, jobWith};
 ghost use Rattle.layout_reading.specs.Outcome.{handed, outcomeOf, readOf};
@@ -15,7 +16,7 @@ ghost use Rattle.layout_reading.specs.Outcome.{handed, outcomeOf, readOf
 fn read_blocks(
     kinds: &mut [u8],
     hf_mul: &mut [u32],
-    sigma: &mut [f32],
+    sigma: &mut [u32],
     types: &[u32],
     muls: &[u32],
     sharpness: &[u32],
@@ -24,7 +25,7 @@ fn read_blocks(
     bw: usize,
     bh: usize,
 ) -> Step
-    requires { ⌜ (length (now kinds) ≡ bh * bw) × (length (now «hf_mul») ≡ bh * bw) × (length (now sigma) ≡ bh * bw) × (length (now sharpness) ≡ bh * bw) × (length (now muls) ≡ length (now types)) × (bw ≤ 256) × (bh ≤ 256) ⌝ }
+    requires { ⌜ (length (now kinds) ≡ bh * bw) × (length (now «hf_mul») ≡ bh * bw) × (length (now sigma) ≡ bh * bw) × (length (now sharpness) ≡ bh * bw) × (length (now muls) ≡ length (now types)) × (bw ≤ 256) × (bh ≤ 256) × Bounded filter (now lookups) ⌝ }
     ensures { λ r. ⌜ stepped r (now (kinds .exit)) (now («hf_mul» .exit)) (now (sigma .exit)) ≡ walk (visitOf (jobWith bw bh (now (types .entry)) (now (muls .entry)) (now (sharpness .entry)) filter (now (lookups .entry)))) bw bh (Going (stateOf 0 (now (kinds .entry)) (now («hf_mul» .entry)) (now (sigma .entry)))) ⌝ }
 {
     let mut used = 0;
@@ -62,7 +63,7 @@ fn read_blocks(
 fn read_cleared(
     kinds: &mut [u8],
     hf_mul: &mut [u32],
-    sigma: &mut [f32],
+    sigma: &mut [u32],
     types: &[u32],
     muls: &[u32],
     sharpness: &[u32],
@@ -71,12 +72,12 @@ fn read_cleared(
     bw: usize,
     bh: usize,
 ) -> Step
-    requires { ⌜ (length (now kinds) ≡ bh * bw) × (length (now «hf_mul») ≡ bh * bw) × (length (now sigma) ≡ bh * bw) × (length (now sharpness) ≡ bh * bw) × (length (now muls) ≡ length (now types)) × (bw ≤ 256) × (bh ≤ 256) ⌝ }
+    requires { ⌜ (length (now kinds) ≡ bh * bw) × (length (now «hf_mul») ≡ bh * bw) × (length (now sigma) ≡ bh * bw) × (length (now sharpness) ≡ bh * bw) × (length (now muls) ≡ length (now types)) × (bw ≤ 256) × (bh ≤ 256) × Bounded filter (now lookups) ⌝ }
     ensures { λ r. ⌜ handed r (now (kinds .exit)) (now («hf_mul» .exit)) (now (sigma .exit)) ≡ outcomeOf (jobWith bw bh (now (types .entry)) (now (muls .entry)) (now (sharpness .entry)) filter (now (lookups .entry))) (readingOf (jobWith bw bh (now (types .entry)) (now (muls .entry)) (now (sharpness .entry)) filter (now (lookups .entry)))) ⌝ }
 {
     zeros::clear_u8(kinds);
     zeros::clear_u32(hf_mul);
-    zeros::clear_f32(sigma);
+    zeros::clear_u32(sigma);
     let step = read_blocks(
         kinds,
         hf_mul,
@@ -94,7 +95,7 @@ fn read_cleared(
     };
     zeros::clear_u8(kinds);
     zeros::clear_u32(hf_mul);
-    zeros::clear_f32(sigma);
+    zeros::clear_u32(sigma);
     Step::Stopped(why)
 }
 
@@ -102,7 +103,7 @@ fn read_cleared(
 pub fn read(
     kinds: &mut [u8],
     hf_mul: &mut [u32],
-    sigma: &mut [f32],
+    sigma: &mut [u32],
     types: &[u32],
     muls: &[u32],
     sharpness: &[u32],
@@ -111,6 +112,7 @@ pub fn read(
     bw: usize,
     bh: usize,
 ) -> Step
+    requires { ⌜ Bounded filter (now lookups) ⌝ }
     ensures { λ r. ⌜ handed r (now (kinds .exit)) (now («hf_mul» .exit)) (now (sigma .exit)) ≡ readOf (jobWith bw bh (now (types .entry)) (now (muls .entry)) (now (sharpness .entry)) filter (now (lookups .entry))) (now (kinds .entry)) (now («hf_mul» .entry)) (now (sigma .entry)) ⌝ }
 {
     if 256 < bw {

@@ -37,12 +37,12 @@ unfolding highIn
 few-high n h = omega arith
 
 -- the layout call as the code makes it, over cleared buffers
-pub listed-is : (w h : ℕ) (ts ms : List ℕ) (bw bh : ℕ) (sharpness kinds hfMul : List ℕ) (sigma lookups : List Float) → bw ≡ bwOf w → bh ≡ bhOf h
-    → sharpness ≡ replicate (bh * bw) 0 → kinds ≡ replicate (bh * bw) 0 → hfMul ≡ replicate (bh * bw) 0 → sigma ≡ replicate (bh * bw) zero32 → lookups ≡ replicate 8 zero32
+pub listed-is : (w h : ℕ) (ts ms : List ℕ) (bw bh : ℕ) (sharpness kinds hfMul sigma : List ℕ) (lookups : List Float) → bw ≡ bwOf w → bh ≡ bhOf h
+    → sharpness ≡ replicate (bh * bw) 0 → kinds ≡ replicate (bh * bw) 0 → hfMul ≡ replicate (bh * bw) 0 → sigma ≡ replicate (bh * bw) 0 → lookups ≡ replicate 8 zero32
     → layoutOf (inputs w h MODES ts ms sharpness Off lookups 1) kinds hfMul sigma ≡ outcome w h ts ms
 listed-is w h ts ms bw bh sharpness kinds hfMul sigma lookups p q a b c d e = rw (a, b, c, d, e, p, q)
 
-module _ (w h : ℕ) (ts ms : List ℕ) (bw bh : ℕ) (p : bw ≡ bwOf w) (q : bh ≡ bhOf h) (k m : List ℕ) (g : List Float) where
+module _ (w h : ℕ) (ts ms : List ℕ) (bw bh : ℕ) (p : bw ≡ bwOf w) (q : bh ≡ bhOf h) (k m g : List ℕ) where
   -- an accepted layout is listed
   pub record Accepts : Type 0 where
     pub lengthK : length k ≡ bh * bw
@@ -56,8 +56,8 @@ module _ (w h : ℕ) (ts ms : List ℕ) (bw bh : ℕ) (p : bw ≡ bwOf w) (q : b
       let a = sym (ap (λ (o : Outcome). o .answer) e) in
       let ek = ap (λ (o : Outcome). o .kinds) e in
       let em = ap (λ (o : Outcome). o .hfMul) e in
-      let l = accepted-layout (listed w h ts ms) (replicate n 0) (replicate n 0) (replicate n zero32) used a in
-      let r = accepted-area (listed w h ts ms) (replicate n 0) (replicate n 0) (replicate n zero32) used a in
+      let l = accepted-layout (listed w h ts ms) (replicate n 0) (replicate n 0) (replicate n 0) used a in
+      let r = accepted-area (listed w h ts ms) (replicate n 0) (replicate n 0) (replicate n 0) used a in
       record {
         lengthK = ap length ek ∙ l .kindsLength ∙ rw (p, q);
         lengthM = ap length em ∙ l .mulsLength ∙ rw (p, q);

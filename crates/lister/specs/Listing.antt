@@ -34,7 +34,7 @@ module _ (w h : ℕ) (ts ms : List ℕ) where
   listed = inputs w h MODES ts ms (replicate blocks 0) Off (replicate 8 zero32) 1
 
   abbrev pub outcome : Outcome
-  outcome = layoutOf listed (replicate blocks 0) (replicate blocks 0) (replicate blocks zero32)
+  outcome = layoutOf listed (replicate blocks 0) (replicate blocks 0) (replicate blocks 0)
 
   abbrev pub layoutText : List ℕ
   layoutText = textBy (bwOf w) (bhOf h) outcome (outcome .answer)

@@ -15,7 +15,6 @@ use Rattle.refusal.specs.declared.Said.{Said}
 use Rattle.layout.specs.Grid.{at}
 use Rattle.layout.specs.Valid.{Layout}
 use Rattle.layout.specs.Varblocks.{Varblock, varblocksOf, area, cornersRow, cornersFrom}
-use Rattle.filter_strength.specs.Strength.{zero32}
 use Rattle.hf_metadata.specs.Call.{Answer, accepted, refused}
 use Rattle.accepted_layout.specs.Theorems.{accepted-layout}
 use Rattle.text.specs.Decimal.{ten}
@@ -121,7 +120,7 @@ layout-most w h ts ms a b = go (outcome w h ts ms .answer) refl
     go (refused r) e = refused-most r
     go (accepted used) e =
         accepted-most (bwOf w) (bhOf h) (outcome w h ts ms .kinds) (outcome w h ts ms .hfMul)
-        (accepted-layout (listed w h ts ms) (replicate (blocks w h ts ms) 0) (replicate (blocks w h ts ms) 0) (replicate (blocks w h ts ms) zero32) used e) (few-wide w a) (few-high h b)
+        (accepted-layout (listed w h ts ms) (replicate (blocks w h ts ms) 0) (replicate (blocks w h ts ms) 0) (replicate (blocks w h ts ms) 0) used e) (few-wide w a) (few-high h b)
 
 -- no job's text is longer than 90,000 bytes
 pub text-most : (s : List ℕ) → length (textOf s) ≤ 90000

@@ -7,7 +7,6 @@ ghost use mathlib.Core.Path.{_≡_};
 ghost use mathlib.Core.List.{_++_};
 ghost use Prim.Native.Nat.{_*_, _≤_};
 ghost use lib.ListN.{length, getD, drop, replicate};
-ghost use Rattle.filter_strength.specs.Strength.{zero32};
 ghost use Rattle.text.specs.Text.{Puts};
 ghost use Rattle.lister_job.specs.Job.{width as widthOf, height as heightOf};
 ghost use Rattle.lister.specs.Texts.{BAD-INPUT};
@@ -31,11 +30,11 @@ fn list_layout(
     sharpness: &[u32],
     kinds: &mut [u8],
     hf_mul: &mut [u32],
-    sigma: &mut [f32],
+    sigma: &mut [u32],
     bw: usize,
     bh: usize,
 ) -> usize
-    requires { ⌜ (bw ≡ bwOf width) × (bh ≡ bhOf height) × (bw ≤ 64) × (bh ≤ 64) × (now sharpness ≡ replicate (bh * bw) 0) × (now kinds ≡ replicate (bh * bw) 0) × (now «hf_mul» ≡ replicate (bh * bw) 0) × (now sigma ≡ replicate (bh * bw) zero32) ⌝ }
+    requires { ⌜ (bw ≡ bwOf width) × (bh ≡ bhOf height) × (bw ≤ 64) × (bh ≤ 64) × (now sharpness ≡ replicate (bh * bw) 0) × (now kinds ≡ replicate (bh * bw) 0) × (now «hf_mul» ≡ replicate (bh * bw) 0) × (now sigma ≡ replicate (bh * bw) 0) ⌝ }
     ensures { λ r. ⌜ Puts (now (out .entry)) 0 (layoutText width height (now (types .entry)) (now (muls .entry))) (now (out .exit)) r ⌝ }
 {
     let answer = hf_metadata::layout(
@@ -68,9 +67,9 @@ fn list_buffers(
     sharpness: &[u32],
     kinds: &mut [u8],
     hf_mul: &mut [u32],
-    sigma: &mut [f32],
+    sigma: &mut [u32],
 ) -> usize
-    requires { ⌜ (width ≤ 512) × (height ≤ 512) × (now sharpness ≡ replicate 4096 0) × (now kinds ≡ replicate 4096 0) × (now «hf_mul» ≡ replicate 4096 0) × (now sigma ≡ replicate 4096 zero32) ⌝ }
+    requires { ⌜ (width ≤ 512) × (height ≤ 512) × (now sharpness ≡ replicate 4096 0) × (now kinds ≡ replicate 4096 0) × (now «hf_mul» ≡ replicate 4096 0) × (now sigma ≡ replicate 4096 0) ⌝ }
     ensures { λ r. ⌜ Puts (now (out .entry)) 0 (layoutText width height (now (types .entry)) (now (muls .entry))) (now (out .exit)) r ⌝ }
 {
     let blocks = lf_group::blocks_of(width, height, [0, 0, 0]);
@@ -100,7 +99,7 @@ fn list_columns(out: &mut [u8], width: u32, height: u32, types: &[u32], muls: &[
     let sharpness = [0u32; 4096];
     let mut kinds = [0u8; 4096];
     let mut hf_mul = [0u32; 4096];
-    let mut sigma = [0.0f32; 4096];
+    let mut sigma = [0u32; 4096];
     list_buffers(
         out,
         width,

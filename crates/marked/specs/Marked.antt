@@ -5,7 +5,7 @@ use mathlib.Core.List.{List, [], _∷_, _++_}
 use Prim.Native.Nat.{ℕ, _*_, _%_, _^_, _-_, _<_}
 use lib.IntN.{pos, negsuc}
 use lib.ListN.{length, getD, take, drop, replicate}
-use lib.Ieee.{Float, fin, le, lt, eq, mul, div, ofInt, round, size, span, climb, units, odd}
+use lib.Ieee.{Float, fin, le, lt, eq, mul, div, ofInt, toBits, round, size, span, climb, units, odd}
 use lib.Count.{trailingZeros}
 use Rattle.refusal.specs.declared.Refusal.the-variants.{Preset}
 use Rattle.refusal.specs.Said.{at}
@@ -16,7 +16,7 @@ use Rattle.layout.specs.Walk.{cells, rows}
 use Rattle.layout.specs.Varblocks.{varblock, varblocksOf, area}
 use Rattle.lf_group.specs.Blocks.{wideIn, highIn}
 use Rattle.filter_strength.specs.declared.Filter.the-variants.{On}
-use Rattle.filter_strength.specs.Strength.{zero32, nearest, scaledFilter, dividedFilter, m8}
+use Rattle.filter_strength.specs.Strength.{nearest, scaledFilter, dividedFilter, m8}
 use Rattle.filter_strength.specs.Limits.{inLimits}
 use Rattle.layout_reading.specs.Scan.{takeCell, scan}
 use Rattle.layout_reading.specs.Reading.{place, judge, column, reading}
@@ -46,7 +46,7 @@ M3 = (earlier : List ℕ) → length earlier ≡ 2 * PLACES
 
 -- M4 the lister's layout: 16 × 16 pixels and columns (6,4) (0,0) (0,2)
 abbrev pub M4 : Type 0
-M4 = (off 2 2 (6 ∷ 0 ∷ 0 ∷ []) (4 ∷ 0 ∷ 2 ∷ []) ≡ record { answer = accepted 3; kinds = 8 ∷ 2 ∷ 1 ∷ 2 ∷ []; hfMul = 5 ∷ 1 ∷ 0 ∷ 3 ∷ []; sigma = replicate 4 zero32 })
+M4 = (off 2 2 (6 ∷ 0 ∷ 0 ∷ []) (4 ∷ 0 ∷ 2 ∷ []) ≡ record { answer = accepted 3; kinds = 8 ∷ 2 ∷ 1 ∷ 2 ∷ []; hfMul = 5 ∷ 1 ∷ 0 ∷ 3 ∷ []; sigma = replicate 4 0 })
     × (varblocksOf 2 2 (8 ∷ 2 ∷ 1 ∷ 2 ∷ []) (5 ∷ 1 ∷ 0 ∷ 3 ∷ []) ≡ varblock 0 0 6 5 ∷ varblock 1 0 0 1 ∷ varblock 1 1 0 3 ∷ [])
     × (area (varblock 0 0 6 5 ∷ varblock 1 0 0 1 ∷ varblock 1 1 0 3 ∷ []) ≡ 4)
 
@@ -61,7 +61,7 @@ M6 = (off 32 1 (replicate 16 7) (replicate 16 0) .answer ≡ accepted 16) × (of
 -- the layout call over one block of type 0, filter on: multiplier, look-up number, scale, mul
 abbrev pub on : Float → Float → ℕ → ℕ → Outcome
 on multiplier look scale mul =
-    layoutOf (inputs 8 8 (0 ∷ 0 ∷ 0 ∷ []) (0 ∷ []) (mul ∷ []) (0 ∷ []) (On multiplier) (replicate 8 look) scale) (0 ∷ []) (0 ∷ []) (zero32 ∷ [])
+    layoutOf (inputs 8 8 (0 ∷ 0 ∷ 0 ∷ []) (0 ∷ []) (mul ∷ []) (0 ∷ []) (On multiplier) (replicate 8 look) scale) (0 ∷ []) (0 ∷ []) (0 ∷ [])
 
 -- 0.5, 1.0 and 2.0
 abbrev pub half : Float
@@ -73,9 +73,9 @@ one = fin false 1 (pos 0)
 abbrev pub two : Float
 two = fin false 1 (pos 1)
 
--- M7 multiplier 0.5, scale 32,768, hf_mul 4, look-up 2.0: 0.5
+-- M7 multiplier 0.5, scale 32,768, hf_mul 4, look-up 2.0: 0.5, by its bit pattern 3f000000
 abbrev pub M7 : Type 0
-M7 = on half two 32768 3 .sigma ≡ half ∷ []
+M7 = on half two 32768 3 .sigma ≡ 0x3f00_0000 ∷ []
 
 -- M8 hf_mul 16,777,217 becomes 16,777,216: as an f32 it is 2^24, and sigma is that of hf_mul 16,777,216
 abbrev pub M8 : Type 0
@@ -137,11 +137,11 @@ row6 : M6
 row6 = (m6, m6-refused)
 
 row7 : M7
-unfolding layoutOf wideIn highIn inLimits le lt eq reading column judge place scan takeCell rows cells wide high TRANSFORMS scaledFilter dividedFilter mul div ofInt round size span climb units odd trailingZeros
+unfolding layoutOf wideIn highIn inLimits le lt eq reading column judge place scan takeCell rows cells wide high TRANSFORMS scaledFilter dividedFilter mul div ofInt toBits round size span climb units odd trailingZeros
 row7 = refl
 
 sigma-same : on one one 1 16777216 .sigma ≡ on one one 1 16777215 .sigma
-unfolding layoutOf wideIn highIn inLimits le lt eq reading column judge place scan takeCell rows cells wide high TRANSFORMS scaledFilter dividedFilter mul div ofInt round size span climb units odd trailingZeros
+unfolding layoutOf wideIn highIn inLimits le lt eq reading column judge place scan takeCell rows cells wide high TRANSFORMS scaledFilter dividedFilter mul div ofInt toBits round size span climb units odd trailingZeros
 sigma-same = refl
 
 row8 : M8

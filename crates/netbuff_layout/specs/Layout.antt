@@ -38,17 +38,17 @@ pub record LayoutOut : Type 0 where
   pub answer : LayoutHanded
   pub kinds : List ℕ
   pub hfMul : List ℕ
-  pub sigma : List Float
+  pub sigma : List ℕ
 
-abbrev pub withLists : LayoutHanded → List ℕ → List ℕ → List Float → LayoutOut
+abbrev pub withLists : LayoutHanded → List ℕ → List ℕ → List ℕ → LayoutOut
 withLists h kinds hfMul sigma = record { answer = h; kinds = kinds; hfMul = hfMul; sigma = sigma }
 
-abbrev pub left : ℕ → ℕ → ℕ → ℕ → List ℕ → List ℕ → List Float → LayoutOut
+abbrev pub left : ℕ → ℕ → ℕ → ℕ → List ℕ → List ℕ → List ℕ → LayoutOut
 left n u x y kinds hfMul sigma = withLists (numbers n u x y) kinds hfMul sigma
 
 abbrev pub handedAll : Outcome → LayoutOut
 handedAll o = withLists (handedOut (o .answer)) (o .kinds) (o .hfMul) (o .sigma)
 
 -- the call's own answer, handed on
-pub handed-layout : (h : LayoutHanded) (a : LayoutAnswer) (k m : List ℕ) (g : List Float) (o : Outcome) → h ≡ handedOut (answered a) → leaves a k m g ≡ o → withLists h k m g ≡ handedAll o
+pub handed-layout : (h : LayoutHanded) (a : LayoutAnswer) (k m g : List ℕ) (o : Outcome) → h ≡ handedOut (answered a) → leaves a k m g ≡ o → withLists h k m g ≡ handedAll o
 handed-layout h a k m g o e f = ap (λ (z : LayoutHanded). withLists z k m g) e ∙ ap handedAll f

@@ -119,7 +119,7 @@ pub extern "C" fn netbuff_layout(
     scale: u32,
     kinds: &mut [u8],
     hf_mul: &mut [u32],
-    sigma: &mut [f32],
+    sigma: &mut [u32],
     used: &mut usize,
     x: &mut usize,
     y: &mut usize,

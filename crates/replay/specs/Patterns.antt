@@ -1,10 +1,9 @@
--- Patterns and floats that are no NaN.
+-- Patterns that are no NaN.
 use mathlib.Core.Path.{_≡_}
 use mathlib.Core.Bool.{Bool, true, false, not, _&&_}
 use Prim.Native.Nat.{ℕ, _/_, _%_}
-use native.Mathlib.Omega.{arith}
 use lib.Dec.{T, eqb}
-use lib.Ieee.{Float, nan, inf, fin, eq, binary32, nanBits, isNan}
+use lib.Ieee.{binary32, nanBits}
 use borrow.Author.Tests.{eq-eqb, ne-eqb}
 
 -- the exponent's field is not all ones
@@ -20,10 +19,3 @@ and-false false = tt
 pub no-nan-digits : (b : ℕ) → b % 8388608 ≡ 0 → T (not (nanBits binary32 b))
 unfolding nanBits
 no-nan-digits b h = rw (eq-eqb (b % 8388608) 0 h) (and-false (eqb (b % 2147483648 / 8388608) 255))
-
--- a NaN alone does not equal itself
-pub no-nan : (x : Float) → eq x x ≡ true → T (not (isNan x))
-unfolding eq isNan
-no-nan nan h = absurd (let z : _≡_ {A = ℕ} 0 1 = cc in omega arith)
-no-nan (inf s) h = tt
-no-nan (fin s m e) h = tt

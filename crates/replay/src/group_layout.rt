@@ -54,7 +54,7 @@ fn lay_out<'a>(
     sharpness: &'a [u32],
     kinds: &mut [u8],
     hf_mul: &mut [u32],
-    sigma: &mut [f32],
+    sigma: &mut [u32],
 ) -> LayoutAnswer {
     layout(
         number(words, 0),
@@ -76,7 +76,7 @@ fn make_call(
     words: &[u32],
     kinds: &mut [u8],
     hf_mul: &mut [u32],
-    sigma: &mut [f32],
+    sigma: &mut [u32],
 ) -> LayoutAnswer {
     lay_out(
         words,
@@ -89,17 +89,17 @@ fn make_call(
     )
 }
 
-fn put_left(out: &mut [usize; 48], kinds: &[u8], hf_mul: &[u32], sigma: &[f32]) {
+fn put_left(out: &mut [usize; 48], kinds: &[u8], hf_mul: &[u32], sigma: &[u32]) {
     out[4] = of_bytes(kinds);
     out[5] = of_words(hf_mul);
-    out[6] = floats::digest(sigma);
+    out[6] = of_words(sigma);
 }
 
 fn replay_in(
     words: &[u32],
     kinds: &mut [u8],
     hf_mul: &mut [u32],
-    sigma: &mut [f32],
+    sigma: &mut [u32],
     out: &mut [usize; 48],
 ) {
     put(out, make_call(words, kinds, hf_mul, sigma));
@@ -109,10 +109,10 @@ fn replay_in(
 pub(crate) fn replay(words: &[u32], out: &mut [usize; 48]) -> usize {
     let mut kinds = [0xa5u8; 1024];
     let mut hf_mul = [0x0bad_cafeu32; 1024];
-    let mut sigma = [-1.5f32; 1024];
+    let mut sigma = [0xbfc0_0000u32; 1024];
     let k = fit_bytes(&kinds, length(words, 16));
     let m = fit_words(&hf_mul, length(words, 17));
-    let s = floats::fit(&sigma, length(words, 18));
+    let s = fit_words(&sigma, length(words, 18));
     replay_in(
         words,
         &mut kinds[..k],

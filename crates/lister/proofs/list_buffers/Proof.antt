@@ -1,9 +1,7 @@
 use Rattle.lister.specs.ListSteps.{few-wide, few-high, few-blocks, cleared}
-use Rattle.filter_strength.specs.Strength.{zero32}
 use Rattle.lf_group.specs.declared.Blocks.{Blocks}
 use lib.Seq.{length-take-le}
 use lib.ListN.{length-replicate}
-use lib.Ieee.{Float}
 use mathlib.Core.Path.{refl}
 use borrow.Author.Needs.{needs}
 use native.Mathlib.Omega.{arith}
@@ -103,7 +101,7 @@ slice-relend-prefix-list-layout-3 c =
     let w : b .result .bw ≤ 64 = omega (arith, ew, few-wide (a .width) (h .0)) in
     let v : b .result .bh ≤ 64 = omega (arith, eh, few-high (a .height) (h .1)) in
     let m = few-blocks (b .result .bw) (b .result .bh) w v in
-    let l : length (a .sigma .now) ≡ 4096 = ap length (h .5) ∙ length-replicate {A = Float} 4096 zero32 in
+    let l : length (a .sigma .now) ≡ 4096 = ap length (h .5) ∙ length-replicate {A = ℕ} 4096 0 in
     omega arith
 
 slice-aggregate-list-layout-4 : tie.Need-slice-aggregate-list-layout-4
@@ -116,7 +114,7 @@ slice-aggregate-list-layout-4 c =
     let w : b .result .bw ≤ 64 = omega (arith, ew, few-wide (a .width) (h .0)) in
     let v : b .result .bh ≤ 64 = omega (arith, eh, few-high (a .height) (h .1)) in
     let m = few-blocks (b .result .bw) (b .result .bh) w v in
-    let l : length (a .sigma .now) ≡ 4096 = ap length (h .5) ∙ length-replicate {A = Float} 4096 zero32 in
+    let l : length (a .sigma .now) ≡ 4096 = ap length (h .5) ∙ length-replicate {A = ℕ} 4096 0 in
     sym (length-take-le (b .result .bh * b .result .bw) (a .sigma .now) (omega arith))
 
 list-layout-requires : tie.Need-list-layout-requires
@@ -129,7 +127,7 @@ list-layout-requires c κs =
     let w : b .result .bw ≤ 64 = omega (arith, ew, few-wide (a .width) (h .0)) in
     let v : b .result .bh ≤ 64 = omega (arith, eh, few-high (a .height) (h .1)) in
     let m = few-blocks (b .result .bw) (b .result .bh) w v in
-    (ew, eh, w, v, cleared 0 (a .sharpness .now) (b .result .bh * b .result .bw) (b .result .bh * b .result .bw) (h .2) m refl, cleared 0 (a .kinds .now) (b .result .bh * b .result .bw) (b .result .bh * b .result .bw) (h .3) m refl, cleared 0 (a .hf-mul .now) (b .result .bh * b .result .bw) (b .result .bh * b .result .bw) (h .4) m refl, cleared zero32 (a .sigma .now) (b .result .bh * b .result .bw) (b .result .bh * b .result .bw) (h .5) m refl)
+    (ew, eh, w, v, cleared 0 (a .sharpness .now) (b .result .bh * b .result .bw) (b .result .bh * b .result .bw) (h .2) m refl, cleared 0 (a .kinds .now) (b .result .bh * b .result .bw) (b .result .bh * b .result .bw) (h .3) m refl, cleared 0 (a .hf-mul .now) (b .result .bh * b .result .bw) (b .result .bh * b .result .bw) (h .4) m refl, cleared 0 (a .sigma .now) (b .result .bh * b .result .bw) (b .result .bh * b .result .bw) (h .5) m refl)
 
 same-length : tie.Need-same-length
 same-length c = search needs

@@ -1,9 +1,5 @@
-use Rattle.zeros.specs.Filled.{zero-bits}
-use lib.ListN.{replicate}
-use lib.Ieee.{Float}
 use mathlib.Core.Path.{refl}
 use borrow.Author.Needs.{needs}
-use mathlib.Core.Path.{ap}
 use Rattle.lister.proofs.list_columns.Statement.{statement}
 use Rattle.lister.proofs.list_columns.Tie as tie
 
@@ -22,7 +18,7 @@ slice-aggregate-list-buffers-4 c = search needs
 list-buffers-requires : tie.Need-list-buffers-requires
 list-buffers-requires c κs =
     let h = c .before .before .before .before .before .before .before .before .pre in
-    (h .0, h .1, refl, refl, refl, ap (λ (z : Float). replicate 4096 z) zero-bits)
+    (h .0, h .1, refl, refl, refl, refl)
 
 same-length : tie.Need-same-length
 same-length c = search needs

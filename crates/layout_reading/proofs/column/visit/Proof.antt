@@ -59,8 +59,9 @@ enum-known-judged-2 c = search needs
 place-requires : tie.Need-place-requires
 place-requires c κs =
     let a = c .before .before .before .before .before .before .before .before .before .before .before .before .before .before .before .before .before .before .args in
+    let h = c .before .before .before .before .before .before .before .before .before .before .before .before .before .before .before .before .before .before .pre in
     let m = asks-most (lowEight (getD (a .types .now) (a .used) 0)) (hfMulOf (getD (a .muls .now) (a .used) 0)) (a .x) (a .y) _ (sym (c .before .before .before .before .before .before .judge .ensures) ∙ ap saidJudged (c .before .before .before .before .judged2 .given .1)) in
-    search needs
+    (h .0, h .1, h .2, h .3, omega arith, omega arith, m .0, m .1, omega arith, omega arith, search needs, m .2, h .9)
 
 returns-3 : tie.Need-returns-3
 returns-3 c =

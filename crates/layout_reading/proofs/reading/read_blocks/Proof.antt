@@ -33,7 +33,10 @@ loop2-holds c =
     (omega arith, o .inv .1, o .inv .2, o .inv .3, refl)
 
 visit-requires : tie.Need-visit-requires Inv-loop2 μ-loop2 Inv-loop μ-loop
-visit-requires c κs = search needs
+visit-requires c κs =
+    let l = c .before .before .before .before .loop2 in
+    let h = c .before .before .before .before .before .before .before .before .before .before .before .before .before .pre in
+    (l .inv .1, l .inv .2, l .inv .3, h .3, h .4, h .5, h .6, omega arith, omega arith, h .7)
 
 enum-known-step : tie.Need-enum-known-step Inv-loop2 μ-loop2 Inv-loop μ-loop
 enum-known-step c = search needs

@@ -1,7 +1,5 @@
 use Rattle.layout_reading.specs.Lengths.{read-accepts, read-refuses}
 use Rattle.layout_reading.specs.Reading.{jobWith}
-use Rattle.filter_strength.specs.Strength.{zero32}
-use lib.Ieee.{Float}
 use lib.ListN.{replicate}
 use borrow.Author.Needs.{needs}
 use mathlib.Core.Path.{_∙_, ap}
@@ -15,11 +13,13 @@ clear-u8-requires c κs = search needs
 clear-u32-requires : tie.Need-clear-u32-requires
 clear-u32-requires c κs = search needs
 
-clear-f32-requires : tie.Need-clear-f32-requires
-clear-f32-requires c κs = search needs
+clear-u32-requires-2 : tie.Need-clear-u32-requires-2
+clear-u32-requires-2 c κs = search needs
 
 read-blocks-requires : tie.Need-read-blocks-requires
-read-blocks-requires c κs = search needs
+read-blocks-requires c κs =
+    let h = c .before .before .before .before .before .before .before .before .before .before .before .before .before .before .before .before .before .before .before .before .before .pre in
+    (search needs, search needs, search needs, h .3, h .4, h .5, h .6, h .7)
 
 enum-known-step : tie.Need-enum-known-step
 enum-known-step c = search needs
@@ -44,16 +44,16 @@ returns c =
     let ek = h .0 in
     let em = h .1 in
     let es = h .2 in
-    read-accepts (jobWith (a .bw) (a .bh) (a .types .now) (a .muls .now) (a .sharpness .now) (a .filter) (a .lookups .now)) (v .result) _ _ (v .last .0) (v .last .1 .0) _ (v .last .1 .1 .0) (c .before .before .before .before .before .before .before .before .before .before .before .before .before .before .before .before .before .before .before .before .before .before .clear-u8 .ensures ∙ ap (λ (n : ℕ). replicate {A = ℕ} n 0) (ek)) (c .before .before .before .before .before .before .before .before .before .before .before .before .before .before .before .before .before .before .clear-u32 .ensures ∙ ap (λ (n : ℕ). replicate {A = ℕ} n 0) (em)) (c .before .before .before .before .before .before .before .before .before .before .before .before .before .before .clear-f32 .ensures ∙ ap (λ (n : ℕ). replicate {A = Float} n zero32) (es)) (v .ensures) _ (c .enum-told .given .1)
+    read-accepts (jobWith (a .bw) (a .bh) (a .types .now) (a .muls .now) (a .sharpness .now) (a .filter) (a .lookups .now)) (v .result) _ _ (v .last .0) (v .last .1 .0) _ (v .last .1 .1 .0) (c .before .before .before .before .before .before .before .before .before .before .before .before .before .before .before .before .before .before .before .before .before .before .clear-u8 .ensures ∙ ap (λ (n : ℕ). replicate {A = ℕ} n 0) (ek)) (c .before .before .before .before .before .before .before .before .before .before .before .before .before .before .before .before .before .before .clear-u32 .ensures ∙ ap (λ (n : ℕ). replicate {A = ℕ} n 0) (em)) (c .before .before .before .before .before .before .before .before .before .before .before .before .before .before .clear-u322 .ensures ∙ ap (λ (n : ℕ). replicate {A = ℕ} n 0) (es)) (v .ensures) _ (c .enum-told .given .1)
 
 clear-u8-requires-2 : tie.Need-clear-u8-requires-2
 clear-u8-requires-2 c κs = search needs
 
-clear-u32-requires-2 : tie.Need-clear-u32-requires-2
-clear-u32-requires-2 c κs = search needs
+clear-u32-requires-3 : tie.Need-clear-u32-requires-3
+clear-u32-requires-3 c κs = search needs
 
-clear-f32-requires-2 : tie.Need-clear-f32-requires-2
-clear-f32-requires-2 c κs = search needs
+clear-u32-requires-4 : tie.Need-clear-u32-requires-4
+clear-u32-requires-4 c κs = search needs
 
 same-length-4 : tie.Need-same-length-4
 same-length-4 c = search needs
@@ -75,7 +75,7 @@ returns-2 c =
     let fk = c .before .before .before .before .before .before .before .before .before .before .before .before .before .before .before .before .before .before .before .before .kinds2 .given ∙ c .before .before .before .before .before .before .before .before .before .before .before .before .before .before .before .before .before .before .before .before .before .before .before .before .before .before .before .before .before .before .before .before .before .before .kinds .given ∙ ek in
     let fm = c .before .before .before .before .before .before .before .before .before .before .before .before .before .before .before .before .before .before .hf-mul2 .given ∙ c .before .before .before .before .before .before .before .before .before .before .before .before .before .before .before .before .before .before .before .before .before .before .before .before .before .before .before .before .before .before .hf-mul .given ∙ em in
     let fs = c .before .before .before .before .before .before .before .before .before .before .before .before .before .before .before .before .sigma2 .given ∙ c .before .before .before .before .before .before .before .before .before .before .before .before .before .before .before .before .before .before .before .before .before .before .before .before .before .before .sigma .given ∙ es in
-    read-refuses (jobWith (a .bw) (a .bh) (a .types .now) (a .muls .now) (a .sharpness .now) (a .filter) (a .lookups .now)) (v .result) _ _ (v .last .0) (v .last .1 .0) _ (v .last .1 .1 .0) (c .before .before .before .before .before .before .before .before .before .before .before .before .before .before .before .before .before .before .before .before .before .before .before .before .before .before .before .before .before .before .before .before .before .before .before .clear-u8 .ensures ∙ ap (λ (n : ℕ). replicate {A = ℕ} n 0) (ek)) (c .before .before .before .before .before .before .before .before .before .before .before .before .before .before .before .before .before .before .before .before .before .before .before .before .before .before .before .before .before .before .before .clear-u32 .ensures ∙ ap (λ (n : ℕ). replicate {A = ℕ} n 0) (em)) (c .before .before .before .before .before .before .before .before .before .before .before .before .before .before .before .before .before .before .before .before .before .before .before .before .before .before .before .clear-f32 .ensures ∙ ap (λ (n : ℕ). replicate {A = Float} n zero32) (es)) (v .ensures) _ _ _ _ (c .before .before .before .before .before .before .before .before .before .before .before .before .before .step .given .1) (c .before .before .before .before .before .before .before .before .before .before .clear-u82 .ensures ∙ ap (λ (n : ℕ). replicate {A = ℕ} n 0) (fk)) (c .before .before .before .before .before .before .clear-u322 .ensures ∙ ap (λ (n : ℕ). replicate {A = ℕ} n 0) (fm)) (c .before .before .clear-f322 .ensures ∙ ap (λ (n : ℕ). replicate {A = Float} n zero32) (fs))
+    read-refuses (jobWith (a .bw) (a .bh) (a .types .now) (a .muls .now) (a .sharpness .now) (a .filter) (a .lookups .now)) (v .result) _ _ (v .last .0) (v .last .1 .0) _ (v .last .1 .1 .0) (c .before .before .before .before .before .before .before .before .before .before .before .before .before .before .before .before .before .before .before .before .before .before .before .before .before .before .before .before .before .before .before .before .before .before .before .clear-u8 .ensures ∙ ap (λ (n : ℕ). replicate {A = ℕ} n 0) (ek)) (c .before .before .before .before .before .before .before .before .before .before .before .before .before .before .before .before .before .before .before .before .before .before .before .before .before .before .before .before .before .before .before .clear-u32 .ensures ∙ ap (λ (n : ℕ). replicate {A = ℕ} n 0) (em)) (c .before .before .before .before .before .before .before .before .before .before .before .before .before .before .before .before .before .before .before .before .before .before .before .before .before .before .before .clear-u322 .ensures ∙ ap (λ (n : ℕ). replicate {A = ℕ} n 0) (es)) (v .ensures) _ _ _ _ (c .before .before .before .before .before .before .before .before .before .before .before .before .before .step .given .1) (c .before .before .before .before .before .before .before .before .before .before .clear-u82 .ensures ∙ ap (λ (n : ℕ). replicate {A = ℕ} n 0) (fk)) (c .before .before .before .before .before .before .clear-u323 .ensures ∙ ap (λ (n : ℕ). replicate {A = ℕ} n 0) (fm)) (c .before .before .clear-u324 .ensures ∙ ap (λ (n : ℕ). replicate {A = ℕ} n 0) (fs))
 
 pub read-cleared-spec : {M : Type 1} → statement M
 read-cleared-spec =
@@ -83,7 +83,7 @@ read-cleared-spec =
     (tie.spec
     clear-u8-requires
     clear-u32-requires
-    clear-f32-requires
+    clear-u32-requires-2
     read-blocks-requires
     enum-known-step
     enum-told
@@ -92,8 +92,8 @@ read-cleared-spec =
     same-length-3
     returns
     clear-u8-requires-2
-    clear-u32-requires-2
-    clear-f32-requires-2
+    clear-u32-requires-3
+    clear-u32-requires-4
     same-length-4
     same-length-5
     same-length-6
