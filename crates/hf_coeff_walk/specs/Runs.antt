@@ -1,0 +1,76 @@
+-- Runs of zeros within the walk, and counts for which no context is too large.
+use mathlib.Core.Path.{_≡_, refl, sym, _∙_}
+use mathlib.Core.List.{List}
+use Prim.Native.Nat.{ℕ, zero, suc, _+_, _*_, _-_, _/_, _%_, _^_, _<_, _≤_}
+use native.Mathlib.Omega.{arith}
+use native.Mathlib.Nat.{div-lt-iff-lt-mul}
+use lib.Pow.{pow-pos}
+use lib.Dec.{leb, leb→le}
+use lib.ListN.{length, getD, set, drop, length-set}
+use lib.Seq.{set-getD}
+use Rattle.laws.specs.Tables.{at-each, each-at}
+use Rattle.coded_numbers.specs.Signed.{unpackSigned}
+use Rattle.hf_coeff_walk.specs.Walk.{walk, coeffContext, FREQ, NUM-NONZERO, gain}
+use Rattle.hf_coeff_walk.specs.Outcome.{walk-zero, below-63}
+
+-- the largest entries: of the table by counts below 32 for each block, and of the table by places
+entry-most : (k : ℕ) → k < 32 → getD NUM-NONZERO k 0 ≤ 180
+unfolding NUM-NONZERO
+entry-most k h = leb→le (getD NUM-NONZERO k 0) 180 (each-at (λ (n : ℕ). leb (getD NUM-NONZERO n 0) 180) 32 0 tt k (omega arith) (omega arith))
+
+freq-most : (k : ℕ) → k < 63 → getD FREQ k 0 ≤ 30
+unfolding FREQ
+freq-most k h = leb→le (getD FREQ k 0) 30 (at-each (λ (n : ℕ). leb n 30) FREQ tt 0 k h)
+
+pub entry-at : (power n : ℕ) → n < 32 * 2 ^ power → getD NUM-NONZERO (n / 2 ^ power) 0 ≤ 180
+entry-at power n h = entry-most (n / 2 ^ power) (div-lt-iff-lt-mul {k = 2 ^ power} {x = n} {y = 32} (pow-pos power) .1 h)
+
+pub freq-at : (power i : ℕ) → i < 63 * 2 ^ power → getD FREQ (i / 2 ^ power) 0 ≤ 30
+freq-at power i h = freq-most (i / 2 ^ power) (below-63 power i h)
+
+pub context-fits : (power n i prev : ℕ) → n < 32 * 2 ^ power → i < 63 * 2 ^ power → prev ≤ 1 → coeffContext (2 ^ power) n i prev < 458
+unfolding coeffContext
+context-fits power n i prev h g f = omega (arith, entry-at power n h, freq-at power i g)
+
+-- what a run of zeros below place `stop` requires
+pub record ZerosReady (power symbols start from stop x part log : ℕ) : Type 0 where
+  pub exponent : power ≤ 10
+  pub begins : from ≤ stop
+  pub places : stop ≤ 63 * 2 ^ power
+  pub lent : start + stop ≤ symbols
+  pub room : start + stop ≤ log
+  pub entry : x ≤ 180
+  pub entries : part ≡ 458
+
+-- places from `from` to below r are zeros and logged: the walk is the same from r on
+pub record Zeros (power : ℕ) (part symbols : List ℕ) (start from stop x : ℕ) (log₀ : List ℕ) (r : ℕ) (log : List ℕ) : Type 0 where
+  pub lower : from ≤ r
+  pub upper : r ≤ stop
+  pub long : length log ≡ length log₀
+  pub passed : (shift : ℕ) (places : List ℕ) (left : ℕ) (g : List ℕ) → 0 < left → x ≡ getD NUM-NONZERO ((left - 1) / 2 ^ power) 0 → stop ≤ length places
+      → walk shift (2 ^ power) part (drop r places) r 0 left (drop (start + r) symbols) (start + r) log g
+      ≡ walk shift (2 ^ power) part (drop from places) from 0 left (drop (start + from) symbols) (start + from) log₀ g
+
+module _ (power : ℕ) (part symbols : List ℕ) (start from stop x : ℕ) (log₀ : List ℕ) where
+  pub zeros-start : from ≤ stop → Zeros power part symbols start from stop x log₀ from log₀
+  zeros-start h = record { lower = omega arith; upper = h; long = refl; passed = λ shift places left g l e s. refl }
+
+  pub zeros-turn : (k : ℕ) (log : List ℕ) → k < stop → stop ≤ 63 * 2 ^ power → start + stop ≤ length symbols → x ≤ 180 → getD symbols (start + k) 0 ≡ 0
+      → Zeros power part symbols start from stop x log₀ k log
+      → Zeros power part symbols start from stop x log₀ (k + 1) (set log (start + k) (getD part ((x + getD FREQ (k / 2 ^ power) 0) * 2) 0))
+  zeros-turn k log h b n f u z =
+      record {
+        lower = omega (arith, z .lower);
+        upper = omega arith;
+        long = length-set log (start + k) (getD part ((x + getD FREQ (k / 2 ^ power) 0) * 2) 0) ∙ z .long;
+        passed = λ shift places left g l e s.
+            let c : coeffContext (2 ^ power) (left - 1) k 0 ≡ (x + getD FREQ (k / 2 ^ power) 0) * 2 = unfold coeffContext in omega (arith, e) in
+            let a : start + (k + 1) ≡ start + k + 1 = omega arith in
+            rw (sym c, a) (sym (walk-zero shift (2 ^ power) part places symbols k 0 left (start + k) log g (omega arith) l (omega (arith, c, freq-at power k (omega arith))) (omega arith) u) ∙ z .passed shift places left g l e s);
+      }
+
+-- a sum in the cell, also for a symbol 0
+pub gain-sum : (shift : ℕ) (g : List ℕ) (p u v : ℕ) → v ≡ (getD g p 0 + unpackSigned u * 2 ^ shift % 2 ^ 32) % 2 ^ 32 → (unpackSigned u * 2 ^ shift % 2 ^ 32 ≡ 0 → v ≡ getD g p 0)
+    → set g p v ≡ gain shift g p u
+gain-sum shift g p zero v e z = let n : unpackSigned 0 * 2 ^ shift % 2 ^ 32 ≡ 0 = unfold unpackSigned in omega arith in rw (z n) (set-getD g p 0)
+gain-sum shift g p (suc u) v e z = rw e
