@@ -15,7 +15,7 @@ use Rattle.dct_select.specs.Varblock.{wide-some, high-some}
 use Rattle.layout.specs.Stretch.{Place, left, inside, right, place}
 use Rattle.layout.specs.Grid.{at, set-same, set-other}
 use Rattle.layout.specs.Order.{Here}
-use Rattle.filter_strength.specs.Strength.{dividedFilter}
+use Rattle.filter_strength.specs.Strength.{dividedBy}
 use Rattle.layout_column.specs.Columns.{lowEight, hfMulOf, positive}
 use Rattle.layout_reading.specs.Scan.{Scan, Taking, Left, scan}
 use Rattle.layout_reading.specs.Reading.{Job, Placed, Reading, Going, refuseIf, placed, placeIn, judge, column}
@@ -45,7 +45,7 @@ pub record Column (J : Job) (x y : ℕ) (p q : Placed) (t h : ℕ) : Type 0 wher
   pub lengthM : length (q .muls) ≡ J .bh * J .bw
   pub usedIs : q .used ≡ p .used + 1
   pub taken : List ℕ
-  pub scanIs : scan (J .bw) (J .bh) (dividedFilter (J .filter) h) (J .lookups) (J .sharpness) x y (wide t) (high t) (Taking (p .kinds) (p .sigma)) ≡ Taking taken (q .sigma)
+  pub scanIs : scan (J .bw) (J .bh) (dividedBy (J .filter) h) (J .lookups) (J .sharpness) x y (wide t) (high t) (Taking (p .kinds) (p .sigma)) ≡ Taking taken (q .sigma)
 
 passed : (b : Bool) (n x y : ℕ) (r : Reading) (q : Placed) → refuseIf b n x y r ≡ Going q → (b ≡ false) × (r ≡ Going q)
 passed true n x y r q e = absurd (let z : _≡_ {A = ℕ} 0 1 = cc in omega arith)
@@ -73,7 +73,7 @@ module _ (J : Job) (x y : ℕ) (p q : Placed) (lk : length (p .kinds) ≡ J .bh 
   -- after the scan
   module _ (t h : ℕ) (a : t < 27) (b : 1 ≤ h) (c : h < 2 ^ 31) (d : x % 32 + wide t ≤ 32) (e : y % 32 + high t ≤ 32) where
     scanned : Scan
-    scanned = scan (J .bw) (J .bh) (dividedFilter (J .filter) h) (J .lookups) (J .sharpness) x y (wide t) (high t) (Taking (p .kinds) (p .sigma))
+    scanned = scan (J .bw) (J .bh) (dividedBy (J .filter) h) (J .lookups) (J .sharpness) x y (wide t) (high t) (Taking (p .kinds) (p .sigma))
 
     put : (k s : List ℕ) → scanned ≡ Taking k s
         → q ≡ record { used = p .used + 1; kinds = set k (y * J .bw + x) (2 + t); muls = set (p .muls) (y * J .bw + x) h; sigma = s } → Column J x y p q t h
@@ -102,7 +102,7 @@ module _ (J : Job) (x y : ℕ) (p q : Placed) (lk : length (p .kinds) ≡ J .bh 
     }
       where
         both : Took (J .bw) (J .bh) (at (p .kinds) (J .bw)) (at k (J .bw)) x y (wide t) (high t) × (length k ≡ J .bh * J .bw)
-        both = took (J .bw) (J .bh) (dividedFilter (J .filter) h) (J .lookups) (J .sharpness) x y (wide t) (high t) (p .kinds) (p .sigma) s k lk f
+        both = took (J .bw) (J .bh) (dividedBy (J .filter) h) (J .lookups) (J .sharpness) x y (wide t) (high t) (p .kinds) (p .sigma) s k lk f
 
         w : Took (J .bw) (J .bh) (at (p .kinds) (J .bw)) (at k (J .bw)) x y (wide t) (high t)
         w = both .0

@@ -15,8 +15,8 @@ use Rattle.dct_select.specs.Transforms.{COUNT, wide, high}
 use Rattle.layout.specs.Walk.{forward}
 use Rattle.layout.specs.Grid.{at}
 use Rattle.lf_group.specs.Blocks.{sizeFits}
-use Rattle.filter_strength.specs.declared.Filter.{Filter}
-use Rattle.filter_strength.specs.Strength.{dividedFilter}
+use Rattle.filter_strength.specs.declared.DividedFilter.{DividedFilter}
+use Rattle.filter_strength.specs.Strength.{dividedBy}
 use Rattle.layout_column.specs.Columns.{lowEight, hfMulOf, positive}
 use Rattle.layout_reading.specs.Scan.{Scan, Taking, Left, isOn, takeCell, scan}
 use Rattle.layout_reading.specs.Reading.{Job, Placed, Reading, Going, Stopped, refuseIf, placed, place, placeIn, judge, column, visit, start, reading}
@@ -34,7 +34,7 @@ cond-left : (b : Bool) (s t : Scan) → LeftWell s → LeftWell t → LeftWell (
 cond-left true s t p q = p
 cond-left false s t p q = q
 
-module _ (bw bh : ℕ) (filter : Filter) (lookups : List Float) (sharpness : List ℕ) where
+module _ (bw bh : ℕ) (filter : DividedFilter) (lookups : List Float) (sharpness : List ℕ) where
   cell-left : (cx cy : ℕ) (s : Scan) → LeftWell s → LeftWell (takeCell bw bh filter lookups sharpness cx cy s)
   unfolding LeftWell takeCell
   cell-left cx cy (Left n a b) p = p
@@ -80,8 +80,8 @@ module _ (J : Job) where
     place-well : (kind h w n : ℕ) → Well (placeIn J kind h w n x y p)
     unfolding Well LeftWell place
     place-well kind h w n =
-        go (scan (J .bw) (J .bh) (dividedFilter (J .filter) h) (J .lookups) (J .sharpness) x y w n (Taking (p .kinds) (p .sigma)))
-        (scan-left (J .bw) (J .bh) (dividedFilter (J .filter) h) (J .lookups) (J .sharpness) x y w n (Taking (p .kinds) (p .sigma)) tt)
+        go (scan (J .bw) (J .bh) (dividedBy (J .filter) h) (J .lookups) (J .sharpness) x y w n (Taking (p .kinds) (p .sigma)))
+        (scan-left (J .bw) (J .bh) (dividedBy (J .filter) h) (J .lookups) (J .sharpness) x y w n (Taking (p .kinds) (p .sigma)) tt)
       where
         go : (s : Scan) → LeftWell s → Well (placed (J .bw) kind h x y p s)
         go (Taking k s) q = tt

@@ -13,7 +13,7 @@ use Rattle.laws.specs.Cases.{eq-or-ne}
 use Rattle.layout.specs.Walk.{forward}
 use Rattle.layout.specs.Grid.{at, set-same, set-other}
 use Rattle.layout.specs.Order.{Here, Before, last}
-use Rattle.filter_strength.specs.declared.Filter.{Filter}
+use Rattle.filter_strength.specs.declared.DividedFilter.{DividedFilter}
 use Rattle.layout_reading.specs.Scan.{Scan, Taking, Left, isOn, sigmaWith, takeCell, scan}
 
 -- a cell (a, b) of the rectangle of w x h blocks at (x, y)
@@ -42,7 +42,7 @@ passed false n cx cy t k s e = (refl, e)
 same-kinds : (k k′ s s′ : List ℕ) → Taking k s ≡ Taking k′ s′ → k ≡ k′
 same-kinds k k′ s s′ e = cc
 
-module _ (bw bh : ℕ) (filter : Filter) (lookups : List Float) (sharpness : List ℕ) where
+module _ (bw bh : ℕ) (filter : DividedFilter) (lookups : List Float) (sharpness : List ℕ) where
   pub cell-took : (cx cy : ℕ) (k k′ s s′ : List ℕ) → takeCell bw bh filter lookups sharpness cx cy (Taking k s) ≡ Taking k′ s′ → CellTook bw bh cx cy k k′
   unfolding takeCell
   cell-took cx cy k k′ s s′ e =

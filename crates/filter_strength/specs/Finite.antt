@@ -21,7 +21,11 @@ use borrow.Author.Tests.{ne-eqb}
 use Rattle.laws.specs.Tables.{each-at}
 use Rattle.filter_strength.specs.declared.Filter.{Filter}
 use Rattle.filter_strength.specs.declared.Filter.the-variants.{Off, On}
-use Rattle.filter_strength.specs.Strength.{two16, nearest, scaled, divided, timesLookUp, sigmaOf, pattern, scaledFilter, dividedFilter}
+use Rattle.filter_strength.specs.declared.ScaledFilter.{ScaledFilter}
+use Rattle.filter_strength.specs.declared.ScaledFilter.the-variants.{Off as ScaledOff, On as ScaledOn}
+use Rattle.filter_strength.specs.declared.DividedFilter.{DividedFilter}
+use Rattle.filter_strength.specs.declared.DividedFilter.the-variants.{Off as DividedOff, On as DividedOn}
+use Rattle.filter_strength.specs.Strength.{two16, nearest, scaled, divided, timesLookUp, sigmaOf, pattern, scaledBy, dividedBy}
 use Rattle.filter_strength.specs.Limits.{LIMIT, MINUS-LIMIT, inLimits, scaleFits, lookupsFit, paramsFit}
 
 -- finite, and from -n to n
@@ -186,13 +190,20 @@ divided-within q h w a b = div-within q (nearest h) w (nearest-positive h a (ome
 pub times-within : (q l : Float) → Within 4294967296 q → Within 65536 l → Within 281474976710656 (mul binary32 q l)
 times-within q l a b = mul-within 48 exact-48 4294967296 65536 q l refl a b
 
--- ---- under the limits: the filter's multiplier × 65536 / scale, divided or not, within 2^32, and the eight look-up numbers within 2^16
-unfoldable pub Bounded : Filter → List Float → Type 0
-Bounded Off lookups = Unit
-Bounded (On q) lookups = Within 4294967296 q × ((k : ℕ) → k < 8 → Within 65536 (getD lookups k nan))
+-- ---- under the limits: a multiplier × 65536 / scale, divided or not, within 2^32, and the eight look-up numbers within 2^16
+abbrev Bounds : Float → List Float → Type 0
+Bounds q lookups = Within 4294967296 q × ((k : ℕ) → k < 8 → Within 65536 (getD lookups k nan))
 
-pub scaled-bounded : (f : Filter) (lookups : List Float) (scale : ℕ) → paramsFit f lookups scale ≡ true → Bounded (scaledFilter f scale) lookups
-unfolding Bounded scaledFilter
+unfoldable pub ScaledBounded : ScaledFilter → List Float → Type 0
+ScaledBounded ScaledOff lookups = Unit
+ScaledBounded (ScaledOn q) lookups = Bounds q lookups
+
+unfoldable pub DividedBounded : DividedFilter → List Float → Type 0
+DividedBounded DividedOff lookups = Unit
+DividedBounded (DividedOn q) lookups = Bounds q lookups
+
+pub scaled-bounded : (f : Filter) (lookups : List Float) (scale : ℕ) → paramsFit f lookups scale ≡ true → ScaledBounded (scaledBy f scale) lookups
+unfolding ScaledBounded scaledBy
 scaled-bounded Off lookups scale e = tt
 scaled-bounded (On m) lookups scale e =
     let t : T (paramsFit (On m) lookups scale) = rw e tt in
@@ -204,17 +215,17 @@ scaled-bounded (On m) lookups scale e =
       λ k l. limits-within (getD lookups k nan) (is-true (inLimits (getD lookups k nan)) (each k (omega arith) (omega arith))),
     )
 
-pub divided-bounded : (f : Filter) (lookups : List Float) (h : ℕ) → 1 ≤ h → h < 4294967296 → Bounded f lookups → Bounded (dividedFilter f h) lookups
-unfolding Bounded dividedFilter
-divided-bounded Off lookups h a b w = tt
-divided-bounded (On q) lookups h a b w = (divided-within q h (w .0) a b, w .1)
+pub divided-bounded : (f : ScaledFilter) (lookups : List Float) (h : ℕ) → 1 ≤ h → h < 4294967296 → ScaledBounded f lookups → DividedBounded (dividedBy f h) lookups
+unfolding ScaledBounded DividedBounded dividedBy
+divided-bounded ScaledOff lookups h a b w = tt
+divided-bounded (ScaledOn q) lookups h a b w = (divided-within q h (w .0) a b, w .1)
 
 -- the last step is within 2^48, so it is no NaN
-pub times-bounds : (q : Float) (lookups : List Float) (s : ℕ) → s < 8 → Bounded (On q) lookups → Within 281474976710656 (timesLookUp q lookups s)
-unfolding Bounded
+pub times-bounds : (q : Float) (lookups : List Float) (s : ℕ) → s < 8 → DividedBounded (DividedOn q) lookups → Within 281474976710656 (timesLookUp q lookups s)
+unfolding DividedBounded
 times-bounds q lookups s l w = times-within q (getD lookups s nan) (w .0) (w .1 s l)
 
-pub times-bounded : (q : Float) (lookups : List Float) (s : ℕ) → s < 8 → Bounded (On q) lookups → T (not (isNan (timesLookUp q lookups s)))
+pub times-bounded : (q : Float) (lookups : List Float) (s : ℕ) → s < 8 → DividedBounded (DividedOn q) lookups → T (not (isNan (timesLookUp q lookups s)))
 times-bounded q lookups s l w = within-no-nan 281474976710656 (timesLookUp q lookups s) (times-bounds q lookups s l w)
 
 -- a filter strength under the limits is finite, and from -2^48 to 2^48
@@ -223,7 +234,7 @@ pub sigma-within : (f : Filter) (scale h : ℕ) (lookups : List Float) (sharpnes
 unfolding sigmaOf
 sigma-within Off scale h lookups sharpness e a b s = unfold Within in lit≤ tt
 sigma-within (On m) scale h lookups sharpness e a b s =
-    let w : Bounded (On (divided (scaled m scale) h)) lookups = unfold scaledFilter in unfold dividedFilter in divided-bounded (scaledFilter (On m) scale) lookups h a b (scaled-bounded (On m) lookups scale e) in
+    let w : DividedBounded (DividedOn (divided (scaled m scale) h)) lookups = unfold scaledBy in unfold dividedBy in divided-bounded (scaledBy (On m) scale) lookups h a b (scaled-bounded (On m) lookups scale e) in
     times-bounds (divided (scaled m scale) h) lookups sharpness (s m refl) w
 
 pub sigma-finite : (f : Filter) (scale h : ℕ) (lookups : List Float) (sharpness : ℕ) → paramsFit f lookups scale ≡ true → 1 ≤ h → h < 4294967296

@@ -1,6 +1,6 @@
 -- The layout call as the code goes: one law for each way out.
 use mathlib.Core.Path.{_≡_, refl, ap, _∙_}
-use mathlib.Core.Bool.{Bool, true, false, cond, not}
+use mathlib.Core.Bool.{true, false}
 use mathlib.Core.List.{List}
 use Prim.Native.Nat.{ℕ, _≤_}
 use native.Mathlib.Omega.{arith}
@@ -8,16 +8,13 @@ use borrow.Author.Tests.{le-leb}
 use Rattle.lf_group.specs.declared.Blocks.{Blocks}
 use Rattle.lf_group.specs.Blocks.{sizeFits, modesFit, wideIn, highIn, blocksOf}
 use Rattle.lf_group.specs.Bounds.{wide-most, high-most}
-use Rattle.filter_strength.specs.declared.Filter.{Filter}
-use Rattle.filter_strength.specs.Strength.{scaledFilter}
-use Rattle.filter_strength.specs.Limits.{paramsFit}
 use Rattle.layout_reading.specs.declared.column.Step.{Step}
 use Rattle.layout_reading.specs.declared.column.Step.the-variants.{Going as GoesOn, Stopped as Stops}
-use Rattle.layout_reading.specs.Reading.{jobWith, reading}
-use Rattle.layout_reading.specs.Outcome.{Outcome, outcomeOf, handed, readOf}
+use Rattle.layout_reading.specs.Reading.{Job, jobBy}
+use Rattle.layout_reading.specs.Outcome.{handed, readOf}
 use Rattle.hf_metadata.specs.declared.LayoutAnswer.{LayoutAnswer}
 use Rattle.hf_metadata.specs.declared.LayoutAnswer.the-variants.{Accepted, Refused}
-use Rattle.hf_metadata.specs.Call.{leaves, Inputs, jobOf, lengthsFit, refuseWith, layoutOf}
+use Rattle.hf_metadata.specs.Call.{leaves, Inputs, refuseWith, layoutOf}
 
 -- what a reading answers is the call's answer
 abbrev pub answerBy : Step → LayoutAnswer
@@ -27,10 +24,6 @@ answerBy (Stops r) = Refused r
 hands-on : (s : Step) (k m g : List ℕ) → leaves (answerBy s) k m g ≡ handed s k m g
 hands-on (GoesOn used) k m g = refl
 hands-on (Stops r) k m g = refl
-
-turned : (t : Bool) (x y : Outcome) → cond t x y ≡ cond (not t) y x
-turned true x y = refl
-turned false x y = refl
 
 module _ (i : Inputs) (k m g : List ℕ) where
   pub call-size : sizeFits (i .width) (i .height) ≡ false → refuseWith i k m g 2 ≡ layoutOf i k m g
@@ -43,26 +36,22 @@ module _ (i : Inputs) (k m g : List ℕ) where
     call-modes b = rw (a, b)
 
     module _ (b : modesFit (i .modes) ≡ true) where
-      pub call-params : paramsFit (i .filter) (i .lookups) (i .scale) ≡ false → refuseWith i k m g 11 ≡ layoutOf i k m g
-      unfolding layoutOf
-      call-params c = rw (a, b, c)
+      abbrev jobIn : ℕ → ℕ → Job
+      jobIn bw bh = jobBy bw bh (i .types) (i .muls) (i .sharpness) (i .filter) (i .lookups) (i .scale)
 
-      module _ (c : paramsFit (i .filter) (i .lookups) (i .scale) ≡ true) where
-        -- the reading refuses lengths that do not fit
-        reads : (bw bh : ℕ) (f : Filter) → bw ≤ 256 → bh ≤ 256 → bw ≡ wideIn (i .width) (i .modes) → bh ≡ highIn (i .height) (i .modes) → f ≡ scaledFilter (i .filter) (i .scale)
-            → readOf (jobWith bw bh (i .types) (i .muls) (i .sharpness) f (i .lookups)) k m g ≡ layoutOf i k m g
-        unfolding layoutOf readOf
-        reads bw bh f w h p q r =
-            rw (a, b, c, le-leb bw 256 w, le-leb bh 256 h)
-            (rw (p, q, r) (turned (lengthsFit i k m g) (outcomeOf (jobOf i) (reading (jobOf i))) (refuseWith i k m g 1)))
+      -- the reading refuses the filter's numbers, then lengths, that do not fit
+      reads : (bw bh : ℕ) → bw ≤ 256 → bh ≤ 256 → bw ≡ wideIn (i .width) (i .modes) → bh ≡ highIn (i .height) (i .modes)
+          → readOf (jobIn bw bh) k m g (i .filter) (i .scale) ≡ layoutOf i k m g
+      unfolding layoutOf readOf
+      reads bw bh w h p q = rw (a, b, le-leb bw 256 w, le-leb bh 256 h) (rw (p, q))
 
-        pub call-reads : (blocks : Blocks) (f : Filter) → blocks ≡ blocksOf (i .width) (i .height) (i .modes) → f ≡ scaledFilter (i .filter) (i .scale)
-            → (r : LayoutAnswer) (s : Step) (k′ m′ g′ : List ℕ) → r ≡ answerBy s
-            → handed s k′ m′ g′ ≡ readOf (jobWith (blocks .bw) (blocks .bh) (i .types) (i .muls) (i .sharpness) f (i .lookups)) k m g
-            → leaves r k′ m′ g′ ≡ layoutOf i k m g
-        call-reads blocks f p q r s k′ m′ g′ e h =
-            let w : blocks .bw ≡ wideIn (i .width) (i .modes) = ap (λ (z : Blocks). z .bw) p in
-            let v : blocks .bh ≡ highIn (i .height) (i .modes) = ap (λ (z : Blocks). z .bh) p in
-            rw e
-            (hands-on s k′ m′ g′ ∙ h
-            ∙ reads (blocks .bw) (blocks .bh) f (omega (arith, wide-most (i .width) (i .height) a (i .modes))) (omega (arith, high-most (i .width) (i .height) a (i .modes))) w v q)
+      pub call-reads : (blocks : Blocks) → blocks ≡ blocksOf (i .width) (i .height) (i .modes)
+          → (r : LayoutAnswer) (s : Step) (k′ m′ g′ : List ℕ) → r ≡ answerBy s
+          → handed s k′ m′ g′ ≡ readOf (jobIn (blocks .bw) (blocks .bh)) k m g (i .filter) (i .scale)
+          → leaves r k′ m′ g′ ≡ layoutOf i k m g
+      call-reads blocks p r s k′ m′ g′ e h =
+          let w : blocks .bw ≡ wideIn (i .width) (i .modes) = ap (λ (z : Blocks). z .bw) p in
+          let v : blocks .bh ≡ highIn (i .height) (i .modes) = ap (λ (z : Blocks). z .bh) p in
+          rw e
+          (hands-on s k′ m′ g′ ∙ h
+          ∙ reads (blocks .bw) (blocks .bh) (omega (arith, wide-most (i .width) (i .height) a (i .modes))) (omega (arith, high-most (i .width) (i .height) a (i .modes))) w v)

@@ -45,11 +45,7 @@ pub fn layout(
     if !lf_group::modes_fit(modes) {
         return LayoutAnswer::Refused(Refusal::Parameter);
     }
-    if !filter_strength::params_fit(filter, lookups, scale) {
-        return LayoutAnswer::Refused(Refusal::Parameter);
-    }
     let blocks = lf_group::blocks_of(width, height, modes);
-    let scaled = filter.scaled_by(scale);
     answer(read(
         kinds,
         hf_mul,
@@ -57,8 +53,9 @@ pub fn layout(
         types,
         muls,
         sharpness,
-        &lookups,
-        scaled,
+        filter,
+        lookups,
+        scale,
         blocks.bw,
         blocks.bh,
     ))

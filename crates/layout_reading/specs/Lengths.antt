@@ -1,6 +1,6 @@
 -- Laws on lent lengths that fit, and the reading as the code goes.
 use mathlib.Core.Path.{_≡_, ap, sym, _∙_}
-use mathlib.Core.Bool.{Bool, true, false, _&&_}
+use mathlib.Core.Bool.{Bool, true, false, not, _&&_}
 use mathlib.Core.List.{List}
 use Prim.Native.Nat.{ℕ, _*_, _≤_, _<_}
 use lib.Dec.{T, eqb, eqb→eq}
@@ -8,12 +8,14 @@ use lib.ListN.{length}
 use lib.Ieee.Fits.{and-l, and-r}
 use borrow.Author.Tests.{le-leb, lt-leb}
 use Rattle.refusal.specs.declared.Refusal.{Refusal}
-use Rattle.refusal.specs.declared.Refusal.the-variants.{Length}
+use Rattle.refusal.specs.declared.Refusal.the-variants.{Length, Parameter}
 use Rattle.layout.specs.Walk.{walk}
 use Rattle.layout_reading.specs.declared.column.Step.{Step}
 use Rattle.layout_reading.specs.declared.column.Step.the-variants.{Going as GoesOn, Stopped as Stops}
 use Rattle.layout_reading.specs.Reading.{Job, Going, visit, zeros, reading, stateOf, stepped}
 use Rattle.layout_reading.specs.Outcome.{handed, outcomeOf, fits, readOf}
+use Rattle.filter_strength.specs.declared.Filter.{Filter}
+use Rattle.filter_strength.specs.Limits.{paramsFit}
 use Rattle.layout_counts.specs.Counts.{countsFit}
 
 -- lengths that fit
@@ -39,28 +41,33 @@ counts types muls sharpness kinds hfMul sigma n e =
     }
 
 -- one law for each way out of the reading
-module _ (J : Job) (k m s : List ℕ) where
-  refused : fits J k m s ≡ false → handed (Stops Length) k m s ≡ readOf J k m s
+module _ (J : Job) (k m s : List ℕ) (filter : Filter) (scale : ℕ) where
+  pub read-params : paramsFit filter (J .lookups) scale ≡ false → handed (Stops Parameter) k m s ≡ readOf J k m s filter scale
   unfolding readOf
-  refused e = rw e
+  read-params e = rw e
 
-  pub read-wide : 256 < J .bw → handed (Stops Length) k m s ≡ readOf J k m s
-  read-wide a = refused (rw (lt-leb (J .bw) 256 a))
+  module _ (params : paramsFit filter (J .lookups) scale ≡ true) where
+    refused : fits J k m s ≡ false → handed (Stops Length) k m s ≡ readOf J k m s filter scale
+    unfolding readOf
+    refused e = rw (params, e)
 
-  module _ (a : J .bw ≤ 256) where
-    pub read-high : 256 < J .bh → handed (Stops Length) k m s ≡ readOf J k m s
-    read-high b = refused (rw (le-leb (J .bw) 256 a, lt-leb (J .bh) 256 b))
+    pub read-wide : 256 < J .bw → handed (Stops Length) k m s ≡ readOf J k m s filter scale
+    read-wide a = refused (rw (lt-leb (J .bw) 256 a))
 
-    module _ (b : J .bh ≤ 256) where
-      abbrev pub lent : Bool
-      lent = countsFit (length (J .types)) (length (J .muls)) (length (J .sharpness)) (length k) (length m) (length s) (J .bh * J .bw)
+    module _ (a : J .bw ≤ 256) where
+      pub read-high : 256 < J .bh → handed (Stops Length) k m s ≡ readOf J k m s filter scale
+      read-high b = refused (rw (le-leb (J .bw) 256 a, lt-leb (J .bh) 256 b))
 
-      pub read-lengths : lent ≡ false → handed (Stops Length) k m s ≡ readOf J k m s
-      read-lengths c = refused (rw (le-leb (J .bw) 256 a, le-leb (J .bh) 256 b, c))
+      module _ (b : J .bh ≤ 256) where
+        abbrev pub lent : Bool
+        lent = countsFit (length (J .types)) (length (J .muls)) (length (J .sharpness)) (length k) (length m) (length s) (J .bh * J .bw)
 
-      pub read-works : lent ≡ true → outcomeOf J (reading J) ≡ readOf J k m s
-      unfolding readOf
-      read-works c = rw (le-leb (J .bw) 256 a, le-leb (J .bh) 256 b, c)
+        pub read-lengths : lent ≡ false → handed (Stops Length) k m s ≡ readOf J k m s filter scale
+        read-lengths c = refused (rw (le-leb (J .bw) 256 a, le-leb (J .bh) 256 b, c))
+
+        pub read-works : lent ≡ true → outcomeOf J (reading J) ≡ readOf J k m s filter scale
+        unfolding readOf
+        read-works c = rw (params, le-leb (J .bw) 256 a, le-leb (J .bh) 256 b, c)
 
 -- the blocks visited from cleared buffers
 module _ (J : Job) (t : Step) (k m k′ m′ g g′ : List ℕ) (zk : k ≡ zeros J) (zm : m ≡ zeros J) (zg : g ≡ zeros J)

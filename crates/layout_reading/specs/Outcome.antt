@@ -1,11 +1,13 @@
 -- What a reading answers and leaves in kinds, hf_mul and sigma (document 01, Layout and filter strength; Refused).
-use mathlib.Core.Bool.{Bool, cond, _&&_}
+use mathlib.Core.Bool.{Bool, cond, not, _&&_}
 use mathlib.Core.List.{List}
 use Prim.Native.Nat.{ℕ, _*_}
 use lib.Dec.{leb}
 use lib.ListN.{length}
 use Rattle.refusal.specs.declared.Said.{Said}
 use Rattle.refusal.specs.Said as refusals
+use Rattle.filter_strength.specs.declared.Filter.{Filter}
+use Rattle.filter_strength.specs.Limits.{paramsFit}
 use Rattle.layout_counts.specs.Counts.{countsFit}
 use Rattle.layout_reading.specs.declared.column.Step.{Step}
 use Rattle.layout_reading.specs.declared.column.Step.the-variants.{Going as GoesOn, Stopped as Stops}
@@ -42,6 +44,12 @@ module _ (J : Job) (kinds hfMul sigma : List ℕ) where
       leb (J .bw) 256 && leb (J .bh) 256
       && countsFit (length (J .types)) (length (J .muls)) (length (J .sharpness)) (length kinds) (length hfMul) (length sigma) (J .bh * J .bw)
 
-  -- whatever the lent buffers held; where lengths do not fit, 1, and nothing is written
-  unfoldable pub readOf : Outcome
-  readOf = cond fits (outcomeOf J (reading J)) (outcome (refused (refusals.at 1 0 0)) kinds hfMul sigma)
+  -- nothing is written
+  abbrev pub refuse : ℕ → Outcome
+  refuse n = outcome (refused (refusals.at n 0 0)) kinds hfMul sigma
+
+  -- the job of this filter and scale, whatever the lent buffers held: 11 where the filter's numbers are outside their limits, 1 where lengths do not fit
+  unfoldable pub readOf : Filter → ℕ → Outcome
+  readOf filter scale =
+      cond (not (paramsFit filter (J .lookups) scale)) (refuse 11)
+      (cond (not fits) (refuse 1) (outcomeOf J (reading J)))

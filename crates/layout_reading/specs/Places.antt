@@ -10,8 +10,9 @@ use Rattle.refusal.specs.Said as refusals
 use Rattle.refusal.specs.declared.Refusal.{Refusal}
 use Rattle.dct_select.specs.Transforms.{wide, high}
 use Rattle.layout.specs.Grid.{at}
-use Rattle.filter_strength.specs.declared.Filter.{Filter}
-use Rattle.filter_strength.specs.Strength.{dividedFilter}
+use Rattle.filter_strength.specs.declared.ScaledFilter.{ScaledFilter}
+use Rattle.filter_strength.specs.declared.DividedFilter.{DividedFilter}
+use Rattle.filter_strength.specs.Strength.{dividedBy}
 use Rattle.layout_reading.specs.declared.scan.Scanned.{Scanned}
 use Rattle.layout_column.specs.declared.Judged.{Judged}
 use Rattle.layout_reading.specs.declared.column.Step.{Step}
@@ -21,15 +22,15 @@ use Rattle.layout_column.specs.Judged.{checks-by}
 use Rattle.layout_reading.specs.Scan.{Scan, Taking, scan, scanned}
 use Rattle.layout_reading.specs.Reading.{Job, Placed, Reading, Going, Stopped, placed, place, placeIn, judge, column, visit, stepped}
 
-module _ (bw bh : ℕ) (filter : Filter) (lookups : List Float) (sharpness : List ℕ) (kind h w n x y : ℕ) (p : Placed) where
-  pub place-by : (f g : Scanned) (divided : Filter) (k s : List ℕ) → divided ≡ dividedFilter filter h
+module _ (bw bh : ℕ) (filter : ScaledFilter) (lookups : List Float) (sharpness : List ℕ) (kind h w n x y : ℕ) (p : Placed) where
+  pub place-by : (f g : Scanned) (divided : DividedFilter) (k s : List ℕ) → divided ≡ dividedBy filter h
       → scanned f k s ≡ scan bw bh divided lookups sharpness x y w n (Taking (p .kinds) (p .sigma)) → f ≡ g
       → placed bw kind h x y p (scanned g k s) ≡ place bw bh filter lookups sharpness kind h w n x y p
   unfolding place
   place-by f g divided k s q e d =
       ap (λ (z : Scan). placed bw kind h x y p z)
       (sym (ap (λ (z : Scanned). scanned z k s) d) ∙ e
-      ∙ ap (λ (z : Filter). scan bw bh z lookups sharpness x y w n (Taking (p .kinds) (p .sigma))) q)
+      ∙ ap (λ (z : DividedFilter). scan bw bh z lookups sharpness x y w n (Taking (p .kinds) (p .sigma))) q)
 
 module _ (J : Job) (x y : ℕ) (p : Placed) where
   abbrev pub byAsking : Asking → Reading

@@ -13,7 +13,8 @@ use Rattle.dct_select.specs.Transforms.{wide, high}
 use Rattle.layout.specs.Walk.{walk}
 use Rattle.layout.specs.Grid.{at}
 use Rattle.filter_strength.specs.declared.Filter.{Filter}
-use Rattle.filter_strength.specs.Strength.{dividedFilter}
+use Rattle.filter_strength.specs.declared.ScaledFilter.{ScaledFilter}
+use Rattle.filter_strength.specs.Strength.{scaledBy, dividedBy}
 use Rattle.layout_column.specs.Columns.{lowEight, hfMulOf, checks}
 use Rattle.layout_reading.specs.Scan.{Scan, Taking, Left, scan}
 
@@ -25,7 +26,7 @@ pub record Job : Type 0 where
   pub types : List ℕ
   pub muls : List ℕ
   pub sharpness : List ℕ
-  pub filter : Filter
+  pub filter : ScaledFilter
   pub lookups : List Float
 
 -- columns used so far, and what they have placed: kinds, hf_mul, bit patterns of sigma
@@ -54,10 +55,10 @@ placed bw kind h x y p (Taking kinds sigma) =
       sigma = sigma;
     })
 
-module _ (bw bh : ℕ) (filter : Filter) (lookups : List Float) (sharpness : List ℕ) where
+module _ (bw bh : ℕ) (filter : ScaledFilter) (lookups : List Float) (sharpness : List ℕ) where
   -- a varblock of w x n blocks at the free block (x, y)
   unfoldable pub place : ℕ → ℕ → ℕ → ℕ → ℕ → ℕ → Placed → Reading
-  place kind h w n x y p = placed bw kind h x y p (scan bw bh (dividedFilter filter h) lookups sharpness x y w n (Taking (p .kinds) (p .sigma)))
+  place kind h w n x y p = placed bw kind h x y p (scan bw bh (dividedBy filter h) lookups sharpness x y w n (Taking (p .kinds) (p .sigma)))
 
 module _ (J : Job) where
   abbrev pub placeIn : ℕ → ℕ → ℕ → ℕ → ℕ → ℕ → Placed → Reading
@@ -91,9 +92,13 @@ module _ (J : Job) where
 abbrev pub stateOf : ℕ → List ℕ → List ℕ → List ℕ → Placed
 stateOf used kinds muls sigma = record { used = used; kinds = kinds; muls = muls; sigma = sigma }
 
-abbrev pub jobWith : ℕ → ℕ → List ℕ → List ℕ → List ℕ → Filter → List Float → Job
+abbrev pub jobWith : ℕ → ℕ → List ℕ → List ℕ → List ℕ → ScaledFilter → List Float → Job
 jobWith bw bh types muls sharpness filter lookups =
     record { bw = bw; bh = bh; types = types; muls = muls; sharpness = sharpness; filter = filter; lookups = lookups }
+
+-- the job of a filter that is not scaled yet
+abbrev pub jobBy : ℕ → ℕ → List ℕ → List ℕ → List ℕ → Filter → List Float → ℕ → Job
+jobBy bw bh types muls sharpness filter lookups scale = jobWith bw bh types muls sharpness (scaledBy filter scale) lookups
 
 -- a reading from what the code answers and what it left in kinds, hf_mul and sigma
 abbrev pub stepped : Step → List ℕ → List ℕ → List ℕ → Reading

@@ -1,7 +1,7 @@
 // The columns of a layout, placed one after the other.
 use crate::scan::Scanned;
 use crate::scan::scan;
-use filter_strength::Filter;
+use filter_strength::ScaledFilter;
 use layout_column::Judged;
 use layout_column::Varblock;
 use layout_column::judge;
@@ -9,7 +9,7 @@ use refusal::Refusal;
 ghost use mathlib.Core.Path.{_≡_};
 ghost use Prim.Native.Nat.{_+_, _*_, _≤_, _<_};
 ghost use lib.ListN.{length};
-ghost use Rattle.filter_strength.specs.Finite.{Bounded};
+ghost use Rattle.filter_strength.specs.Finite.{ScaledBounded};
 ghost use Rattle.layout_reading.specs.Reading.{Going, place as placeOf, visit as visitOf, stateOf, stepped, jobWith};
 
 // The reading goes on with that many columns used, or stops.
@@ -25,7 +25,7 @@ fn place(
     sigma: &mut [u32],
     sharpness: &[u32],
     lookups: &[f32; 8],
-    filter: Filter,
+    filter: ScaledFilter,
     bw: usize,
     bh: usize,
     v: Varblock,
@@ -33,7 +33,7 @@ fn place(
     x: usize,
     y: usize,
 ) -> Step
-    requires { ⌜ (length (now kinds) ≡ bh * bw) × (length (now «hf_mul») ≡ bh * bw) × (length (now sigma) ≡ bh * bw) × (length (now sharpness) ≡ bh * bw) × (bw ≤ 256) × (bh ≤ 256) × (v .wide ≤ 32) × (v .high ≤ 32) × (x < bw) × (y < bh) × (used < 18446744073709551615) × (1 ≤ v .«hf_mul») × Bounded filter (now lookups) ⌝ }
+    requires { ⌜ (length (now kinds) ≡ bh * bw) × (length (now «hf_mul») ≡ bh * bw) × (length (now sigma) ≡ bh * bw) × (length (now sharpness) ≡ bh * bw) × (bw ≤ 256) × (bh ≤ 256) × (v .wide ≤ 32) × (v .high ≤ 32) × (x < bw) × (y < bh) × (used < 18446744073709551615) × (1 ≤ v .«hf_mul») × ScaledBounded filter (now lookups) ⌝ }
     ensures { λ r. ⌜ stepped r (now (kinds .exit)) (now («hf_mul» .exit)) (now (sigma .exit)) ≡ placeOf bw bh filter (now (lookups .entry)) (now (sharpness .entry)) (v .kind) (v .«hf_mul») (v .wide) (v .high) x y (stateOf used (now (kinds .entry)) (now («hf_mul» .entry)) (now (sigma .entry))) ⌝ }
 {
     let divided = filter.divided_by(v.hf_mul);
@@ -72,14 +72,14 @@ pub(crate) fn visit(
     muls: &[u32],
     sharpness: &[u32],
     lookups: &[f32; 8],
-    filter: Filter,
+    filter: ScaledFilter,
     bw: usize,
     bh: usize,
     used: usize,
     x: usize,
     y: usize,
 ) -> Step
-    requires { ⌜ (length (now kinds) ≡ bh * bw) × (length (now «hf_mul») ≡ bh * bw) × (length (now sigma) ≡ bh * bw) × (length (now sharpness) ≡ bh * bw) × (length (now muls) ≡ length (now types)) × (bw ≤ 256) × (bh ≤ 256) × (x < bw) × (y < bh) × Bounded filter (now lookups) ⌝ }
+    requires { ⌜ (length (now kinds) ≡ bh * bw) × (length (now «hf_mul») ≡ bh * bw) × (length (now sigma) ≡ bh * bw) × (length (now sharpness) ≡ bh * bw) × (length (now muls) ≡ length (now types)) × (bw ≤ 256) × (bh ≤ 256) × (x < bw) × (y < bh) × ScaledBounded filter (now lookups) ⌝ }
     ensures { λ r. ⌜ stepped r (now (kinds .exit)) (now («hf_mul» .exit)) (now (sigma .exit)) ≡ visitOf (jobWith bw bh (now (types .entry)) (now (muls .entry)) (now (sharpness .entry)) filter (now (lookups .entry))) x y (Going (stateOf used (now (kinds .entry)) (now («hf_mul» .entry)) (now (sigma .entry)))) ⌝ }
 {
     let i = y * bw + x;

@@ -2,14 +2,16 @@
 use crate::column::Step;
 use crate::column::visit;
 use filter_strength::Filter;
+use filter_strength::ScaledFilter;
+use filter_strength::params_fit;
 use layout_counts::counts_fit;
 use refusal::Refusal;
 ghost use mathlib.Core.Path.{_≡_};
 ghost use Prim.Native.Nat.{_*_, _≤_};
 ghost use lib.ListN.{length};
-ghost use Rattle.filter_strength.specs.Finite.{Bounded};
+ghost use Rattle.filter_strength.specs.Finite.{ScaledBounded};
 ghost use Rattle.layout.specs.Walk.{walk};
-ghost use Rattle.layout_reading.specs.Reading.{Going, visit as visitOf, reading as readingOf, stateOf, stepped, jobWith};
+ghost use Rattle.layout_reading.specs.Reading.{Going, visit as visitOf, reading as readingOf, stateOf, stepped, jobWith, jobBy};
 ghost use Rattle.layout_reading.specs.Outcome.{handed, outcomeOf, readOf};
 
 // All blocks, over lengths that fit.
@@ -21,11 +23,11 @@ fn read_blocks(
     muls: &[u32],
     sharpness: &[u32],
     lookups: &[f32; 8],
-    filter: Filter,
+    filter: ScaledFilter,
     bw: usize,
     bh: usize,
 ) -> Step
-    requires { ⌜ (length (now kinds) ≡ bh * bw) × (length (now «hf_mul») ≡ bh * bw) × (length (now sigma) ≡ bh * bw) × (length (now sharpness) ≡ bh * bw) × (length (now muls) ≡ length (now types)) × (bw ≤ 256) × (bh ≤ 256) × Bounded filter (now lookups) ⌝ }
+    requires { ⌜ (length (now kinds) ≡ bh * bw) × (length (now «hf_mul») ≡ bh * bw) × (length (now sigma) ≡ bh * bw) × (length (now sharpness) ≡ bh * bw) × (length (now muls) ≡ length (now types)) × (bw ≤ 256) × (bh ≤ 256) × ScaledBounded filter (now lookups) ⌝ }
     ensures { λ r. ⌜ stepped r (now (kinds .exit)) (now («hf_mul» .exit)) (now (sigma .exit)) ≡ walk (visitOf (jobWith bw bh (now (types .entry)) (now (muls .entry)) (now (sharpness .entry)) filter (now (lookups .entry)))) bw bh (Going (stateOf 0 (now (kinds .entry)) (now («hf_mul» .entry)) (now (sigma .entry)))) ⌝ }
 {
     let mut used = 0;
@@ -68,11 +70,11 @@ fn read_cleared(
     muls: &[u32],
     sharpness: &[u32],
     lookups: &[f32; 8],
-    filter: Filter,
+    filter: ScaledFilter,
     bw: usize,
     bh: usize,
 ) -> Step
-    requires { ⌜ (length (now kinds) ≡ bh * bw) × (length (now «hf_mul») ≡ bh * bw) × (length (now sigma) ≡ bh * bw) × (length (now sharpness) ≡ bh * bw) × (length (now muls) ≡ length (now types)) × (bw ≤ 256) × (bh ≤ 256) × Bounded filter (now lookups) ⌝ }
+    requires { ⌜ (length (now kinds) ≡ bh * bw) × (length (now «hf_mul») ≡ bh * bw) × (length (now sigma) ≡ bh * bw) × (length (now sharpness) ≡ bh * bw) × (length (now muls) ≡ length (now types)) × (bw ≤ 256) × (bh ≤ 256) × ScaledBounded filter (now lookups) ⌝ }
     ensures { λ r. ⌜ handed r (now (kinds .exit)) (now («hf_mul» .exit)) (now (sigma .exit)) ≡ outcomeOf (jobWith bw bh (now (types .entry)) (now (muls .entry)) (now (sharpness .entry)) filter (now (lookups .entry))) (readingOf (jobWith bw bh (now (types .entry)) (now (muls .entry)) (now (sharpness .entry)) filter (now (lookups .entry)))) ⌝ }
 {
     zeros::clear_u8(kinds);
@@ -99,7 +101,8 @@ fn read_cleared(
     Step::Stopped(why)
 }
 
-// Reads a layout into lent buffers. More than 256 blocks either way, or lengths that do not fit: refused, and nothing is written.
+// Reads a layout into lent buffers. Filter, look-up numbers or scale outside their limits, more than 256 blocks either way, or
+// lengths that do not fit: refused, and nothing is written.
 pub fn read(
     kinds: &mut [u8],
     hf_mul: &mut [u32],
@@ -107,14 +110,17 @@ pub fn read(
     types: &[u32],
     muls: &[u32],
     sharpness: &[u32],
-    lookups: &[f32; 8],
     filter: Filter,
+    lookups: [f32; 8],
+    scale: u32,
     bw: usize,
     bh: usize,
 ) -> Step
-    requires { ⌜ Bounded filter (now lookups) ⌝ }
-    ensures { λ r. ⌜ handed r (now (kinds .exit)) (now («hf_mul» .exit)) (now (sigma .exit)) ≡ readOf (jobWith bw bh (now (types .entry)) (now (muls .entry)) (now (sharpness .entry)) filter (now (lookups .entry))) (now (kinds .entry)) (now («hf_mul» .entry)) (now (sigma .entry)) ⌝ }
+    ensures { λ r. ⌜ handed r (now (kinds .exit)) (now («hf_mul» .exit)) (now (sigma .exit)) ≡ readOf (jobBy bw bh (now (types .entry)) (now (muls .entry)) (now (sharpness .entry)) filter lookups scale) (now (kinds .entry)) (now («hf_mul» .entry)) (now (sigma .entry)) filter scale ⌝ }
 {
+    if !params_fit(filter, lookups, scale) {
+        return Step::Stopped(Refusal::Parameter);
+    }
     if 256 < bw {
         return Step::Stopped(Refusal::Length);
     }
@@ -132,6 +138,7 @@ pub fn read(
     ) {
         return Step::Stopped(Refusal::Length);
     }
+    let scaled = filter.scaled_by(scale);
     read_cleared(
         kinds,
         hf_mul,
@@ -139,8 +146,8 @@ pub fn read(
         types,
         muls,
         sharpness,
-        lookups,
-        filter,
+        &lookups,
+        scaled,
         bw,
         bh,
     )

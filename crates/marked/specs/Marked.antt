@@ -16,7 +16,7 @@ use Rattle.layout.specs.Walk.{cells, rows}
 use Rattle.layout.specs.Varblocks.{varblock, varblocksOf, area}
 use Rattle.lf_group.specs.Blocks.{wideIn, highIn}
 use Rattle.filter_strength.specs.declared.Filter.the-variants.{On}
-use Rattle.filter_strength.specs.Strength.{nearest, scaledFilter, dividedFilter, m8}
+use Rattle.filter_strength.specs.Strength.{nearest, scaledBy, dividedBy, m8}
 use Rattle.filter_strength.specs.Limits.{inLimits}
 use Rattle.layout_reading.specs.Scan.{takeCell, scan}
 use Rattle.layout_reading.specs.Reading.{place, judge, column, reading}
@@ -137,11 +137,11 @@ row6 : M6
 row6 = (m6, m6-refused)
 
 row7 : M7
-unfolding layoutOf wideIn highIn inLimits le lt eq reading column judge place scan takeCell rows cells wide high TRANSFORMS scaledFilter dividedFilter mul div ofInt toBits round size span climb units odd trailingZeros
+unfolding layoutOf wideIn highIn inLimits le lt eq reading column judge place scan takeCell rows cells wide high TRANSFORMS scaledBy dividedBy mul div ofInt toBits round size span climb units odd trailingZeros
 row7 = refl
 
 sigma-same : on one one 1 16777216 .sigma ≡ on one one 1 16777215 .sigma
-unfolding layoutOf wideIn highIn inLimits le lt eq reading column judge place scan takeCell rows cells wide high TRANSFORMS scaledFilter dividedFilter mul div ofInt toBits round size span climb units odd trailingZeros
+unfolding layoutOf wideIn highIn inLimits le lt eq reading column judge place scan takeCell rows cells wide high TRANSFORMS scaledBy dividedBy mul div ofInt toBits round size span climb units odd trailingZeros
 sigma-same = refl
 
 row8 : M8
