@@ -1,4 +1,4 @@
--- Every filter strength under the limits is finite: each of the four steps stays within 2^48, where an f32 is never an infinity
+-- Every filter strength under the limits is finite: its size is at most 65,504 × 65,536 × 65,504
 -- (document 01, Layout and filter strength).
 use mathlib.Core.Path.{_≡_, refl, sym, ap, _∙_, subst}
 use mathlib.Core.Bool.{Bool, true, false, not, _&&_, _||_, cond, true≢false}
@@ -58,97 +58,107 @@ le-cross : (m : ℕ) (e : ℤ) (n : ℕ) (d : ℤ) → T (le (fin false m e) (fi
 unfolding le lt eq
 le-cross m e n d h = at-most (m * up e * down d) (n * up d * down e) _ h
 
--- ---- rounding stays at or below a power of two that f32 has
-module _ (j : ℕ) (exact : round binary32 false (2 ^ j) 1 ≡ fin false 1 (pos j)) where
-  no-overflow : (q k : ℕ) → T (le (units binary32 false q k) (fin false 1 (pos j))) → q * 2 ^ k < overflow binary32
-  unfolding units le lt eq
-  no-overflow q k = go (ltb (q * 2 ^ k) (overflow binary32)) (ltb→lt (q * 2 ^ k) (overflow binary32))
-    where
-      go : (b : Bool) → (T b → q * 2 ^ k < overflow binary32) → T (le (cond b (odd 25 false q k 149) (inf false)) (fin false 1 (pos j))) → q * 2 ^ k < overflow binary32
-      go true h t = h tt
-      go false h t = absurd t
-
-  grid-most : (x : Float) (g : ℕ) → HasValue x false g (2 ^ 149) → T (le x (fin false 1 (pos j))) → g * 1 ≤ 2 ^ j * 2 ^ 149
-  grid-most nan g v h = absurd v
-  grid-most (inf s) g v h = absurd v
-  grid-most (fin true m e) g v h = absurd (true≢false (v .0))
-  grid-most (fin false m e) g v h =
-      transfer g (2 ^ j) (2 ^ 149) 1 (m * up e) (2 ^ j) (down e) 1 (down-pos e) (pow-pos 0) (sym (v .1)) refl
-      (le-trans (le-cross m e 1 (pos j) h) (le-of-eq (ap (λ (z : ℕ). z * down e) (one-mul (2 ^ j)))))
-
-  within-of : (x : Float) (s : Bool) (g : ℕ) → HasValue x s g (2 ^ 149) → g * 1 ≤ 2 ^ j * 2 ^ 149 → Within (2 ^ j) x
-  unfolding Within
-  within-of nan s g v h = absurd v
-  within-of (inf t) s g v h = absurd v
-  within-of (fin t m e) s g v h =
-      le-trans (le-of-eq (sym (mul-one (m * up e))))
-      (transfer (m * up e) (2 ^ j) (down e) 1 g (2 ^ j) (2 ^ 149) 1 (pow-pos 149) (pow-pos 0) (v .1) refl h)
-
-  round-within : (s : Bool) (a b : ℕ) → 0 < b → a ≤ 2 ^ j * b → Within (2 ^ j) (round binary32 s a b)
-  round-within s a b B h =
-      let k = kept 24 (a * 2 ^ 149) b in
-      let d = drop 24 (a * 2 ^ 149) b in
-      let l : T (le (round binary32 false a b) (fin false 1 (pos j))) =
-      subst (λ (z : Float). T (le (round binary32 false a b) z)) exact
-      (round-mono binary32 a b (2 ^ j) 1 B (pow-pos 0) (le-trans (le-of-eq (mul-one a)) h)) in
-      let o = no-overflow k d (subst (λ (z : Float). T (le z (fin false 1 (pos j)))) (round-is binary32 false a b) l) in
-      within-of (round binary32 s a b) s (grid binary32 a b)
-      (subst (λ (z : Float). HasValue z s (grid binary32 a b) (2 ^ 149)) (sym (round-is binary32 s a b)) (units-val binary32 s k d o))
-      (grid-most (round binary32 false a b) (grid binary32 a b) (round-val binary32 a b o) l)
-
-  -- a product, of factors whose bounds have the product 2^j
-  mul-within : (p q : ℕ) (x y : Float) → p * q ≡ 2 ^ j → Within p x → Within q y → Within (2 ^ j) (mul binary32 x y)
-  unfolding Within mul
-  mul-within p q nan y r a b = absurd a
-  mul-within p q (inf s) y r a b = absurd a
-  mul-within p q (fin s m e) nan r a b = absurd b
-  mul-within p q (fin s m e) (inf t) r a b = absurd b
-  mul-within p q (fin s m e) (fin t n d) r a b =
-      unfold Within in round-within _ (m * up e * (n * up d)) (down e * down d) (mul-pos (down-pos e) (down-pos d))
-      (le-trans (mul-le-mul a b) (le-of-eq (mul-mul-mul-comm p (down e) q (down d) ∙ ap (λ (z : ℕ). z * (down e * down d)) r)))
-
 -- 1 or more in size
 unfoldable AtLeast : Float → Type 0
 AtLeast nan = ⊥
 AtLeast (inf s) = ⊥
 AtLeast (fin s m e) = down e ≤ m * up e
 
--- the powers of two that bound the steps
-exact-0 : round binary32 false 1 1 ≡ fin false 1 (pos 0)
-unfolding round size span climb units odd trailingZeros
-exact-0 = refl
-
-exact-32 : round binary32 false 4294967296 1 ≡ fin false 1 (pos 32)
-unfolding round size span climb units odd trailingZeros
-exact-32 = refl
-
-exact-48 : round binary32 false 281474976710656 1 ≡ fin false 1 (pos 48)
-unfolding round size span climb units odd trailingZeros
-exact-48 = refl
-
 some : (n : ℕ) (d : ℤ) → n ≡ 0 → down d ≤ n * up d → ⊥
 some n d z h = let p = down-pos d in let q : n * up d ≡ 0 = ap (λ (k : ℕ). k * up d) z ∙ zero-mul (up d) in omega arith
 
--- a quotient by 1 or more
-div-within : (x y : Float) → Within 4294967296 x → AtLeast y → Within 4294967296 (div binary32 x y)
-unfolding Within div AtLeast
-div-within nan y a b = absurd a
-div-within (inf s) y a b = absurd a
-div-within (fin s m e) nan a b = absurd b
-div-within (fin s m e) (inf t) a b = absurd b
-div-within (fin s m e) (fin t n d) a b =
-    rw (ne-eqb n 0 (λ (z : n ≡ 0). some n d z b))
-    (round-within 32 exact-32 _ (m * up e * down d) (n * up d * down e)
-    (mul-pos (lt-of-lt-of-le (down-pos d) b) (down-pos e))
-    (le-trans (mul-le-mul a b) (le-of-eq (mul-assoc 4294967296 (down e) (n * up d) ∙ ap (λ (z : ℕ). 4294967296 * z) (mul-comm (down e) (n * up d))))))
+-- ---- rounding stays at or below a whole number n that f32 has, c × 2^j
+module _ (n c j : ℕ) (value : c * 2 ^ j ≡ n) (exact : round binary32 false n 1 ≡ fin false c (pos j)) where
+  no-overflow : (q k : ℕ) → T (le (units binary32 false q k) (fin false c (pos j))) → q * 2 ^ k < overflow binary32
+  unfolding units le lt eq
+  no-overflow q k = go (ltb (q * 2 ^ k) (overflow binary32)) (ltb→lt (q * 2 ^ k) (overflow binary32))
+    where
+      go : (b : Bool) → (T b → q * 2 ^ k < overflow binary32) → T (le (cond b (odd 25 false q k 149) (inf false)) (fin false c (pos j))) → q * 2 ^ k < overflow binary32
+      go true h t = h tt
+      go false h t = absurd t
+
+  grid-most : (x : Float) (g : ℕ) → HasValue x false g (2 ^ 149) → T (le x (fin false c (pos j))) → g * 1 ≤ n * 2 ^ 149
+  grid-most nan g v h = absurd v
+  grid-most (inf s) g v h = absurd v
+  grid-most (fin true m e) g v h = absurd (true≢false (v .0))
+  grid-most (fin false m e) g v h =
+      transfer g n (2 ^ 149) 1 (m * up e) n (down e) 1 (down-pos e) (pow-pos 0) (sym (v .1)) refl
+      (le-trans (le-cross m e c (pos j) h) (le-of-eq (ap (λ (z : ℕ). z * down e) value)))
+
+  within-of : (x : Float) (s : Bool) (g : ℕ) → HasValue x s g (2 ^ 149) → g * 1 ≤ n * 2 ^ 149 → Within n x
+  unfolding Within
+  within-of nan s g v h = absurd v
+  within-of (inf t) s g v h = absurd v
+  within-of (fin t m e) s g v h =
+      le-trans (le-of-eq (sym (mul-one (m * up e))))
+      (transfer (m * up e) n (down e) 1 g n (2 ^ 149) 1 (pow-pos 149) (pow-pos 0) (v .1) refl h)
+
+  round-within : (s : Bool) (a b : ℕ) → 0 < b → a ≤ n * b → Within n (round binary32 s a b)
+  round-within s a b B h =
+      let k = kept 24 (a * 2 ^ 149) b in
+      let d = drop 24 (a * 2 ^ 149) b in
+      let l : T (le (round binary32 false a b) (fin false c (pos j))) =
+      subst (λ (z : Float). T (le (round binary32 false a b) z)) exact
+      (round-mono binary32 a b n 1 B (pow-pos 0) (le-trans (le-of-eq (mul-one a)) h)) in
+      let o = no-overflow k d (subst (λ (z : Float). T (le z (fin false c (pos j)))) (round-is binary32 false a b) l) in
+      within-of (round binary32 s a b) s (grid binary32 a b)
+      (subst (λ (z : Float). HasValue z s (grid binary32 a b) (2 ^ 149)) (sym (round-is binary32 s a b)) (units-val binary32 s k d o))
+      (grid-most (round binary32 false a b) (grid binary32 a b) (round-val binary32 a b o) l)
+
+  -- a product, of factors whose bounds have the product n
+  mul-within : (p q : ℕ) (x y : Float) → p * q ≡ n → Within p x → Within q y → Within n (mul binary32 x y)
+  unfolding Within mul
+  mul-within p q nan y r a b = absurd a
+  mul-within p q (inf s) y r a b = absurd a
+  mul-within p q (fin s m e) nan r a b = absurd b
+  mul-within p q (fin s m e) (inf t) r a b = absurd b
+  mul-within p q (fin s m e) (fin t u d) r a b =
+      unfold Within in round-within _ (m * up e * (u * up d)) (down e * down d) (mul-pos (down-pos e) (down-pos d))
+      (le-trans (mul-le-mul a b) (le-of-eq (mul-mul-mul-comm p (down e) q (down d) ∙ ap (λ (z : ℕ). z * (down e * down d)) r)))
+
+  -- a quotient by 1 or more
+  div-within : (x y : Float) → Within n x → AtLeast y → Within n (div binary32 x y)
+  unfolding Within div AtLeast
+  div-within nan y a b = absurd a
+  div-within (inf s) y a b = absurd a
+  div-within (fin s m e) nan a b = absurd b
+  div-within (fin s m e) (inf t) a b = absurd b
+  div-within (fin s m e) (fin t u d) a b =
+      rw (ne-eqb u 0 (λ (z : u ≡ 0). some u d z b))
+      (round-within _ (m * up e * down d) (u * up d * down e)
+      (mul-pos (lt-of-lt-of-le (down-pos d) b) (down-pos e))
+      (le-trans (mul-le-mul a b) (le-of-eq (mul-assoc n (down e) (u * up d) ∙ ap (λ (z : ℕ). n * z) (mul-comm (down e) (u * up d))))))
+
+-- what bounds the scaled multiplier and sigma; both are numbers that f32 has, as are 1 and 2^32
+abbrev pub SCALED-MOST : ℕ
+SCALED-MOST = 65504 * 65536
+
+abbrev pub SIGMA-MOST : ℕ
+SIGMA-MOST = 65504 * 65536 * 65504
+
+exact-one : round binary32 false 1 1 ≡ fin false 1 (pos 0)
+unfolding round size span climb units odd trailingZeros
+exact-one = refl
+
+exact-word : round binary32 false 4294967296 1 ≡ fin false 1 (pos 32)
+unfolding round size span climb units odd trailingZeros
+exact-word = refl
+
+exact-scaled : round binary32 false SCALED-MOST 1 ≡ fin false 2047 (pos 21)
+unfolding round size span climb units odd trailingZeros
+exact-scaled = refl
+
+exact-sigma : round binary32 false SIGMA-MOST 1 ≡ fin false 4190209 (pos 26)
+unfolding round size span climb units odd trailingZeros
+exact-sigma = refl
 
 -- the nearest f32 to a whole number from 1 on is 1 or more
 nearest-positive : (n : ℕ) → 1 ≤ n → n ≤ 4294967296 → AtLeast (nearest n)
 unfolding AtLeast ofInt Within le lt eq
 nearest-positive n h k =
     go (round binary32 false n 1)
-    (round-within 32 exact-32 false n 1 (pow-pos 0) (le-trans k (le-of-eq (sym (mul-one 4294967296)))))
-    (subst (λ (z : Float). T (le z (round binary32 false n 1))) exact-0 (round-mono binary32 1 1 n 1 (pow-pos 0) (pow-pos 0) (omega arith)))
+    (round-within 4294967296 1 32 refl exact-word false n 1 (pow-pos 0) (le-trans k (le-of-eq (sym (mul-one 4294967296)))))
+    (subst (λ (z : Float). T (le z (round binary32 false n 1))) exact-one (round-mono binary32 1 1 n 1 (pow-pos 0) (pow-pos 0) (omega arith)))
   where
     ends : (m : ℕ) (e : ℤ) → 1 * 1 * down e ≤ m * up e * 1 → down e ≤ m * up e
     ends m e h = le-trans (le-of-eq (sym (one-mul (down e)))) (le-trans h (le-of-eq (mul-one (m * up e))))
@@ -160,14 +170,14 @@ nearest-positive n h k =
     go (fin false m e) a h = ends m e (le-cross 1 (pos 0) m e h)
 
 -- ---- the limits
-limits-within : (x : Float) → inLimits x ≡ true → Within 65536 x
+limits-within : (x : Float) → inLimits x ≡ true → Within 65504 x
 unfolding inLimits Within le lt eq
 limits-within x e = go x (rw e tt)
   where
-    under : (m : ℕ) (e : ℤ) → m * up e * 1 ≤ 65504 * down e → m * up e ≤ 65536 * down e
-    under m e h = le-trans (le-of-eq (sym (mul-one (m * up e)))) (le-trans h (mul-le-mul-right (down e) (lit≤ tt)))
+    under : (m : ℕ) (e : ℤ) → m * up e * 1 ≤ 65504 * down e → m * up e ≤ 65504 * down e
+    under m e h = le-trans (le-of-eq (sym (mul-one (m * up e)))) h
 
-    go : (x : Float) → T (le MINUS-LIMIT x && le x LIMIT) → Within 65536 x
+    go : (x : Float) → T (le MINUS-LIMIT x && le x LIMIT) → Within 65504 x
     go nan h = absurd h
     go (inf true) h = absurd h
     go (inf false) h = absurd h
@@ -180,19 +190,20 @@ limits-within x e = go x (rw e tt)
     go (fin false m e) h = under m e (le-cross m e 2047 (pos 5) (and-r (le MINUS-LIMIT (fin false m e)) (le (fin false m e) LIMIT) h))
 
 -- ---- the four steps
-pub scaled-within : (m : Float) (scale : ℕ) → Within 65536 m → 1 ≤ scale → scale ≤ 73728 → Within 4294967296 (scaled m scale)
+pub scaled-within : (m : Float) (scale : ℕ) → Within 65504 m → 1 ≤ scale → scale ≤ 73728 → Within SCALED-MOST (scaled m scale)
 scaled-within m scale w a b =
-    div-within (mul binary32 m two16) (nearest scale) (mul-within 32 exact-32 65536 65536 m two16 refl w (unfold Within in lit≤ tt)) (nearest-positive scale a (omega arith))
+    div-within SCALED-MOST 2047 21 refl exact-scaled (mul binary32 m two16) (nearest scale)
+    (mul-within SCALED-MOST 2047 21 refl exact-scaled 65504 65536 m two16 refl w (unfold Within in lit≤ tt)) (nearest-positive scale a (omega arith))
 
-pub divided-within : (q : Float) (h : ℕ) → Within 4294967296 q → 1 ≤ h → h < 4294967296 → Within 4294967296 (divided q h)
-divided-within q h w a b = div-within q (nearest h) w (nearest-positive h a (omega arith))
+pub divided-within : (q : Float) (h : ℕ) → Within SCALED-MOST q → 1 ≤ h → h < 4294967296 → Within SCALED-MOST (divided q h)
+divided-within q h w a b = div-within SCALED-MOST 2047 21 refl exact-scaled q (nearest h) w (nearest-positive h a (omega arith))
 
-pub times-within : (q l : Float) → Within 4294967296 q → Within 65536 l → Within 281474976710656 (mul binary32 q l)
-times-within q l a b = mul-within 48 exact-48 4294967296 65536 q l refl a b
+pub times-within : (q l : Float) → Within SCALED-MOST q → Within 65504 l → Within SIGMA-MOST (mul binary32 q l)
+times-within q l a b = mul-within SIGMA-MOST 4190209 26 refl exact-sigma SCALED-MOST 65504 q l refl a b
 
--- ---- under the limits: a multiplier × 65536 / scale, divided or not, within 2^32, and the eight look-up numbers within 2^16
+-- ---- under the limits: a multiplier × 65536 / scale, divided or not, within 65,504 × 65,536, and the eight look-up numbers within 65,504
 abbrev Bounds : Float → List Float → Type 0
-Bounds q lookups = Within 4294967296 q × ((k : ℕ) → k < 8 → Within 65536 (getD lookups k nan))
+Bounds q lookups = Within SCALED-MOST q × ((k : ℕ) → k < 8 → Within 65504 (getD lookups k nan))
 
 unfoldable pub ScaledBounded : ScaledFilter → List Float → Type 0
 ScaledBounded ScaledOff lookups = Unit
@@ -220,26 +231,22 @@ unfolding ScaledBounded DividedBounded dividedBy
 divided-bounded ScaledOff lookups h a b w = tt
 divided-bounded (ScaledOn q) lookups h a b w = (divided-within q h (w .0) a b, w .1)
 
--- the last step is within 2^48, so it is no NaN
-pub times-bounds : (q : Float) (lookups : List Float) (s : ℕ) → s < 8 → DividedBounded (DividedOn q) lookups → Within 281474976710656 (timesLookUp q lookups s)
+-- the last step is within 65,504 × 65,536 × 65,504, so it is no NaN
+pub times-bounds : (q : Float) (lookups : List Float) (s : ℕ) → s < 8 → DividedBounded (DividedOn q) lookups → Within SIGMA-MOST (timesLookUp q lookups s)
 unfolding DividedBounded
 times-bounds q lookups s l w = times-within q (getD lookups s nan) (w .0) (w .1 s l)
 
 pub times-bounded : (q : Float) (lookups : List Float) (s : ℕ) → s < 8 → DividedBounded (DividedOn q) lookups → T (not (isNan (timesLookUp q lookups s)))
-times-bounded q lookups s l w = within-no-nan 281474976710656 (timesLookUp q lookups s) (times-bounds q lookups s l w)
+times-bounded q lookups s l w = within-no-nan SIGMA-MOST (timesLookUp q lookups s) (times-bounds q lookups s l w)
 
--- a filter strength under the limits is finite, and from -2^48 to 2^48
+-- a filter strength under the limits is finite, and at most 65,504 × 65,536 × 65,504 in size
 pub sigma-within : (f : Filter) (scale h : ℕ) (lookups : List Float) (sharpness : ℕ) → paramsFit f lookups scale ≡ true → 1 ≤ h → h < 4294967296
-    → ((m : Float) → f ≡ On m → sharpness < 8) → Within 281474976710656 (sigmaOf f scale h lookups sharpness)
+    → ((m : Float) → f ≡ On m → sharpness < 8) → Within SIGMA-MOST (sigmaOf f scale h lookups sharpness)
 unfolding sigmaOf
 sigma-within Off scale h lookups sharpness e a b s = unfold Within in lit≤ tt
 sigma-within (On m) scale h lookups sharpness e a b s =
     let w : DividedBounded (DividedOn (divided (scaled m scale) h)) lookups = unfold scaledBy in unfold dividedBy in divided-bounded (scaledBy (On m) scale) lookups h a b (scaled-bounded (On m) lookups scale e) in
     times-bounds (divided (scaled m scale) h) lookups sharpness (s m refl) w
-
-pub sigma-finite : (f : Filter) (scale h : ℕ) (lookups : List Float) (sharpness : ℕ) → paramsFit f lookups scale ≡ true → 1 ≤ h → h < 4294967296
-    → ((m : Float) → f ≡ On m → sharpness < 8) → T (finite (sigmaOf f scale h lookups sharpness))
-sigma-finite f scale h lookups sharpness e a b s = within-finite 281474976710656 (sigmaOf f scale h lookups sharpness) (sigma-within f scale h lookups sharpness e a b s)
 
 -- f32 holds it, so its bit pattern reads back as itself
 sigma-fits : (f : Filter) (scale h : ℕ) (lookups : List Float) (sharpness : ℕ) → T (fits binary32 (sigmaOf f scale h lookups sharpness))
