@@ -6,8 +6,17 @@ use netbuff::{
 
 use super::{answer, layout_into};
 
+/// What is lent to the cut of a pass group: the whole layout, or only the rows of blocks in which
+/// the pass group lies, which are a layout too, as no varblock crosses a 32-block border.
+#[derive(Debug, Copy, Clone, PartialEq, Eq)]
+pub enum CutOf {
+    Layout,
+    Rows,
+}
+
 /// What an LF group's user keeps between its calls.
 pub struct LfGroupBuffers {
+    cut_of: CutOf,
     layout: LayoutBuffers,
     contexts: BlockContexts,
     store: Store,
@@ -22,9 +31,10 @@ struct GroupRecord {
 }
 
 impl LfGroupBuffers {
-    pub fn new(call: &LfGroupCall) -> Self {
+    pub fn new(call: &LfGroupCall, cut_of: CutOf) -> Self {
         const MOST: usize = PassGroup::SIDE * PassGroup::SIDE;
         Self {
+            cut_of,
             layout: call.layout.buffers.clone(),
             contexts: BlockContexts::ZERO,
             store: call.orders.store.clone(),
@@ -57,20 +67,20 @@ impl LfGroupBuffers {
     /// Fills the record of a pass group.
     fn cut(&mut self, call: &LfGroupCall, index: usize, group: &PassGroup) -> Answer<()> {
         let (wide, high) = call.sides();
-        let whole = Layout {
+        let (rows, index) = match self.cut_of {
+            CutOf::Layout => (0..high, index),
+            CutOf::Rows => (group.rows.clone(), group.columns.start / PassGroup::SIDE),
+        };
+        let cells = rows.start * wide..rows.end * wide;
+        let lent = Layout {
             wide,
-            high,
-            kinds: &self.layout.kinds,
-            hf_mul: &self.layout.hf_mul,
+            high: rows.len(),
+            kinds: &self.layout.kinds[cells.clone()],
+            hf_mul: &self.layout.hf_mul[cells],
         };
         let GroupRecord { kinds, hf_mul, lf } = &mut self.group;
-        let blocks = group.blocks();
-        answer(cut(
-            whole,
-            index,
-            &mut kinds[..blocks],
-            &mut hf_mul[..blocks],
-        ))?;
+        let (kinds, hf_mul) = (&mut kinds[..group.blocks()], &mut hf_mul[..group.blocks()]);
+        answer(cut(lent, index, kinds, hf_mul))?;
         for (own, numbers) in lf.iter_mut().zip(&call.lf) {
             own.clear();
             for row in group.rows.clone() {

@@ -2,7 +2,7 @@
 
 mod lf_group;
 
-pub use lf_group::LfGroupBuffers;
+pub use lf_group::{CutOf, LfGroupBuffers};
 
 use calls::{
     AlikeCall, Answer, CoefficientBuffers, CoefficientsCall, ColumnCount, ColumnCountCall,

@@ -6,22 +6,24 @@ use compare::cases::fill;
 use compare::make;
 use compare::rng::Rng;
 use jxl_vardct::oracle::LfGroupRun;
-use ours::LfGroupBuffers;
+use ours::{CutOf, LfGroupBuffers};
 
 use crate::measure::{plain, prepared, Sides};
 use crate::rows::Bench;
 use crate::{contexts, layouts};
 
 pub fn benches() -> Vec<Bench> {
-    vec![Bench::new(
-        "LF group, 2,048 x 2,048, mixed, all calls",
-        || sides(call(2048, 2048)),
-    )]
+    let bench = |name, cut_of| Bench::new(name, move || sides(call(2048, 2048), cut_of));
+    vec![
+        bench("LF group, 2,048 x 2,048, all calls", CutOf::Layout),
+        bench("LF group, 2,048 x 2,048, cut by rows", CutOf::Rows),
+    ]
 }
 
-fn sides(call: LfGroupCall) -> Sides {
+/// The Rust has no cut: its pass groups are views of the whole layout.
+fn sides(call: LfGroupCall, cut_of: CutOf) -> Sides {
     let call: &'static LfGroupCall = Box::leak(Box::new(call));
-    let mut buffers = LfGroupBuffers::new(call);
+    let mut buffers = LfGroupBuffers::new(call, cut_of);
     let (mut our_output, mut rust_output) =
         (LfGroupOutput::zeros(call), LfGroupOutput::zeros(call));
     Sides {
@@ -126,13 +128,19 @@ mod tests {
     fn both_sides_fill_the_same_grids() {
         let call = call(600, 300);
         assert_eq!(call.groups().len(), 6);
-        let (mut ours, mut rust) = (LfGroupOutput::zeros(&call), LfGroupOutput::zeros(&call));
-        let read = LfGroupBuffers::new(&call).run(&call, &mut ours);
-        assert_eq!(read, LfGroupRun::new(&call).run(&mut rust));
+        let mut rust = LfGroupOutput::zeros(&call);
+        let read = LfGroupRun::new(&call).run(&mut rust);
         assert_eq!(read, Ok(call.symbols.iter().map(Vec::len).sum()));
-        assert!(ours == rust, "grids or the last log differ");
-        let cells = ours.grids.iter().flatten().flatten();
+        let cells = rust.grids.iter().flatten().flatten();
         assert!(cells.filter(|&&cell| cell != 0).count() > 10_000);
+        for cut_of in [CutOf::Layout, CutOf::Rows] {
+            let mut ours = LfGroupOutput::zeros(&call);
+            assert_eq!(
+                LfGroupBuffers::new(&call, cut_of).run(&call, &mut ours),
+                read
+            );
+            assert!(ours == rust, "grids or logs differ, cut of {cut_of:?}");
+        }
     }
 
     #[test]
