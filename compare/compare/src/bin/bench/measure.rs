@@ -82,7 +82,7 @@ struct Timed {
 
 impl Timed {
     fn new(mut side: Side) -> Self {
-        const MOST: u128 = 100_000;
+        const MOST: u128 = 2_000_000;
         side(1);
         let once = side(1).max(Duration::from_nanos(20));
         let times = (ROUND_TIME.as_nanos() / once.as_nanos()).clamp(1, MOST) as u32;
