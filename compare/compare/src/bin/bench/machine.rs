@@ -1,16 +1,20 @@
 //! What a table was measured on and with.
 
+use std::fs;
 use std::thread::available_parallelism;
 
 /// The compiler that this program was made by.
 const COMPILER: &str = env!("COMPILED_BY");
 
-/// Kind of processor, number of processors, compiler.
+/// Kind of processor, number of processors, compiler, and how many others are at work just now: the
+/// system's load over the last minute.
 pub fn kind() -> String {
-    let lines = std::fs::read_to_string("/proc/cpuinfo").unwrap_or_default();
+    let lines = fs::read_to_string("/proc/cpuinfo").unwrap_or_default();
     let processor = processor(&lines).unwrap_or_else(|| std::env::consts::ARCH.into());
     let count = available_parallelism().map_or(1, |count| count.get());
-    format!("{processor}; processors: {count}; {COMPILER}")
+    let load = fs::read_to_string("/proc/loadavg").unwrap_or_default();
+    let load = load.split_whitespace().next().unwrap_or("unknown");
+    format!("{processor}; processors: {count}; load before: {load}; {COMPILER}")
 }
 
 /// The first processor's name, with the numbers that tell apart processors of one name.
@@ -46,7 +50,10 @@ mod tests {
     }
 
     #[test]
-    fn the_kind_names_the_compiler() {
-        assert!(kind().contains("processors: ") && kind().contains("rustc"));
+    fn the_kind_tells_processors_load_and_compiler() {
+        let kind = kind();
+        for part in ["processors: ", "load before: ", "rustc"] {
+            assert!(kind.contains(part), "{kind}");
+        }
     }
 }

@@ -60,8 +60,9 @@ fn run(options: options::Options) -> Result<(), String> {
     }
     let names = rows::chosen(&rows, &options.names)?;
     let chart = options.svg.as_deref().map(svg::File::open).transpose()?;
+    let machine = machine::kind();
     let measured = children::measure(&names, options.growth, options.rounds)?;
-    println!("{}\n\n{}", machine::kind(), table::HEAD);
+    println!("{machine}; rounds: {}\n\n{}", options.rounds, table::HEAD);
     measured.iter().for_each(|row| println!("{row}"));
     let bars: Vec<svg::Bar> = measured.iter().filter_map(table::Row::bar).collect();
     chart.map_or(Ok(()), |chart| chart.write(&bars))
