@@ -6,6 +6,7 @@ mod columns;
 mod contexts;
 mod groups;
 mod layout;
+mod lf_group;
 mod orders;
 mod reads;
 
@@ -14,6 +15,7 @@ pub use columns::{ColumnCount, ColumnCountCall};
 pub use contexts::{Contexts, ContextsCall, LIST_MOST, MAP_MOST};
 pub use groups::{AlikeCall, CutCall, GroupBuffers, Layout};
 pub use layout::{LayoutBuffers, LayoutCall};
+pub use lf_group::{LfGroupCall, LfGroupOutput, PassGroup};
 pub use orders::{
     list_length, list_start, OrderCall, OrdersCall, Store, LIST_COUNT, ORDER_COUNT, ORDER_SIZES,
     STORE_LENGTH,

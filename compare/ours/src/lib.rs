@@ -1,5 +1,9 @@
 //! Netbuff's answers, through its safe wrapper, in the words of the comparison.
 
+mod lf_group;
+
+pub use lf_group::{CutOf, LfGroupBuffers};
+
 use calls::{
     AlikeCall, Answer, CoefficientBuffers, CoefficientsCall, ColumnCount, ColumnCountCall,
     Contexts, ContextsCall, CutCall, GroupBuffers, LayoutBuffers, LayoutCall, OrderCall,

@@ -1,6 +1,7 @@
 //! Stand-in for `jxl_grid`: grids row by row, without padding, nothing tracked.
 
 use std::fmt;
+use std::ops::Range;
 
 /// A grid that owns its cells.
 #[derive(Debug)]
@@ -39,6 +40,10 @@ impl<V> AlignedGrid<V> {
         &mut self.cells
     }
 
+    pub fn as_subgrid(&self) -> SharedSubgrid<'_, V> {
+        SharedSubgrid::of(self.width, self.height, &self.cells)
+    }
+
     #[inline]
     pub fn try_get_ref(&self, x: usize, y: usize) -> Option<&V> {
         if x < self.width && y < self.height {
@@ -63,11 +68,12 @@ impl<V: Copy> AlignedGrid<V> {
     }
 }
 
-/// A view of lent cells.
+/// A view of lent cells: each row begins `stride` cells behind the one before.
 #[derive(Debug, Copy, Clone)]
 pub struct SharedSubgrid<'a, V> {
     width: usize,
     height: usize,
+    stride: usize,
     cells: &'a [V],
 }
 
@@ -77,7 +83,20 @@ impl<'a, V> SharedSubgrid<'a, V> {
         Self {
             width,
             height,
+            stride: width,
             cells,
+        }
+    }
+
+    /// The part of the view that has these columns and rows, of which there are some.
+    pub fn subgrid(&self, columns: Range<usize>, rows: Range<usize>) -> SharedSubgrid<'a, V> {
+        assert!(columns.start < columns.end && columns.end <= self.width);
+        assert!(rows.start < rows.end && rows.end <= self.height);
+        SharedSubgrid {
+            width: columns.len(),
+            height: rows.len(),
+            stride: self.stride,
+            cells: &self.cells[rows.start * self.stride + columns.start..],
         }
     }
 
@@ -94,7 +113,7 @@ impl<V: Copy> SharedSubgrid<'_, V> {
     #[inline]
     pub fn get(&self, x: usize, y: usize) -> V {
         check_inside(x, y, self.width, self.height);
-        self.cells[y * self.width + x]
+        self.cells[y * self.stride + x]
     }
 }
 

@@ -1,4 +1,4 @@
-use calls::{CoefficientBuffers, CoefficientsCall, Outcome};
+use calls::{Answer, CoefficientBuffers, CoefficientsCall, Outcome};
 use jxl_bitstream::{Bitstream, Coded};
 use jxl_grid::{MutableSubgrid, SharedSubgrid};
 
@@ -42,13 +42,9 @@ impl<'a> CoefficientsRun<'a> {
         }
     }
 
-    pub fn run(&self, buffers: &mut CoefficientBuffers) -> calls::Answer<usize> {
+    pub fn run(&self, buffers: &mut CoefficientBuffers) -> Answer<usize> {
         let call = self.call;
         let (wide, high) = (call.group.wide, call.group.high);
-        let CoefficientBuffers { grids, log } = buffers;
-        let mut output = grids
-            .each_mut()
-            .map(|grid| MutableSubgrid::of(8 * wide, 8 * high, grid));
         let lf = call.lf.as_ref();
         let params = HfCoeffParams::<i32> {
             num_hf_presets: call.presets,
@@ -63,15 +59,28 @@ impl<'a> CoefficientsRun<'a> {
             coeff_shift: call.shift,
             tracker: None,
         };
+        let CoefficientBuffers { grids, log } = buffers;
         let coded = Coded {
             symbols: &call.symbols,
             log,
             ..Coded::default()
         };
-        let mut bitstream = Bitstream::with_coded(&call.bytes, coded);
-        match write_hf_coeff(&mut bitstream, params, &mut output) {
-            Ok(()) => Ok(bitstream.coded.symbols_read),
-            Err(error) => Err(refusal_of(&error, &bitstream)),
-        }
+        read_group(params, Bitstream::with_coded(&call.bytes, coded), grids)
+    }
+}
+
+/// Reads a group's coefficients into its grids; the answer is the number of symbols read.
+pub(super) fn read_group(
+    params: HfCoeffParams<i32>,
+    mut bitstream: Bitstream,
+    grids: &mut [Vec<i32>; 3],
+) -> Answer<usize> {
+    let (wide, high) = (params.block_info.width(), params.block_info.height());
+    let mut output = grids
+        .each_mut()
+        .map(|grid| MutableSubgrid::of(8 * wide, 8 * high, grid));
+    match write_hf_coeff(&mut bitstream, params, &mut output) {
+        Ok(()) => Ok(bitstream.coded.symbols_read),
+        Err(error) => Err(refusal_of(&error, &bitstream)),
     }
 }

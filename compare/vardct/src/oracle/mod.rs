@@ -4,12 +4,14 @@
 mod coefficients;
 mod contexts;
 mod layout;
+mod lf_group;
 mod orders;
 mod transform;
 
 pub use coefficients::{coefficients, CoefficientsRun};
 pub use contexts::{contexts, paper_form, ContextsRead};
 pub use layout::{column_count, layout, LayoutRun};
+pub use lf_group::LfGroupRun;
 pub use orders::{orders, store_after, Orders};
 pub use transform::{block_info, transform};
 

@@ -4,7 +4,8 @@ use compare::make::{self, OrdersAndStore};
 use compare::rng::Rng;
 use jxl_vardct::oracle::CoefficientsRun;
 
-use crate::measure::{plain, Bench};
+use crate::measure::{plain, Sides};
+use crate::rows::Bench;
 
 const DCT8: u8 = 0;
 const DCT32: u8 = 5;
@@ -19,29 +20,61 @@ fn orders() -> &'static OrdersAndStore {
 
 /// Groups of Dct8 of growing sides.
 pub fn growth() -> Vec<Bench> {
-    let orders = orders();
     let row = |side| {
         let name = format!("coefficients, {side} x {side} Dct8, sparse");
-        bench(orders, &name, tiled(side, |_| DCT8), 16)
+        bench(&name, move || tiled(side, |_| DCT8), 16)
     };
     [1, 4, 8, 16, 32].map(row).into()
 }
 
 pub fn benches() -> Vec<Bench> {
-    let orders = orders();
-    let bench = |name: &str, group, sparseness| bench(orders, name, group, sparseness);
     let dct8 = || tiled(32, |_| DCT8);
-    let halves = tiled(32, |x| if x < 16 { DCT32 } else { DCT64 });
-    let both = |name: &str, group, sparseness| checked(orders, name, group, sparseness);
+    let one = || tiled(1, |_| DCT8);
+    let halves = || tiled(32, |x| if x < 16 { DCT32 } else { DCT64 });
     vec![
-        bench("coefficients, 32 x 32 Dct8, dense", dct8(), 1),
-        bench("coefficients, 32 x 32 Dct8, sparse", dct8(), 16),
+        bench("coefficients, 32 x 32 Dct8, dense", dct8, 1),
+        bench("coefficients, 32 x 32 Dct8, sparse", dct8, 16),
         bench("coefficients, 32 x 32, Dct32 and Dct64", halves, 4),
-        bench("coefficients, one Dct256", tiled(32, |_| DCT256), 4),
-        bench("coefficients, 1 x 1 Dct8", tiled(1, |_| DCT8), 4),
-        both("coefficients, 32 x 32 Dct8, sparse", dct8(), 16),
-        both("coefficients, 1 x 1 Dct8", tiled(1, |_| DCT8), 4),
+        bench("coefficients, one Dct256", || tiled(32, |_| DCT256), 4),
+        bench("coefficients, 1 x 1 Dct8", one, 4),
+        checked("coefficients, 32 x 32 Dct8, sparse", dct8, 16),
+        checked("coefficients, 1 x 1 Dct8", one, 4),
     ]
+}
+
+fn bench(name: &str, group: impl FnOnce() -> Layout + 'static, sparseness: usize) -> Bench {
+    Bench::new(name, move || sides(orders(), group(), sparseness, |_| true))
+}
+
+/// The same where the Rust too looks at every stored place first, as document 01 asks of the call.
+fn checked(name: &str, group: impl FnOnce() -> Layout + 'static, sparseness: usize) -> Bench {
+    Bench::new(format!("{name}, places in both"), move || {
+        sides(orders(), group(), sparseness, places_inside)
+    })
+}
+
+/// Sides of which the Rust's tests `first` of the store before each call.
+fn sides(
+    orders: &'static OrdersAndStore,
+    group: Layout,
+    sparseness: usize,
+    first: impl Fn(&Store) -> bool + 'static,
+) -> Sides {
+    let symbols = symbol_stream(&mut Rng::new(4), &group, sparseness);
+    let call = orders.coefficients(group, make::default_contexts(), &symbols);
+    let call: &'static CoefficientsCall = Box::leak(Box::new(call));
+    let run = CoefficientsRun::new(call, &orders.orders);
+    let (mut our_buffers, mut rust_buffers) = (call.buffers.clone(), call.buffers.clone());
+    Sides {
+        ours: Some(plain(move || {
+            ours::coefficients_into(call, &mut our_buffers)
+        })),
+        rust: Some(plain(move || {
+            assert!(first(&orders.store), "a place outside its order");
+            run.run(&mut rust_buffers)
+        })),
+        units: (symbols.len(), "symbol"),
+    }
 }
 
 /// A square group filled with the transforms that `transform` names by x.
@@ -67,18 +100,6 @@ fn tiled(side: usize, transform: impl Fn(usize) -> u8) -> Layout {
     }
 }
 
-fn bench(orders: &'static OrdersAndStore, name: &str, group: Layout, sparseness: usize) -> Bench {
-    row(orders, name.into(), group, sparseness, || true)
-}
-
-/// The same where the Rust too looks at every stored place first, as document 01 asks of the call.
-fn checked(orders: &'static OrdersAndStore, name: &str, group: Layout, sparseness: usize) -> Bench {
-    let name = format!("{name}, places in both");
-    row(orders, name, group, sparseness, || {
-        places_inside(&orders.store)
-    })
-}
-
 /// Whether every stored place is inside its order's size, as fast as the Rust can tell: sides are
 /// powers of two, so all of a list's numbers are below one just if their or is.
 fn places_inside(store: &Store) -> bool {
@@ -92,28 +113,4 @@ fn places_inside(store: &Store) -> bool {
         or.chunks_exact(2)
             .all(|place| usize::from(place[0]) < wide && usize::from(place[1]) < high)
     })
-}
-
-/// A row whose Rust side tests `first` before each call.
-fn row(
-    orders: &'static OrdersAndStore,
-    name: String,
-    group: Layout,
-    sparseness: usize,
-    first: impl Fn() -> bool + 'static,
-) -> Bench {
-    let symbols = symbol_stream(&mut Rng::new(4), &group, sparseness);
-    let call = orders.coefficients(group, make::default_contexts(), &symbols);
-    let call: &'static CoefficientsCall = Box::leak(Box::new(call));
-    let run = CoefficientsRun::new(call, &orders.orders);
-    let (mut our_buffers, mut rust_buffers) = (call.buffers.clone(), call.buffers.clone());
-    Bench {
-        name,
-        units: (symbols.len(), "symbol"),
-        ours: plain(move || ours::coefficients_into(call, &mut our_buffers)),
-        rust: Some(plain(move || {
-            assert!(first(), "a place outside its order");
-            run.run(&mut rust_buffers)
-        })),
-    }
 }

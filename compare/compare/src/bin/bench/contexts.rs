@@ -2,32 +2,36 @@ use calls::ContextsCall;
 use compare::bits::Bits;
 use jxl_vardct::oracle;
 
-use crate::measure::{plain, Bench};
+use crate::measure::{plain, Sides};
+use crate::rows::Bench;
 
 pub fn benches() -> Vec<Bench> {
     vec![
-        bench("contexts, default", default()),
-        bench("contexts, thresholds on all lists, bsize 64", all_lists()),
+        bench("contexts, default", default),
+        bench("contexts, thresholds on all lists, bsize 64", all_lists),
     ]
 }
 
 /// Records of growing maps, all read from bits.
 pub fn growth() -> Vec<Bench> {
     vec![
-        bench("contexts, no lists, bsize 1", lists([0, 0, 0, 0])),
-        bench("contexts, one list, bsize 8", lists([0, 0, 0, 7])),
-        bench("contexts, thresholds on all lists, bsize 64", all_lists()),
+        bench("contexts, no lists, bsize 1", || lists([0, 0, 0, 0])),
+        bench("contexts, one list, bsize 8", || lists([0, 0, 0, 7])),
+        bench("contexts, thresholds on all lists, bsize 64", all_lists),
     ]
 }
 
-fn bench(name: &str, call: ContextsCall) -> Bench {
+fn bench(name: &str, call: fn() -> ContextsCall) -> Bench {
+    Bench::new(name, move || sides(call()))
+}
+
+fn sides(call: ContextsCall) -> Sides {
     let other = call.clone();
     let mut record = ours::USED_RECORD;
-    Bench {
-        name: name.into(),
-        units: (1, "parse"),
-        ours: plain(move || ours::contexts_into(&call, &mut record)),
+    Sides {
+        ours: Some(plain(move || ours::contexts_into(&call, &mut record))),
         rust: Some(plain(move || oracle::contexts(&other))),
+        units: (1, "parse"),
     }
 }
 
@@ -40,7 +44,7 @@ fn default() -> ContextsCall {
 }
 
 /// One threshold on each LF list and seven on the qf list: bsize 64.
-fn all_lists() -> ContextsCall {
+pub fn all_lists() -> ContextsCall {
     lists([1, 1, 1, 7])
 }
 

@@ -4,13 +4,14 @@ use compare::make;
 use compare::rng::Rng;
 use jxl_vardct::oracle::LayoutRun;
 
-use crate::measure::{plain, prepared, Bench};
+use crate::measure::{plain, prepared, Sides};
+use crate::rows::Bench;
 
 pub fn benches() -> Vec<Bench> {
     vec![
-        bench("layout, 2,048 x 2,048, Dct8, filter on", dct8(2048)),
-        bench("layout, 2,048 x 2,048, mixed, filter on", mixed(2048)),
-        bench("layout, 256 x 256, mixed, filter on", mixed(256)),
+        bench("layout, 2,048 x 2,048, Dct8, filter on", || dct8(2048)),
+        bench("layout, 2,048 x 2,048, mixed, filter on", || mixed(2048)),
+        bench("layout, 256 x 256, mixed, filter on", || mixed(256)),
     ]
 }
 
@@ -19,22 +20,25 @@ pub fn growth() -> Vec<Bench> {
     let sides = [(256, "256"), (512, "512"), (1024, "1,024"), (2048, "2,048")];
     let row = |(side, shown): (u32, &str)| {
         let name = format!("layout, {shown} x {shown}, mixed, filter on");
-        bench(&name, mixed(side))
+        bench(&name, move || mixed(side))
     };
     sides.into_iter().map(row).collect()
 }
 
-fn bench(name: &str, call: LayoutCall) -> Bench {
+fn bench(name: &str, call: impl FnOnce() -> LayoutCall + 'static) -> Bench {
+    Bench::new(name, move || sides(call()))
+}
+
+fn sides(call: LayoutCall) -> Sides {
     let call: &'static LayoutCall = Box::leak(Box::new(call));
     let mut buffers = call.buffers.clone();
-    Bench {
-        name: name.into(),
-        units: (call.sharpness.len(), "block"),
-        ours: plain(move || ours::layout_into(call, &mut buffers)),
+    Sides {
+        ours: Some(plain(move || ours::layout_into(call, &mut buffers))),
         rust: Some(prepared(
             || LayoutRun::new(call, call.types.len()),
             |run| run.run(),
         )),
+        units: (call.sharpness.len(), "block"),
     }
 }
 
@@ -50,7 +54,8 @@ fn mixed(side: u32) -> LayoutCall {
     filtered(make::layout(side, side, &columns))
 }
 
-fn filtered(mut call: LayoutCall) -> LayoutCall {
+/// The call with its filter on, and some sharpness for each block.
+pub fn filtered(mut call: LayoutCall) -> LayoutCall {
     let mut rng = Rng::new(9);
     call.filter = Some(0.46);
     call.lookup = std::array::from_fn(|k| k as f32 / 7.0);

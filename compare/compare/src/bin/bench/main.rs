@@ -1,15 +1,20 @@
 //! Times Netbuff's calls against the Rust of jxl-vardct: same driver, same inputs, both compiled
-//! for release. Prints the median of several rounds, taken in turn, and their ratio.
-//!
-//! `bench [--growth] [--svg FILE] [NAMES..]`: only rows whose name contains one of the names. With
-//! `--growth` the rows show how time grows with size. With `--svg` a chart of the ratios is written.
+//! for release. Each row of each round is measured by a process of its own, both sides in turn; the
+//! table has medians over the rounds, and the least and the largest ratio. `bench --help` has the
+//! options.
 
+#[cfg(live)]
+mod children;
 #[cfg(live)]
 mod coefficients;
 #[cfg(live)]
 mod contexts;
 #[cfg(live)]
 mod layouts;
+#[cfg(live)]
+mod lf_group;
+#[cfg(live)]
+mod machine;
 #[cfg(live)]
 mod measure;
 #[cfg(live)]
@@ -19,45 +24,48 @@ mod orders;
 #[cfg(live)]
 mod records;
 #[cfg(live)]
+mod rows;
+#[cfg(live)]
+mod spread;
+#[cfg(live)]
 mod svg;
+#[cfg(live)]
+mod table;
+#[cfg(live)]
+mod times;
 
 #[cfg(live)]
-fn main() -> Result<(), String> {
-    let options = options::Options::read(std::env::args().skip(1))?;
-    println!("{}", measure::HEAD);
-    let mut bars = Vec::new();
-    for bench in benches(options.growth) {
-        if options.wants(&bench.name) {
-            let row = measure::measure(bench);
-            println!("{row}");
-            bars.push(row.bar());
+fn main() -> std::process::ExitCode {
+    match options::Options::read(std::env::args().skip(1)).and_then(run) {
+        Ok(()) => 0.into(),
+        Err(problem) => {
+            eprintln!("{problem}");
+            2.into()
         }
-    }
-    match options.svg {
-        Some(file) => std::fs::write(&file, svg::chart(&bars)).map_err(|e| format!("{file}: {e}")),
-        None => Ok(()),
     }
 }
 
 #[cfg(live)]
-fn benches(growth: bool) -> Vec<measure::Bench> {
-    let rows = if growth {
-        vec![
-            layouts::growth(),
-            records::growth(),
-            contexts::growth(),
-            coefficients::growth(),
-        ]
-    } else {
-        vec![
-            layouts::benches(),
-            records::benches(),
-            contexts::benches(),
-            orders::benches(),
-            coefficients::benches(),
-        ]
-    };
-    rows.into_iter().flatten().collect()
+fn run(options: options::Options) -> Result<(), String> {
+    if options.help {
+        print!("{}", options::HELP);
+        return Ok(());
+    }
+    let rows = rows::all(options.growth);
+    if let Some(name) = &options.child {
+        let row = rows.into_iter().find(|row| row.name == *name);
+        let row = row.ok_or_else(|| format!("no such row: {name}"))?;
+        println!("{}", measure::measure((row.make)()));
+        return Ok(());
+    }
+    let names = rows::chosen(&rows, &options.names)?;
+    let chart = options.svg.as_deref().map(svg::File::open).transpose()?;
+    let machine = machine::kind();
+    let measured = children::measure(&names, options.growth, options.rounds)?;
+    println!("{machine}; rounds: {}\n\n{}", options.rounds, table::HEAD);
+    measured.iter().for_each(|row| println!("{row}"));
+    let bars: Vec<svg::Bar> = measured.iter().filter_map(table::Row::bar).collect();
+    chart.map_or(Ok(()), |chart| chart.write(&bars))
 }
 
 #[cfg(not(live))]

@@ -2,65 +2,23 @@ use std::fmt;
 use std::hint::black_box;
 use std::time::{Duration, Instant};
 
-use crate::svg::Bar;
+use crate::spread::Spread;
+use crate::times::Times;
 
-const ROUNDS: usize = 11;
-/// Rounds of calls that take longer than a round should.
-const FEW_ROUNDS: usize = 3;
+const ROUNDS: u32 = 11;
+/// At least so many, where a call takes longer than a round should.
+const FEW_ROUNDS: u32 = 3;
 const ROUND_TIME: Duration = Duration::from_millis(40);
 
 /// Makes a call so many times; the time that they took, without what was made ready for them.
 pub type Side = Box<dyn FnMut(usize) -> Duration>;
 
-pub struct Bench {
-    pub name: String,
-    pub ours: Side,
+/// What a row times: a call of Netbuff and one of the Rust, where there are such calls.
+pub struct Sides {
+    pub ours: Option<Side>,
     pub rust: Option<Side>,
     /// What one call handles, to show the time for each of them: how many, and their name.
     pub units: (usize, &'static str),
-}
-
-pub const HEAD: &str = "| call | Netbuff | Rust | ratio | Netbuff, each |\n|--|--|--|--|--|";
-
-/// A row of the table.
-pub struct Row {
-    name: String,
-    ours: Duration,
-    rust: Option<Duration>,
-    units: (usize, &'static str),
-}
-
-impl Row {
-    /// Netbuff's time divided by the Rust's.
-    fn ratio(&self) -> Option<f64> {
-        let rust = self.rust?;
-        Some(self.ours.as_secs_f64() / rust.as_secs_f64())
-    }
-
-    pub fn bar(&self) -> Bar {
-        Bar {
-            name: self.name.clone(),
-            ratio: self.ratio(),
-        }
-    }
-}
-
-impl fmt::Display for Row {
-    fn fmt(&self, f: &mut fmt::Formatter<'_>) -> fmt::Result {
-        let shown = |time: Duration| format!("{:.2} us", time.as_secs_f64() * 1e6);
-        let rust = self.rust.map_or("-".into(), shown);
-        let ratio = self
-            .ratio()
-            .map_or("-".into(), |ratio| format!("{ratio:.2}"));
-        let (count, unit) = self.units;
-        let each = self.ours.as_secs_f64() * 1e9 / count as f64;
-        let ours = shown(self.ours);
-        write!(
-            f,
-            "| {} | {ours} | {rust} | {ratio} | {each:.2} ns a {unit} |",
-            self.name
-        )
-    }
 }
 
 /// A side that needs nothing made ready. Every call must be accepted: a refusal ends early, and its
@@ -90,41 +48,94 @@ pub fn prepared<P: 'static, T, E: fmt::Debug>(
     })
 }
 
-pub fn measure(bench: Bench) -> Row {
-    let Bench {
-        name,
-        mut ours,
+/// Rounds of both sides in turn; the median of each side's rounds.
+pub fn measure(sides: Sides) -> Times {
+    let (count, unit) = sides.units;
+    let mut sides = [sides.ours, sides.rust].map(|side| side.map(Timed::new));
+    let longest = sides.iter().flatten().map(|side| side.round_time).max();
+    for _ in 0..rounds(longest.unwrap_or_default()) {
+        sides.iter_mut().flatten().for_each(Timed::round);
+    }
+    let [ours, rust] = sides.map(|side| Some(Spread::of(side?.rounds)?.median));
+    Times {
+        ours,
         rust,
-        units,
-    } = bench;
-    let our_times = times(&mut ours);
-    let mut ours_rounds = Vec::new();
-    let mut rust_rounds = Vec::new();
-    let mut rust = rust.map(|mut side| (times(&mut side), side));
-    let slow = our_times == 1 || matches!(rust, Some((1, _)));
-    for _ in 0..if slow { FEW_ROUNDS } else { ROUNDS } {
-        ours_rounds.push(ours(our_times) / our_times as u32);
-        if let Some((times, side)) = &mut rust {
-            rust_rounds.push(side(*times) / *times as u32);
+        count,
+        unit: unit.into(),
+    }
+}
+
+/// How many rounds are made, where the longest takes so long.
+fn rounds(longest: Duration) -> u32 {
+    let fit = (ROUND_TIME * ROUNDS).as_nanos() / longest.as_nanos().max(1);
+    (fit as u32).clamp(FEW_ROUNDS, ROUNDS)
+}
+
+struct Timed {
+    side: Side,
+    /// How many calls make up a round, and about how long they take.
+    times: u32,
+    round_time: Duration,
+    /// Nanoseconds of a call, by round.
+    rounds: Vec<f64>,
+}
+
+impl Timed {
+    fn new(mut side: Side) -> Self {
+        const MOST: u128 = 2_000_000;
+        side(1);
+        let once = side(1).max(Duration::from_nanos(20));
+        let times = (ROUND_TIME.as_nanos() / once.as_nanos()).clamp(1, MOST) as u32;
+        Self {
+            side,
+            times,
+            round_time: once * times,
+            rounds: Vec::new(),
         }
     }
-    Row {
-        name,
-        ours: median(ours_rounds),
-        rust: rust.map(|_| median(rust_rounds)),
-        units,
+
+    fn round(&mut self) {
+        let time = (self.side)(self.times as usize);
+        let calls = f64::from(self.times);
+        self.rounds.push(time.as_nanos() as f64 / calls);
     }
 }
 
-/// How many calls make up a round.
-fn times(side: &mut Side) -> usize {
-    const MOST: usize = 100_000;
-    side(1);
-    let once = side(1).max(Duration::from_nanos(20));
-    ((ROUND_TIME.as_nanos() / once.as_nanos()) as usize).clamp(1, MOST)
-}
+#[cfg(test)]
+mod tests {
+    use super::*;
 
-fn median(mut rounds: Vec<Duration>) -> Duration {
-    rounds.sort();
-    rounds[rounds.len() / 2]
+    /// A side that claims so many nanoseconds for each call.
+    fn claiming(nanoseconds: u64) -> Option<Side> {
+        Some(Box::new(move |times| {
+            Duration::from_nanos(nanoseconds * times as u64)
+        }))
+    }
+
+    #[test]
+    fn times_are_those_of_one_call() {
+        let times = measure(Sides {
+            ours: claiming(250),
+            rust: claiming(90_000_000),
+            units: (8, "block"),
+        });
+        assert_eq!((times.ours, times.rust), (Some(250.0), Some(90_000_000.0)));
+        assert_eq!((times.count, times.unit.as_str()), (8, "block"));
+    }
+
+    #[test]
+    fn there_are_fewer_rounds_where_they_are_long() {
+        let milliseconds = [0, 40, 50, 100, 500].map(Duration::from_millis);
+        assert_eq!(milliseconds.map(rounds), [11, 11, 8, 4, 3]);
+    }
+
+    #[test]
+    fn a_side_may_be_missing() {
+        let times = measure(Sides {
+            ours: None,
+            rust: claiming(1000),
+            units: (1, "copy"),
+        });
+        assert_eq!((times.ours, times.rust), (None, Some(1000.0)));
+    }
 }

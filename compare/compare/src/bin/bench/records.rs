@@ -2,33 +2,36 @@ use calls::{AlikeCall, CutCall, Layout};
 use compare::cases::fill;
 use compare::rng::Rng;
 
-use crate::measure::{plain, Bench};
+use crate::measure::{plain, Sides};
+use crate::rows::Bench;
 
 /// The check of a lent layout, by way of a cut: of a group that is the whole layout, and of the
 /// largest layout; and likeness, of a layout to itself. The Rust has no such calls.
 pub fn benches() -> Vec<Bench> {
-    let mut rng = Rng::new(5);
-    let mut mixed = |side| fill(&mut rng, side, side, None).layout;
+    const SIDES: &[usize] = &[32, 256, 256];
     vec![
-        bench("cut, 32 x 32 blocks, mixed", mixed(32)),
-        bench("cut, 256 x 256 blocks, mixed", mixed(256)),
-        bench("cut, 256 x 256 blocks, Dct8", dct8(256)),
-        likeness("likeness, 256 x 256 blocks, mixed", mixed(256)),
+        cut("cut, 32 x 32 blocks, mixed", || mixed(SIDES, 0)),
+        cut("cut, 256 x 256 blocks, mixed", || mixed(SIDES, 1)),
+        cut("cut, 256 x 256 blocks, Dct8", || dct8(256)),
+        likeness("likeness, 256 x 256 blocks, mixed", || mixed(SIDES, 2)),
     ]
 }
 
 /// Layouts of growing sides: the first group is cut, and each is held against itself.
 pub fn growth() -> Vec<Bench> {
-    const SIDES: [usize; 4] = [32, 64, 128, 256];
+    const SIDES: &[usize] = &[32, 64, 128, 256];
+    let each = || SIDES.iter().enumerate();
+    let name = |call: &str, side: usize| format!("{call}, {side} x {side} blocks, mixed");
+    let cuts = each().map(|(k, &side)| cut(&name("cut", side), move || mixed(SIDES, k)));
+    let alike = each().map(|(k, &side)| likeness(&name("likeness", side), move || mixed(SIDES, k)));
+    cuts.chain(alike).collect()
+}
+
+/// The k-th of layouts of these sides, drawn one behind the other from one generator.
+fn mixed(sides: &[usize], k: usize) -> Layout {
     let mut rng = Rng::new(5);
-    let layouts = SIDES.map(|side| fill(&mut rng, side, side, None).layout);
-    let name = |call: &str, layout: &Layout| {
-        let (wide, high) = (layout.wide, layout.high);
-        format!("{call}, {wide} x {high} blocks, mixed")
-    };
-    let cuts = layouts.clone().map(|l| bench(&name("cut", &l), l));
-    let alike = layouts.map(|l| likeness(&name("likeness", &l), l));
-    cuts.into_iter().chain(alike).collect()
+    let filled = |&side: &usize| fill(&mut rng, side, side, None).layout;
+    sides.iter().map(filled).nth(k).expect("a side")
 }
 
 fn dct8(side: usize) -> Layout {
@@ -41,32 +44,33 @@ fn dct8(side: usize) -> Layout {
     }
 }
 
-fn bench(name: &str, layout: Layout) -> Bench {
+fn cut(name: &str, layout: impl FnOnce() -> Layout + 'static) -> Bench {
     const GROUP: usize = 32 * 32;
-    let units = (layout.blocks(), "block");
-    let call = CutCall {
-        layout,
-        group: 0,
-        kinds: vec![0; GROUP],
-        hf_mul: vec![0; GROUP],
-    };
-    let mut buffers = (call.kinds.clone(), call.hf_mul.clone());
-    Bench {
-        name: name.into(),
-        units,
-        ours: plain(move || ours::cut_into(&call, &mut buffers)),
-        rust: None,
-    }
+    Bench::new(name, move || {
+        let call = CutCall {
+            layout: layout(),
+            group: 0,
+            kinds: vec![0; GROUP],
+            hf_mul: vec![0; GROUP],
+        };
+        let mut buffers = (call.kinds.clone(), call.hf_mul.clone());
+        Sides {
+            units: (call.layout.blocks(), "block"),
+            ours: Some(plain(move || ours::cut_into(&call, &mut buffers))),
+            rust: None,
+        }
+    })
 }
 
-fn likeness(name: &str, layout: Layout) -> Bench {
-    let units = (layout.blocks(), "block");
-    let (left, right) = (layout.clone(), layout);
-    let call = AlikeCall { left, right };
-    Bench {
-        name: name.into(),
-        units,
-        ours: plain(move || ours::alike(&call).answer),
-        rust: None,
-    }
+fn likeness(name: &str, layout: impl FnOnce() -> Layout + 'static) -> Bench {
+    Bench::new(name, move || {
+        let left = layout();
+        let right = left.clone();
+        let call = AlikeCall { left, right };
+        Sides {
+            units: (call.left.blocks(), "block"),
+            ours: Some(plain(move || ours::alike(&call).answer)),
+            rust: None,
+        }
+    })
 }

@@ -1,12 +1,41 @@
 //! A bar chart of ratios as an SVG: one bar a row, on a logarithmic axis, from the line at 1.0 to the
-//! right where Netbuff takes longer and to the left where it takes less.
+//! right where Netbuff takes longer and to the left where it takes less. A thin line across the bar's
+//! end goes from the least ratio to the largest.
 
-use std::fmt::Write;
+use std::fmt::Write as _;
+use std::fs;
+use std::io::Write as _;
+
+use crate::spread::Spread;
 
 /// A row of the chart; no ratio where the Rust has no such call.
 pub struct Bar {
     pub name: String,
-    pub ratio: Option<f64>,
+    pub ratio: Option<Spread>,
+}
+
+/// Where a chart will be written: opened beforehand, so that a file that cannot be written is told
+/// before anything is measured. What it holds is kept until there is a chart.
+pub struct File {
+    name: String,
+    file: fs::File,
+}
+
+impl File {
+    pub fn open(name: &str) -> Result<Self, String> {
+        let mut options = fs::OpenOptions::new();
+        let opened = options.write(true).create(true).truncate(false).open(name);
+        Ok(Self {
+            name: name.into(),
+            file: opened.map_err(|e| format!("{name}: {e}"))?,
+        })
+    }
+
+    pub fn write(mut self, bars: &[Bar]) -> Result<(), String> {
+        let emptied = self.file.set_len(0);
+        let written = emptied.and_then(|()| self.file.write_all(chart(bars).as_bytes()));
+        written.map_err(|e| format!("{}: {e}", self.name))
+    }
 }
 
 const WIDTH: f64 = 960.0;
@@ -69,7 +98,8 @@ fn steps() -> impl Iterator<Item = f64> {
 }
 
 pub fn chart(bars: &[Bar]) -> String {
-    let axis = Axis::over(bars.iter().filter_map(|bar| bar.ratio));
+    let ratios = bars.iter().filter_map(|bar| bar.ratio);
+    let axis = Axis::over(ratios.flat_map(|ratio| [ratio.least, ratio.largest]));
     let bottom = TOP + ROW * bars.len() as f64;
     let height = bottom + BOTTOM;
     let mut svg = format!(
@@ -105,20 +135,26 @@ fn draw(svg: &mut String, axis: &Axis, top: f64, bar: &Bar) {
         text(svg, (one + 6.0, base), "start", "the Rust has no such call");
         return;
     };
-    let end = axis.place(ratio);
-    let (left, wide) = (end.min(one), (end - one).abs());
-    let (color, x, anchor) = if ratio > 1.0 {
-        ("#c2571a", end + 6.0, "start")
+    let [least, end, largest] =
+        [ratio.least, ratio.median, ratio.largest].map(|each| axis.place(each));
+    let (color, x, anchor) = if ratio.median > 1.0 {
+        ("#c2571a", largest + 6.0, "start")
     } else {
-        ("#2a7f62", end - 6.0, "end")
+        ("#2a7f62", least - 6.0, "end")
     };
-    let y = top + (ROW - THICK) / 2.0;
+    let middle = top + ROW / 2.0;
+    let bar = (end.min(one), middle - THICK / 2.0);
+    rect(svg, bar, ((end - one).abs(), THICK), color);
+    rect(svg, (least, middle - 0.5), (largest - least, 1.0), "black");
+    text(svg, (x, base), anchor, &format!("{:.2}", ratio.median));
+}
+
+fn rect(svg: &mut String, (x, y): (f64, f64), (wide, high): (f64, f64), color: &str) {
     writeln!(
         svg,
-        "<rect x=\"{left:.1}\" y=\"{y:.1}\" width=\"{wide:.1}\" height=\"{THICK}\" fill=\"{color}\"/>"
+        "<rect x=\"{x:.1}\" y=\"{y:.1}\" width=\"{wide:.1}\" height=\"{high}\" fill=\"{color}\"/>"
     )
     .expect("a string takes all");
-    text(svg, (x, base), anchor, &format!("{ratio:.2}"));
 }
 
 fn line(svg: &mut String, x: f64, bottom: f64, color: &str) {
@@ -143,10 +179,10 @@ fn text(svg: &mut String, (x, y): (f64, f64), anchor: &str, words: &str) {
 mod tests {
     use super::*;
 
-    fn bar(name: &str, ratio: f64) -> Bar {
+    fn bar(name: &str, median: f64) -> Bar {
         Bar {
             name: name.into(),
-            ratio: Some(ratio),
+            ratio: Spread::of([0.75 * median, median, 1.5 * median]),
         }
     }
 
@@ -186,7 +222,22 @@ mod tests {
         assert!(svg.contains(">a &lt; b &amp; c<") && svg.contains(">0.50<"));
         assert!(svg.contains(">orders<") && svg.contains(">5.42<"));
         assert!(svg.contains(">cut<") && svg.contains("no such call"));
-        // The ground, and a bar for each ratio.
-        assert_eq!(svg.matches("<rect").count(), 3);
+        // The ground, and for each ratio a bar and a line.
+        assert_eq!(svg.matches("<rect").count(), 5);
+    }
+
+    #[test]
+    fn a_file_is_opened_before_there_is_a_chart() {
+        let folder = std::env::temp_dir().join(format!("bench-svg-{}", std::process::id()));
+        let name = folder.join("chart.svg").display().to_string();
+        assert!(File::open(&name).is_err_and(|problem| problem.starts_with(&name)));
+        fs::create_dir(&folder).expect("a folder");
+        fs::write(&name, "x".repeat(10_000)).expect("a file");
+        let file = File::open(&name).expect("a file");
+        assert_eq!(fs::read(&name).expect("the file").len(), 10_000);
+        file.write(&[bar("orders", 2.0)]).expect("a chart");
+        let written = fs::read_to_string(&name).expect("the chart");
+        assert_eq!(written, chart(&[bar("orders", 2.0)]));
+        fs::remove_dir_all(&folder).expect("an end");
     }
 }
