@@ -1,12 +1,13 @@
 -- Laws on what a job still needs (document 01, The lister: "what follows is not read").
 use mathlib.Core.Path.{_≡_, refl, ap, sym, _∙_}
 use mathlib.Core.Bool.{Bool, true, false, cond, _&&_}
-use mathlib.Core.List.{List, [], _++_, append-nil}
+use mathlib.Core.List.{List, [], _∷_, _++_, append-nil}
 use mathlib.Core.Logic.{_⊎_, inl, inr}
 use Prim.Native.Nat.{ℕ, zero, suc, _+_, _-_, _/_, _≤_, _<_}
 use native.Mathlib.Omega.{arith}
 use lib.Dec.{leb, ltb, eqb}
 use lib.ListN.{length, getD, length-append, List·getD-append}
+use lib.Seq.{getD-at}
 use borrow.Author.Tests.{le-leb, lt-leb, lt-ltb, le-ltb, eq-eqb, ne-eqb, ltb-true, ltb-false, leb-true, leb-false, eqb-true, eqb-false}
 use Rattle.laws.specs.Cases.{le-or-lt, eq-or-ne, and-true}
 use Rattle.laws.specs.Lists.{tabulate}
@@ -326,3 +327,38 @@ module _ (j : List ℕ) (job : isJob j ≡ true) where
 
   pub job-most : length j ≤ 36870
   job-most = let e = exact j [] nothing-behind in omega (arith, columns-most (j ++ []))
+
+-- Behind what no job has there nothing is asked for: a first command that is none of a size,
+pub other-first : (c : ℕ) → (c ≡ 16 → ⊥) → needed (c ∷ []) ≡ 0
+other-first c h = needed-size (c ∷ []) (omega arith) ∙ rw (ne-eqb c 16 h)
+
+-- more than 512 pixels,
+module _ (s : List ℕ) (h : length s ≡ 5) (b : getD s 0 0 ≡ 16) where
+  pub too-wide : 512 < width s → needed s ≡ 0
+  too-wide c = needed-unsized s (omega arith) (sym (unsized-wide s (omega arith) b c))
+
+  pub too-high : width s ≤ 512 → 512 < height s → needed s ≡ 0
+  too-high c d = needed-unsized s (omega arith) (sym (sized-high s (omega arith) b c) ∙ lt-leb (height s) 512 d)
+
+-- behind k columns a command that is none of a column, and behind 4,096 of them any.
+module _ (s : List ℕ) (c k : ℕ) (h : length s ≡ columnPlace k) (n : (k < 4096 → c ≡ 17 → ⊥)) where
+  longer-by-one : length (s ++ (c ∷ [])) ≡ columnPlace k + 1
+  longer-by-one = length-append s (c ∷ []) ∙ ap (λ (m : ℕ). m + 1) h
+
+  pub other-later : needed (s ++ (c ∷ [])) ≡ 0
+  other-later = go (hasSize (s ++ (c ∷ []))) refl (le-or-lt 4096 k)
+    where
+      e : last (s ++ (c ∷ [])) ≡ k
+      e = omega (arith, longer-by-one)
+
+      long : columnPlace k < length (s ++ (c ∷ []))
+      long = omega (arith, longer-by-one)
+
+      byte : getD (s ++ (c ∷ [])) (columnPlace k) 0 ≡ c
+      byte = getD-at s c [] 0 (columnPlace k) h
+
+      go : (b : Bool) → hasSize (s ++ (c ∷ [])) ≡ b → (4096 ≤ k) ⊎ (k < 4096) → needed (s ++ (c ∷ [])) ≡ 0
+      go false f l = needed-unsized (s ++ (c ∷ [])) (omega (arith, longer-by-one)) f
+      go true f (inl l) = needed-column (s ++ (c ∷ [])) (omega (arith, longer-by-one)) f ∙ ap (columnNeeds (s ++ (c ∷ []))) e ∙ sym (column-over (s ++ (c ∷ [])) k long l)
+      go true f (inr l) =
+          needed-column (s ++ (c ∷ [])) (omega (arith, longer-by-one)) f ∙ ap (columnNeeds (s ++ (c ∷ []))) e ∙ sym (column-other (s ++ (c ∷ [])) k long (λ z. n l (sym byte ∙ z)))
