@@ -49,7 +49,7 @@ pub fn part_of_name(c: char) -> bool {
 }
 
 /// The line behind the first of these words, where it begins with one.
-fn without<'a>(line: &'a str, words: &[&str]) -> &'a str {
+pub fn without<'a>(line: &'a str, words: &[&str]) -> &'a str {
     let mut rests = words.iter().filter_map(|word| line.strip_prefix(word));
     rests.next().unwrap_or(line)
 }

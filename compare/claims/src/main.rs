@@ -2,12 +2,16 @@
 //! tables has four cells, every must-fail edit that it names exists and every edit that exists is
 //! named, every name in backquotes behind a crate's name is defined in that crate, and every
 //! compared call is one. And what the page says of all public functions: each has a contract, and
-//! asks nothing of its caller. Ends with 1 where one does not.
+//! asks nothing of its caller. And the reading list of docs/ARCHITECTURE.md: it has every definition
+//! that a promise rests on. Ends with 1 where one does not.
 
 mod contracts;
 mod definitions;
+mod reading;
 mod repository;
 mod rows;
+mod specs;
+mod words;
 
 use std::path::Path;
 
@@ -28,9 +32,32 @@ fn main() -> std::process::ExitCode {
     for fault in repository.faults() {
         println!("crates/{fault}");
     }
-    let wrong = problems.len() + repository.faults().len();
+    let unread = unread(&root, &repository, &rows);
+    for fault in &unread {
+        println!("docs/ARCHITECTURE.md: {fault}");
+    }
+    let wrong = problems.len() + repository.faults().len() + unread.len();
     println!("claims: {} rows, {wrong} wrong", rows.len());
     u8::from(wrong > 0).into()
+}
+
+/// What the reading list lacks.
+fn unread(root: &Path, repository: &Repository, rows: &[Row]) -> Vec<String> {
+    let page = std::fs::read_to_string(root.join("docs/ARCHITECTURE.md")).expect("ARCHITECTURE.md");
+    let (list, mut faults) = reading::read_list(&page);
+    let promises = rows
+        .iter()
+        .flat_map(|row| names(row.promise, |word| repository.has_crate(word)));
+    let promises: Vec<_> = promises.collect();
+    let library = repository.library();
+    faults.extend(library.misses(&list));
+    faults.extend(library.lacks(&list, &promises));
+    let (definitions, lines) = library.size(&promises);
+    println!(
+        "reading list: {} files, {definitions} definitions, {lines} lines",
+        list.len()
+    );
+    faults
 }
 
 fn problems(repository: &Repository, rows: &[Row]) -> Vec<String> {

@@ -2,6 +2,7 @@ use std::collections::{BTreeMap, BTreeSet};
 use std::fs;
 use std::path::Path;
 
+use crate::reading::Library;
 use crate::{contracts, definitions};
 
 /// The crates of the repository, with what the page may name of them.
@@ -9,6 +10,7 @@ pub struct Repository {
     crates: BTreeMap<String, Crate>,
     calls: BTreeSet<String>,
     faults: Vec<String>,
+    library: Library,
 }
 
 #[derive(Default)]
@@ -31,20 +33,34 @@ impl Repository {
             let named = text.split("NAME: &'static str = \"").skip(1);
             calls.extend(named.filter_map(|rest| rest.split('"').next().map(String::from)));
         });
-        let mut faults = Vec::new();
-        each_file(&root.join("crates"), &mut |path| {
-            if path.extension().is_some_and(|kind| kind == "rt") {
+        let crates: BTreeMap<_, _> = crates.collect();
+        let (mut faults, mut library) = (Vec::new(), Library::default());
+        for name in crates.keys() {
+            let folder = root.join("crates").join(name);
+            each_file(&folder.join("src"), &mut |path| {
                 let text = fs::read_to_string(path).expect("text");
                 let place = path.strip_prefix(root.join("crates")).expect("below");
                 let found = contracts::faults(&text).into_iter();
                 faults.extend(found.map(|fault| format!("{}: {fault}", place.display())));
-            }
-        });
+                library.add_code(name, &text);
+            });
+            each_file(&folder.join("specs"), &mut |path| {
+                let text = fs::read_to_string(path).expect("text");
+                let file = path.file_stem().expect("a name").to_string_lossy();
+                library.add_definitions(name, &file, &text);
+            });
+        }
         Self {
-            crates: crates.collect(),
+            crates,
             calls,
             faults,
+            library,
         }
+    }
+
+    /// The crates' definitions and contracts, for the reading list.
+    pub fn library(&self) -> &Library {
+        &self.library
     }
 
     /// Public functions whose contracts are not what the page says of all.

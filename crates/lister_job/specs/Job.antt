@@ -2,8 +2,8 @@
 use mathlib.Core.Path.{_≡_}
 use mathlib.Core.Bool.{Bool, cond, _&&_}
 use mathlib.Core.List.{List, _++_}
-use Prim.Native.Nat.{ℕ, zero, suc, _+_, _*_}
-use lib.Dec.{leb, eqb}
+use Prim.Native.Nat.{ℕ, zero, suc, _+_, _-_, _*_, _/_}
+use lib.Dec.{leb, ltb, eqb}
 use lib.ListN.{length, getD, drop}
 use Rattle.laws.specs.Lists.{tabulate}
 
@@ -58,6 +58,22 @@ module _ (s : List ℕ) where
   -- behind its columns a job ends; what follows is not read
   abbrev pub hasEnd : Bool
   hasEnd = leb (columnPlace columns + 1) (length s) && eqb (getD s (columnPlace columns) 0) 0
+
+  -- a job: one 10, its columns, one 00, and nothing behind
+  abbrev pub isJob : Bool
+  isJob = hasSize && hasEnd && eqb (length s) (columnPlace columns + 1)
+
+  -- What a job that begins with s needs is read record by record: a command byte, then the rest of its record. Of the size record:
+  abbrev pub sizeNeeds : ℕ
+  sizeNeeds = cond (eqb (length s) 0) 1 (cond (eqb (getD s 0 0) 0x10) (5 - length s) 0)
+
+  -- of column k, if there may be one, or of the end in its place
+  abbrev pub columnNeeds : ℕ → ℕ
+  columnNeeds k = cond (leb (length s) (columnPlace k)) 1 (cond (ltb k 4096 && eqb (getD s (columnPlace k) 0) 0x11) (columnPlace k + 9 - length s) 0)
+
+  -- how many bytes are asked for behind s, read so: none behind the end of a job, none behind a record or command that no job has there
+  unfoldable pub needed : ℕ
+  needed = cond (ltb (length s) 5) sizeNeeds (cond hasSize (columnNeeds ((length s - 5) / 9)) 0)
 
 -- the first n places hold f 0, f 1, .., the rest is as it came
 abbrev pub prefixed : (ℕ → ℕ) → ℕ → List ℕ → List ℕ

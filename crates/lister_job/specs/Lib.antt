@@ -1,3 +1,5 @@
--- a job's bytes, and laws on them
+-- a job's bytes, how they are read, and laws on them
 pub mod Job
 pub mod JobSteps
+pub mod Needed
+pub mod Reading

@@ -27,6 +27,8 @@ use Rattle.hf_pass.specs.Call.{parsed}
 use Rattle.hf_pass.specs.Marked.{m1, m2}
 use Rattle.hf_coeff.specs.declared.CoeffAnswer.the-variants.{Accepted}
 use Rattle.hf_coeff.specs.Call.{reads, refuses, leaves, outcome, refuse, readPreset, call, reading as readingWith}
+use Rattle.lister.specs.Listing.{textOf}
+use Rattle.marked.specs.Lines.{job, lines, five-lines}
 use Rattle.marked.specs.Orders.{one-digit}
 use Rattle.marked.specs.Coefficients.{gains, dct8, dct16, Room, passes-252, refuses-253, reads-two-bits, refuses-3, takes-others, six-symbols}
 
@@ -44,11 +46,12 @@ abbrev pub M3 : Type 0
 M3 = (earlier : List ℕ) → length earlier ≡ 2 * PLACES
     → take 8 (stretch (parsed (7 ∷ 0 ∷ []) (1 ∷ 1 ∷ 0 ∷ 0 ∷ []) earlier .store) 0 0) ≡ 0 ∷ 0 ∷ 0 ∷ 1 ∷ 1 ∷ 0 ∷ 0 ∷ 2 ∷ []
 
--- M4 the lister's layout: 16 × 16 pixels and columns (6,4) (0,0) (0,2)
+-- M4 the lister's layout: 16 × 16 pixels and columns (6,4) (0,0) (0,2); the lister prints it in five lines
 abbrev pub M4 : Type 0
 M4 = (off 2 2 (6 ∷ 0 ∷ 0 ∷ []) (4 ∷ 0 ∷ 2 ∷ []) ≡ record { answer = accepted 3; kinds = 8 ∷ 2 ∷ 1 ∷ 2 ∷ []; hfMul = 5 ∷ 1 ∷ 0 ∷ 3 ∷ []; sigma = replicate 4 0 })
     × (varblocksOf 2 2 (8 ∷ 2 ∷ 1 ∷ 2 ∷ []) (5 ∷ 1 ∷ 0 ∷ 3 ∷ []) ≡ varblock 0 0 6 5 ∷ varblock 1 0 0 1 ∷ varblock 1 1 0 3 ∷ [])
     × (area (varblock 0 0 6 5 ∷ varblock 1 0 0 1 ∷ varblock 1 1 0 3 ∷ []) ≡ 4)
+    × (textOf job ≡ lines)
 
 -- M5 mul 0 gives 1, −1 refused
 abbrev pub M5 : Type 0
@@ -128,7 +131,7 @@ row3 : M3
 row3 = one-digit
 
 row4 : M4
-row4 = (m4, m4-varblocks, m4-area)
+row4 = (m4, m4-varblocks, m4-area, five-lines)
 
 row5 : M5
 row5 = (m5, m5-refused)
