@@ -7,6 +7,8 @@ pub mod LowCells
 pub mod SymbolsRead
 pub mod Surplus
 pub mod Witness
+pub mod FullWitness
+pub mod LeftOver
 pub mod Inside
 pub mod NeverOutside
 -- laws
