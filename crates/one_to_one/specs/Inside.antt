@@ -10,7 +10,7 @@ use lib.ListN.{length, getD, set}
 use Rattle.layout.specs.Varblocks.{Varblock}
 use Rattle.hf_coeff_walk.specs.Walk.{FREQ, NUM-NONZERO, coeffContext, flag, less, gain}
 use Rattle.hf_coeff_walk.specs.Item.{Item, predicted, countIndex, countCluster, coeffPart}
-use Rattle.hf_coeff_group.specs.Pass.{Pass, varblocks, channels}
+use Rattle.hf_coeff_group.specs.Pass.{Pass, varblocks, blocksOf, placesAt, channels}
 use Rattle.hf_coeff_group.specs.Group.{Reading, going, refused, item, varblock}
 use Rattle.hf_coeff.specs.Call.{Lent, clustersOf, rowsOf, presetMap}
 
@@ -41,6 +41,10 @@ abbrev pub LfInside : Pass → Varblock → Type 0
 LfInside P v =
     P .lfThere ≡ true
     → (v .y * P .width + v .x < length (P .lf0)) × (v .y * P .width + v .x < length (P .lf1)) × (v .y * P .width + v .x < length (P .lf2))
+
+-- each channel's order is stored whole: 63 places for each block behind the low-frequency cells
+abbrev pub OrdersWhole : Pass → Varblock → Type 0
+OrdersWhole P v = (c : ℕ) → c < 3 → length (placesAt P v c) ≡ 63 * blocksOf v
 
 module _ (shift clusters : ℕ) (stretch : List ℕ) where
   -- along `counted`: the count's entry lies among the first 37 × clusters, the 458 of the coefficients lie whole in the stretch
@@ -73,9 +77,10 @@ module _ (shift clusters : ℕ) (stretch : List ℕ) where
   -- along `group`
   abbrev pub GroupInside : Pass → List Varblock → Reading → Type 0
   GroupInside P [] r = Unit
-  GroupInside P (v ∷ vs) r = LfInside P v × ReadInside (channels P v) r × GroupInside P vs (varblock shift clusters stretch P v r)
+  GroupInside P (v ∷ vs) r = LfInside P v × OrdersWhole P v × ReadInside (channels P v) r × GroupInside P vs (varblock shift clusters stretch P v r)
 
--- along `reading`: the group of a coefficient call, with the stretch of a preset
+-- along `reading`: the stretch of the preset lies whole in the cluster map, and the group is read with it
 abbrev pub ReadingInside : Lent → ℕ → Type 0
 ReadingInside L preset =
-    GroupInside (L .shift) (clustersOf (L .pass)) (presetMap L preset) (L .pass) (varblocks (L .pass)) (going (L .symbols) 0 (L .log) (L .grids) (rowsOf (L .pass)) 0)
+    (495 * clustersOf (L .pass) * preset + 495 * clustersOf (L .pass) ≤ length (L .clusterMap))
+    × GroupInside (L .shift) (clustersOf (L .pass)) (presetMap L preset) (L .pass) (varblocks (L .pass)) (going (L .symbols) 0 (L .log) (L .grids) (rowsOf (L .pass)) 0)

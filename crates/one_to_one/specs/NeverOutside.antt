@@ -36,7 +36,7 @@ use Rattle.one_to_one.specs.Rectangles.{corner, known, right, bottom}
 use Rattle.one_to_one.specs.Spread.{InP, in-place}
 use Rattle.one_to_one.specs.Logging.{symbolsIn}
 use Rattle.one_to_one.specs.SymbolsRead.{places-many, some-blocks, most-symbols}
-use Rattle.one_to_one.specs.Inside.{ReadInside, LfInside, GroupInside, ReadingInside}
+use Rattle.one_to_one.specs.Inside.{ReadInside, LfInside, OrdersWhole, GroupInside, ReadingInside}
 use Rattle.one_to_one.specs.InsideLaws.{Sound, Small, AllSound, Sane, read-inside}
 
 -- Places of a stored list, by number and in the list.
@@ -113,13 +113,13 @@ module _ (shift clusters : ℕ) (stretch₀ : List ℕ) where
   parts [] ys r h = (tt, h)
   parts (x ∷ xs) ys r h = let k = parts xs ys (item shift clusters stretch₀ x r) (h .1) in ((h .0, k .0), k .1)
 
-  by-group : (P : Pass) (vs : List Varblock) (r : Reading) → ((v : Varblock) → InV v vs → LfInside P v)
+  by-group : (P : Pass) (vs : List Varblock) (r : Reading) → ((v : Varblock) → InV v vs → LfInside P v × OrdersWhole P v)
       → ReadInside shift clusters stretch₀ (itemsOf P vs) r → GroupInside shift clusters stretch₀ P vs r
   unfolding itemsOf
   by-group P [] r f h = tt
   by-group P (v ∷ vs) r f h =
       let k = parts (channels P v) (itemsOf P vs) r h in
-      (f v (inl refl), k .0, by-group P vs (read shift clusters stretch₀ (channels P v) r) (λ u j. f u (inr j)) (k .1))
+      (f v (inl refl) .0, f v (inl refl) .1, k .0, by-group P vs (read shift clusters stretch₀ (channels P v) r) (λ u j. f u (inr j)) (k .1))
 
 -- The reading of a call.
 zeros-small : (n i : ℕ) → getD {A = ℕ} (replicate n 0) i 0 ≤ 63
@@ -140,11 +140,16 @@ module _ (L : Lent) (passed : Passed L) (preset : ℕ) (below : preset < L .pres
   lay : LaidOut P
   lay = let k = lengths-fit L (passed .lengths) in layout-iff (P .width) (P .height) (P .kinds) (P .muls) (k .kinds) (k .muls) .0 (passed .layout)
 
+  stretch-inside : 495 * clustersOf P * preset + 495 * clustersOf P ≤ length (L .clusterMap)
+  stretch-inside =
+      let n = 495 * clustersOf P in
+      let a : n * preset + n ≤ n * L .presets = rw (← mul-suc n preset) (mul-le-mul (le-refl n) below) in
+      omega (arith, lengths-fit L (passed .lengths) .map)
+
   stretch-whole : length (presetMap L preset) ≡ 495 * clustersOf P
   stretch-whole =
       let n = 495 * clustersOf P in
-      let a : n * preset + n ≤ n * L .presets = rw (← mul-suc n preset) (mul-le-mul (le-refl n) below) in
-      length-take-le n (drop (n * preset) (L .clusterMap)) (rw (length-drop (n * preset) (L .clusterMap)) (omega (arith, lengths-fit L (passed .lengths) .map)))
+      length-take-le n (drop (n * preset) (L .clusterMap)) (rw (length-drop (n * preset) (L .clusterMap)) (omega (arith, stretch-inside)))
 
   lf-inside : (v : Varblock) → InV v (varblocks P) → LfInside P v
   lf-inside v i there =
@@ -183,8 +188,11 @@ module _ (L : Lent) (passed : Passed L) (preset : ℕ) (below : preset < L .pres
 
   -- whatever passed the checks before work, with a valid preset, whatever the symbols: nothing is read or written outside a list
   pub never-outside : ReadingInside L preset
-  never-outside =
-      let k = lengths-fit L (passed .lengths) in
-      by-group (L .shift) (clustersOf P) (presetMap L preset) P (varblocks P) (going (L .symbols) 0 (L .log) (L .grids) (rowsOf P) 0) lf-inside
-      (read-inside (L .shift) (clustersOf P) (presetMap L preset) stretch-whole (P .width) (64 * blocks P) (itemsOf P (varblocks P)) (going (L .symbols) 0 (L .log) (L .grids) (rowsOf P) 0)
-      (all-sound P lay (passed .contexts) (k .store) (passed .places) (varblocks P) (λ v i. i)) start)
+  never-outside = (
+    stretch-inside,
+    let k = lengths-fit L (passed .lengths) in
+        by-group (L .shift) (clustersOf P) (presetMap L preset) P (varblocks P) (going (L .symbols) 0 (L .log) (L .grids) (rowsOf P) 0)
+        (λ v i. (lf-inside v i, λ c h. places-many P lay (k .store) v (known P lay v i) c h))
+        (read-inside (L .shift) (clustersOf P) (presetMap L preset) stretch-whole (P .width) (64 * blocks P) (itemsOf P (varblocks P)) (going (L .symbols) 0 (L .log) (L .grids) (rowsOf P) 0)
+        (all-sound P lay (passed .contexts) (k .store) (passed .places) (varblocks P) (λ v i. i)) start),
+  )
