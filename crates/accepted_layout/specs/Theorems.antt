@@ -4,6 +4,7 @@ use mathlib.Core.Bool.{Bool, true, false}
 use mathlib.Core.List.{List}
 use Prim.Native.Nat.{ℕ, _*_, _<_}
 use native.Mathlib.Omega.{arith}
+use Rattle.refusal.specs.declared.Said.{Said}
 use Rattle.refusal.specs.Said as refusals
 use Rattle.lf_group.specs.Blocks.{sizeFits, wideIn, highIn}
 use Rattle.layout.specs.Grid.{at}
@@ -97,8 +98,9 @@ module _ (i : Inputs) (kinds hfMul sigma : List ℕ) where
         let r = accepted-read n e in
         rw (r .kindsAre, r .hfMulAre) (read-layout (jobOf i) (r .last) (r .read))
 
-    -- the cut never refuses it with 18
-    pub accepted-cut : (g : ℕ) (outKinds outMuls : List ℕ) → cutOf (bwOf i) (bhOf i) (outcome .kinds) (outcome .hfMul) g outKinds outMuls .answer ≡ refuses (refusals.at 18 0 0) → ⊥
+    -- the cut never refuses it with 18, at whatever position
+    pub accepted-cut : (g : ℕ) (outKinds outMuls : List ℕ) (why : Said)
+        → cutOf (bwOf i) (bhOf i) (outcome .kinds) (outcome .hfMul) g outKinds outMuls .answer ≡ refuses why → why .number ≡ 18 → ⊥
     accepted-cut g outKinds outMuls = cut-not-18 (bwOf i) (bhOf i) (outcome .kinds) (outcome .hfMul) g outKinds outMuls accepted-layout
 
     -- each block is in just one varblock, which lies inside the grid and a square of 32 x 32 blocks (`Fits` of accepted-layout)

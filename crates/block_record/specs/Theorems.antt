@@ -5,7 +5,7 @@ use mathlib.Core.List.{List}
 use Prim.Native.Nat.{ℕ}
 use native.Mathlib.Omega.{arith}
 use lib.ListN.{length}
-use Rattle.refusal.specs.Said.{at}
+use Rattle.refusal.specs.declared.Said.{Said}
 use Rattle.layout.specs.Valid.{Layout}
 use Rattle.layout.specs.Check.{isLayout}
 use Rattle.layout.specs.Cut.{hasGroup, groupWide, groupHigh, cut}
@@ -25,20 +25,20 @@ numberOf (refuses s) = s .number
 
 -- The cut.
 module _ (bw bh : ℕ) (kinds muls : List ℕ) (g : ℕ) (outKinds outMuls : List ℕ) where
-  -- a layout is never refused with 18
-  pub cut-not-18 : Layout bw bh kinds muls → (cutOf bw bh kinds muls g outKinds outMuls) .answer ≡ refuses (at 18 0 0) → ⊥
+  -- a layout is never refused with 18, at whatever position
+  pub cut-not-18 : Layout bw bh kinds muls → (why : Said) → (cutOf bw bh kinds muls g outKinds outMuls) .answer ≡ refuses why → why .number ≡ 18 → ⊥
   unfolding cutOf cutCheck
-  cut-not-18 ok e = go (inLimits 256 bw bh) (hasGroup bw bh g) (lengthsFit bw bh (length kinds) (length muls)) (lengthsFit (groupWide bw g) (groupHigh bw bh g) (length outKinds) (length outMuls)) (isLayout bw bh kinds muls)
-      (layout-iff bw bh kinds muls (ok .kindsLength) (ok .mulsLength) .1 ok) e
+  cut-not-18 ok why e n = go (inLimits 256 bw bh) (hasGroup bw bh g) (lengthsFit bw bh (length kinds) (length muls)) (lengthsFit (groupWide bw g) (groupHigh bw bh g) (length outKinds) (length outMuls)) (isLayout bw bh kinds muls)
+      (layout-iff bw bh kinds muls (ok .kindsLength) (ok .mulsLength) .1 ok) (ap numberOf e ∙ n)
     where
       go : (p q r s t : Bool) → t ≡ true
-          → (cutBy (unless 2 p (unless 2 q (unless 1 r (unless 1 s (unless 18 t (gives tt)))))) (outcome (gives (group (groupWide bw g) (groupHigh bw bh g))) (cut bw bh g kinds) (cut bw bh g muls)) outKinds outMuls) .answer ≡ refuses (at 18 0 0) → ⊥
-      go false q r s t f e = let z : _≡_ {A = ℕ} 2 18 = ap numberOf e in omega arith
-      go true false r s t f e = let z : _≡_ {A = ℕ} 2 18 = ap numberOf e in omega arith
-      go true true false s t f e = let z : _≡_ {A = ℕ} 1 18 = ap numberOf e in omega arith
-      go true true true false t f e = let z : _≡_ {A = ℕ} 1 18 = ap numberOf e in omega arith
-      go true true true true true f e = let z : _≡_ {A = ℕ} 0 18 = ap numberOf e in omega arith
-      go true true true true false f e = let z : _≡_ {A = ℕ} 0 1 = cc in omega arith
+          → numberOf ((cutBy (unless 2 p (unless 2 q (unless 1 r (unless 1 s (unless 18 t (gives tt)))))) (outcome (gives (group (groupWide bw g) (groupHigh bw bh g))) (cut bw bh g kinds) (cut bw bh g muls)) outKinds outMuls) .answer) ≡ 18 → ⊥
+      go false q r s t f z = let y : _≡_ {A = ℕ} 2 18 = z in omega arith
+      go true false r s t f z = let y : _≡_ {A = ℕ} 2 18 = z in omega arith
+      go true true false s t f z = let y : _≡_ {A = ℕ} 1 18 = z in omega arith
+      go true true true false t f z = let y : _≡_ {A = ℕ} 1 18 = z in omega arith
+      go true true true true true f z = let y : _≡_ {A = ℕ} 0 18 = z in omega arith
+      go true true true true false f z = let y : _≡_ {A = ℕ} 0 1 = cc in omega arith
 
   -- what an accepted cut wrote is a group that the check passes
   pub cut-checks : (r : Group) → (cutOf bw bh kinds muls g outKinds outMuls) .answer ≡ gives r

@@ -7,7 +7,7 @@ use Rattle.dct_select.specs.Transforms.{TRANSFORMS, wide, high}
 use Rattle.layout.specs.Walk.{cells, rows}
 use Rattle.layout.specs.Varblocks.{area, cornersRow, cornersFrom}
 use Rattle.lf_group.specs.Blocks.{wideIn, highIn}
-use Rattle.filter_strength.specs.Strength.{scaledFilter, dividedFilter}
+use Rattle.filter_strength.specs.Strength.{scaledBy, dividedBy}
 use Rattle.filter_strength.specs.Limits.{inLimits}
 use Rattle.layout_reading.specs.Scan.{takeCell, scan}
 use Rattle.layout_reading.specs.Reading.{place, judge, column, reading}
@@ -36,5 +36,5 @@ lines =
     ++ (97 ∷ 114 ∷ 101 ∷ 97 ∷ 32 ∷ 52 ∷ 10 ∷ []))))
 
 pub five-lines : textOf job ≡ lines
-unfolding textOf countFrom linesOf digitsOf area cornersRow cornersFrom layoutOf wideIn highIn inLimits le lt eq reading column judge place scan takeCell rows cells wide high TRANSFORMS scaledFilter dividedFilter
+unfolding textOf countFrom linesOf digitsOf area cornersRow cornersFrom layoutOf wideIn highIn inLimits le lt eq reading column judge place scan takeCell rows cells wide high TRANSFORMS scaledBy dividedBy
 five-lines = refl

@@ -80,9 +80,12 @@ two = fin false 1 (pos 1)
 abbrev pub M7 : Type 0
 M7 = on half two 32768 3 .sigma ≡ 0x3f00_0000 ∷ []
 
--- M8 hf_mul 16,777,217 becomes 16,777,216: as an f32 it is 2^24, and sigma is that of hf_mul 16,777,216
+-- M8 hf_mul 16,777,217 becomes 16,777,216: as an f32 it is 2^24, and sigma of multiplier, look-up number and scale 1 is 2^16 / 2^24, by its bit
+-- pattern 3b800000, as for hf_mul 16,777,216; both calls are accepted
 abbrev pub M8 : Type 0
-M8 = (nearest 16777217 ≡ fin false 1 (pos 24)) × (on one one 1 16777216 .sigma ≡ on one one 1 16777215 .sigma)
+M8 = (nearest 16777217 ≡ fin false 1 (pos 24))
+    × (on one one 1 16777216 ≡ record { answer = accepted 1; kinds = 2 ∷ []; hfMul = 16777217 ∷ []; sigma = 0x3b80_0000 ∷ [] })
+    × (on one one 1 16777215 ≡ record { answer = accepted 1; kinds = 2 ∷ []; hfMul = 16777216 ∷ []; sigma = 0x3b80_0000 ∷ [] })
 
 -- M9 count 252 for type 4 passes, 253 refused: 252, as many symbols that are not 0, and counts 0 for the other channels are accepted
 abbrev pub M9 : Type 0
@@ -143,12 +146,9 @@ row7 : M7
 unfolding layoutOf wideIn highIn inLimits le lt eq reading column judge place scan takeCell rows cells wide high TRANSFORMS scaledBy dividedBy mul div ofInt toBits round size span climb units odd trailingZeros
 row7 = refl
 
-sigma-same : on one one 1 16777216 .sigma ≡ on one one 1 16777215 .sigma
-unfolding layoutOf wideIn highIn inLimits le lt eq reading column judge place scan takeCell rows cells wide high TRANSFORMS scaledBy dividedBy mul div ofInt toBits round size span climb units odd trailingZeros
-sigma-same = refl
-
 row8 : M8
-row8 = (m8, sigma-same)
+unfolding layoutOf wideIn highIn inLimits le lt eq reading column judge place scan takeCell rows cells wide high TRANSFORMS scaledBy dividedBy mul div ofInt toBits round size span climb units odd trailingZeros
+row8 = (m8, refl, refl)
 
 row9 : M9
 row9 map log g0 g1 g2 r = (passes-252 map log g0 g1 g2 r, refuses-253 map log g0 g1 g2 r)

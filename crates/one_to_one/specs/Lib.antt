@@ -1,11 +1,16 @@
 -- what the theorems speak of, and the theorems
 pub mod Filling
 pub mod Demand3
+pub mod Wanted
 pub mod Chain
 pub mod LowCells
 pub mod SymbolsRead
 pub mod Surplus
 pub mod Witness
+pub mod FullWitness
+pub mod LeftOver
+pub mod Inside
+pub mod NeverOutside
 -- laws
 pub mod Symbols
 pub mod Sequence
@@ -24,3 +29,4 @@ pub mod OverCall
 pub mod Logging
 pub mod Ways
 pub mod Plain
+pub mod InsideLaws

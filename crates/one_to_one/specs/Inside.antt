@@ -1,0 +1,86 @@
+-- What a reading reads and writes by index lies inside its lists (document 01, Coefficients). The definitions of the reading take 0 for a
+-- number outside a list and drop one that is put outside; the Rust would end there. Said here along those definitions, clause by clause:
+-- `walk`, `counted`, `item`, `read`, `group`. NeverOutside has the theorem.
+use mathlib.Core.Path.{_≡_}
+use mathlib.Core.Bool.{true, cond}
+use mathlib.Core.List.{List, [], _∷_}
+use Prim.Native.Nat.{ℕ, zero, suc, _+_, _*_, _/_, _<_, _≤_}
+use lib.Dec.{leb}
+use lib.ListN.{length, getD, set}
+use Rattle.layout.specs.Varblocks.{Varblock}
+use Rattle.hf_coeff_walk.specs.Walk.{FREQ, NUM-NONZERO, coeffContext, flag, less, gain}
+use Rattle.hf_coeff_walk.specs.Item.{Item, predicted, countIndex, countCluster, coeffPart}
+use Rattle.hf_coeff_group.specs.Pass.{Pass, varblocks, blocksOf, placesAt, channels}
+use Rattle.hf_coeff_group.specs.Group.{Reading, going, refused, item, varblock}
+use Rattle.hf_coeff.specs.Call.{Lent, clustersOf, rowsOf, presetMap}
+
+module _ (shift blocks : ℕ) (part : List ℕ) where
+  -- the entries of the two tables of 63 for place i, with n + 1 still due
+  abbrev pub TablesInside : ℕ → ℕ → Type 0
+  TablesInside n i = (n / blocks < length NUM-NONZERO) × (i / blocks < length FREQ)
+
+  -- along `walk`: of each coefficient the tables' entries and, where the walk goes on, the cluster's entry, the byte of the log and the cell
+  abbrev pub WalkInside : List ℕ → ℕ → ℕ → ℕ → List ℕ → ℕ → List ℕ → List ℕ → Type 0
+  WalkInside [] i prev n us at log g = Unit
+  WalkInside (p ∷ ps) i prev zero us at log g = Unit
+  WalkInside (p ∷ ps) i prev (suc n) [] at log g = TablesInside n i
+  WalkInside (p ∷ ps) i prev (suc n) (u ∷ us) at log g =
+      TablesInside n i
+      × (coeffContext blocks n i prev < 458
+      → (coeffContext blocks n i prev < length part)
+      × (at < length log)
+      × (p < length g)
+      × WalkInside ps (i + 1) (flag u) (less u n) us (at + 1) (set log at (getD part (coeffContext blocks n i prev) 0)) (gain shift g p u))
+
+-- the entry of an item's count, as `countCluster` has it
+abbrev pub countEntry : ℕ → Item → List ℕ → ℕ
+countEntry clusters it row = it .context + countIndex (predicted row (it .x) (it .y)) * clusters
+
+-- the LF numbers of a varblock's corner, if there are LF grids
+abbrev pub LfInside : Pass → Varblock → Type 0
+LfInside P v =
+    P .lfThere ≡ true
+    → (v .y * P .width + v .x < length (P .lf0)) × (v .y * P .width + v .x < length (P .lf1)) × (v .y * P .width + v .x < length (P .lf2))
+
+-- each channel's order is stored whole: 63 places for each block behind the low-frequency cells
+abbrev pub OrdersWhole : Pass → Varblock → Type 0
+OrdersWhole P v = (c : ℕ) → c < 3 → length (placesAt P v c) ≡ 63 * blocksOf v
+
+module _ (shift clusters : ℕ) (stretch : List ℕ) where
+  -- along `counted`: the count's entry lies among the first 37 × clusters, the 458 of the coefficients lie whole in the stretch
+  abbrev pub CountInside : Item → List ℕ → List ℕ → ℕ → List ℕ → List ℕ → Type 0
+  CountInside it row [] at log g = Unit
+  CountInside it row (n ∷ us) at log g =
+      (countEntry clusters it row < 37 * clusters)
+      × (countEntry clusters it row < length stretch)
+      × (it .context * 458 + 37 * clusters + 458 ≤ length stretch)
+      × (at < length log)
+      × (n ≤ 63 * it .blocks
+      → WalkInside shift (it .blocks) (coeffPart clusters stretch it) (it .places) 0 (cond (leb n (4 * it .blocks)) 1 0) n us (at + 1)
+      (set log at (countCluster clusters stretch it row)) g)
+
+  -- along `item`: the channel's grid and row are there, and the row has the blocks that are looked at and rewritten
+  abbrev pub ItemInside : Item → Reading → Type 0
+  ItemInside it (refused why at log grids) = Unit
+  ItemInside it (going us at log grids rows left) =
+      (it .channel < length grids)
+      × (it .channel < length rows)
+      × (it .x < length (getD rows (it .channel) []))
+      × (it .x + it .wide ≤ length (getD rows (it .channel) []))
+      × CountInside it (getD rows (it .channel) []) us at log (getD grids (it .channel) [])
+
+  -- along `read`
+  abbrev pub ReadInside : List Item → Reading → Type 0
+  ReadInside [] r = Unit
+  ReadInside (it ∷ its) r = ItemInside it r × ReadInside its (item shift clusters stretch it r)
+
+  -- along `group`
+  abbrev pub GroupInside : Pass → List Varblock → Reading → Type 0
+  GroupInside P [] r = Unit
+  GroupInside P (v ∷ vs) r = LfInside P v × OrdersWhole P v × ReadInside (channels P v) r × GroupInside P vs (varblock shift clusters stretch P v r)
+
+-- along `reading`: the stretch of the preset lies whole in the cluster map, and the group is read with it
+abbrev pub ReadingInside : Lent → ℕ → Type 0
+ReadingInside L preset =
+    (495 * clustersOf (L .pass) * preset + 495 * clustersOf (L .pass) ≤ length (L .clusterMap))
+    × GroupInside (L .shift) (clustersOf (L .pass)) (presetMap L preset) (L .pass) (varblocks (L .pass)) (going (L .symbols) 0 (L .log) (L .grids) (rowsOf (L .pass)) 0)
