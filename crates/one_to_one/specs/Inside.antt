@@ -7,7 +7,11 @@ use mathlib.Core.List.{List, [], _∷_}
 use Prim.Native.Nat.{ℕ, zero, suc, _+_, _*_, _/_, _<_, _≤_}
 use lib.Dec.{leb}
 use lib.ListN.{length, getD, set}
+use Rattle.dct_select.specs.Transforms.{COUNT, orderOf}
+use Rattle.layout.specs.Grid.{at}
 use Rattle.layout.specs.Varblocks.{Varblock}
+use Rattle.block_context_index.specs.Lists.{used}
+use Rattle.block_context_index.specs.Contexts.{qfIndex, lfIndexOf, contextIndex}
 use Rattle.hf_coeff_walk.specs.Walk.{FREQ, NUM-NONZERO, coeffContext, flag, less, gain}
 use Rattle.hf_coeff_walk.specs.Item.{Item, predicted, countIndex, countCluster, coeffPart}
 use Rattle.hf_coeff_group.specs.Pass.{Pass, varblocks, blocksOf, placesAt, channels}
@@ -36,15 +40,25 @@ module _ (shift blocks : ℕ) (part : List ℕ) where
 abbrev pub countEntry : ℕ → Item → List ℕ → ℕ
 countEntry clusters it row = it .context + countIndex (predicted row (it .x) (it .y)) * clusters
 
--- the LF numbers of a varblock's corner, if there are LF grids
-abbrev pub LfInside : Pass → Varblock → Type 0
-LfInside P v =
-    P .lfThere ≡ true
-    → (v .y * P .width + v .x < length (P .lf0)) × (v .y * P .width + v .x < length (P .lf1)) × (v .y * P .width + v .x < length (P .lf2))
+-- the place in the context map of the n-th channel walked, as `contextOf` has it
+abbrev pub contextPlace : Pass → Varblock → ℕ → ℕ
+contextPlace P v n =
+    let C = used (P .contexts) in
+    contextIndex C n (orderOf (v .type)) (qfIndex C (v .mul))
+    (lfIndexOf C (P .lfThere) (at (P .lf0) (P .width) (v .x) (v .y)) (at (P .lf1) (P .width) (v .x) (v .y)) (at (P .lf2) (P .width) (v .x) (v .y)))
 
--- each channel's order is stored whole: 63 places for each block behind the low-frequency cells
-abbrev pub OrdersWhole : Pass → Varblock → Type 0
-OrdersWhole P v = (c : ℕ) → c < 3 → length (placesAt P v c) ≡ 63 * blocksOf v
+-- what the channels of a varblock are made from
+pub record CornerInside (P : Pass) (v : Varblock) : Type 0 where
+  -- a row of the transforms' table
+  pub known : v .type < COUNT
+  -- the corner's LF numbers, if there are LF grids
+  pub lf0 : P .lfThere ≡ true → v .y * P .width + v .x < length (P .lf0)
+  pub lf1 : P .lfThere ≡ true → v .y * P .width + v .x < length (P .lf1)
+  pub lf2 : P .lfThere ≡ true → v .y * P .width + v .x < length (P .lf2)
+  -- each block context's place, among the map's 2,496
+  pub context : (n : ℕ) → n < 3 → contextPlace P v n < 2496
+  -- each channel's order is stored whole: 63 places for each block behind the low-frequency cells
+  pub orders : (c : ℕ) → c < 3 → length (placesAt P v c) ≡ 63 * blocksOf v
 
 module _ (shift clusters : ℕ) (stretch : List ℕ) where
   -- along `counted`: the count's entry lies among the first 37 × clusters, the 458 of the coefficients lie whole in the stretch
@@ -77,7 +91,7 @@ module _ (shift clusters : ℕ) (stretch : List ℕ) where
   -- along `group`
   abbrev pub GroupInside : Pass → List Varblock → Reading → Type 0
   GroupInside P [] r = Unit
-  GroupInside P (v ∷ vs) r = LfInside P v × OrdersWhole P v × ReadInside (channels P v) r × GroupInside P vs (varblock shift clusters stretch P v r)
+  GroupInside P (v ∷ vs) r = CornerInside P v × ReadInside (channels P v) r × GroupInside P vs (varblock shift clusters stretch P v r)
 
 -- along `reading`: the stretch of the preset lies whole in the cluster map, and the group is read with it
 abbrev pub ReadingInside : Lent → ℕ → Type 0

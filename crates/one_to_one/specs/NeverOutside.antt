@@ -8,22 +8,26 @@ use Prim.Native.Nat.{ℕ, zero, suc, _+_, _*_, _<_, _≤_}
 use native.Mathlib.Omega.{arith}
 use native.Mathlib.Nat.{mul-le-mul, mul-mul-mul-comm, mul-suc, le-refl}
 use lib.Arith.{digits-lt}
-use lib.ListN.{length, getD, drop, replicate, length-drop, length-replicate}
+use lib.ListN.{take, length-take, length, getD, drop, replicate, length-drop, length-replicate}
 use lib.Seq.{length-take-le}
 use Rattle.block_sizes.specs.BlockSizes.{widthOf, heightOf}
 use Rattle.dct_select.specs.Transforms.{wide, high, orderOf, turns}
 use Rattle.natural_order.specs.Places.{Place, paired}
 use Rattle.layout.specs.Kinds.{wide-sized}
-use Rattle.layout.specs.Grid.{place-lt}
+use Rattle.layout.specs.Grid.{at, place-lt}
 use Rattle.layout.specs.Varblocks.{Varblock}
 use Rattle.layout.specs.Theorems.{layout-iff}
-use Rattle.block_context.specs.Record.{fit}
-use Rattle.block_context_index.specs.Bounds.{context-lt}
+use Rattle.block_context.specs.declared.HfBlockContext.{HfBlockContext}
+use Rattle.block_context.specs.Record.{bsizeOf, fit}
+use Rattle.block_context.specs.Bounds.{is-fit}
+use Rattle.block_context_index.specs.Lists.{used}
+use Rattle.block_context_index.specs.Contexts.{bsize}
+use Rattle.block_context_index.specs.Bounds.{block-index-lt, context-lt}
 use Rattle.hf_pass_store.specs.Store.{PLACES, stretch, placesFit}
 use Rattle.hf_pass_places.specs.Places.{Inside, fits-at}
 use Rattle.hf_coeff_walk.specs.Places.{across, down}
-use Rattle.hf_coeff_walk.specs.Item.{Item}
-use Rattle.hf_coeff_group.specs.Pass.{Pass, varblocks, blocksOf, placesAt, itemOf, channels, itemsOf}
+use Rattle.hf_coeff_walk.specs.Item.{Item, countCluster}
+use Rattle.hf_coeff_group.specs.Pass.{Pass, varblocks, blocksOf, contextOf, placesAt, itemOf, channels, itemsOf}
 use Rattle.hf_coeff_group.specs.Group.{Grids, Reading, going, item, read}
 use Rattle.hf_coeff_group.specs.Sizes.{order-lt, Sides, swapped, straight, sides-of}
 use Rattle.hf_coeff_group.specs.Stored.{stretch-long}
@@ -36,8 +40,15 @@ use Rattle.one_to_one.specs.Rectangles.{corner, known, right, bottom}
 use Rattle.one_to_one.specs.Spread.{InP, in-place}
 use Rattle.one_to_one.specs.Logging.{symbolsIn}
 use Rattle.one_to_one.specs.SymbolsRead.{places-many, some-blocks, most-symbols}
-use Rattle.one_to_one.specs.Inside.{ReadInside, LfInside, OrdersWhole, GroupInside, ReadingInside}
+use Rattle.one_to_one.specs.Inside.{countEntry, ReadInside, contextPlace, CornerInside, GroupInside, ReadingInside}
 use Rattle.one_to_one.specs.InsideLaws.{Sound, Small, AllSound, Sane, read-inside}
+
+-- The entries that Inside names are those that the definitions read.
+pub entry-read : (clusters : ℕ) (stretch₀ : List ℕ) (it : Item) (row : List ℕ) → countCluster clusters stretch₀ it row ≡ getD stretch₀ (countEntry clusters it row) 0
+entry-read clusters stretch₀ it row = refl
+
+pub place-read : (P : Pass) (v : Varblock) (n : ℕ) → contextOf P v n ≡ getD (used (P .contexts) .map) (contextPlace P v n) 0
+place-read P v n = refl
 
 -- Places of a stored list, by number and in the list.
 rest-in : (k : ℕ) (q : Place) (l : List Place) → InP q (drop k l) → InP q l
@@ -105,6 +116,22 @@ module _ (P : Pass) (lay : LaidOut P) (contexts : fit (P .contexts) ≡ true) (w
       (sound v i 1 (omega arith) 0 (omega arith), (sound v i 0 (omega arith) 1 (omega arith), (sound v i 2 (omega arith) 2 (omega arith), tt)))
       (all-sound vs (λ u j. f u (inr j)))
 
+-- Places in the context map: a fit record's four lists, as far as they are used, have a product of at most 64.
+few-used : (n : ℕ) (xs : List ℕ) → length (take n xs) + 1 ≤ n + 1
+few-used n xs = omega (arith, length-take n xs)
+
+size-used : (R : HfBlockContext) → fit R ≡ true → bsize (used R) ≤ 64
+unfolding bsizeOf
+size-used R e =
+    let a : bsize (used R) ≤ bsizeOf (R .lengths) =
+    mul-le-mul (mul-le-mul (mul-le-mul (few-used _ _) (few-used _ _)) (few-used _ _)) (few-used _ _) in
+    omega (arith, is-fit R e .size)
+
+place-inside : (P : Pass) → fit (P .contexts) ≡ true → (v : Varblock) → orderOf (v .type) < 13 → (n : ℕ) → n < 3 → contextPlace P v n < 2496
+place-inside P e v o n h =
+    let a = block-index-lt (used (P .contexts)) n (orderOf (v .type)) (v .mul) (P .lfThere) (at (P .lf0) (P .width) (v .x) (v .y)) (at (P .lf1) (P .width) (v .x) (v .y)) (at (P .lf2) (P .width) (v .x) (v .y)) h o in
+    omega (arith, size-used (P .contexts) e)
+
 -- From items to the group.
 module _ (shift clusters : ℕ) (stretch₀ : List ℕ) where
   parts : (xs ys : List Item) (r : Reading) → ReadInside shift clusters stretch₀ (xs ++ ys) r
@@ -113,13 +140,13 @@ module _ (shift clusters : ℕ) (stretch₀ : List ℕ) where
   parts [] ys r h = (tt, h)
   parts (x ∷ xs) ys r h = let k = parts xs ys (item shift clusters stretch₀ x r) (h .1) in ((h .0, k .0), k .1)
 
-  by-group : (P : Pass) (vs : List Varblock) (r : Reading) → ((v : Varblock) → InV v vs → LfInside P v × OrdersWhole P v)
+  by-group : (P : Pass) (vs : List Varblock) (r : Reading) → ((v : Varblock) → InV v vs → CornerInside P v)
       → ReadInside shift clusters stretch₀ (itemsOf P vs) r → GroupInside shift clusters stretch₀ P vs r
   unfolding itemsOf
   by-group P [] r f h = tt
   by-group P (v ∷ vs) r f h =
       let k = parts (channels P v) (itemsOf P vs) r h in
-      (f v (inl refl) .0, f v (inl refl) .1, k .0, by-group P vs (read shift clusters stretch₀ (channels P v) r) (λ u j. f u (inr j)) (k .1))
+      (f v (inl refl), k .0, by-group P vs (read shift clusters stretch₀ (channels P v) r) (λ u j. f u (inr j)) (k .1))
 
 -- The reading of a call.
 zeros-small : (n i : ℕ) → getD {A = ℕ} (replicate n 0) i 0 ≤ 63
@@ -151,12 +178,18 @@ module _ (L : Lent) (passed : Passed L) (preset : ℕ) (below : preset < L .pres
       let n = 495 * clustersOf P in
       length-take-le n (drop (n * preset) (L .clusterMap)) (rw (length-drop (n * preset) (L .clusterMap)) (omega (arith, stretch-inside)))
 
-  lf-inside : (v : Varblock) → InV v (varblocks P) → LfInside P v
-  lf-inside v i there =
+  corner-inside : (v : Varblock) → InV v (varblocks P) → CornerInside P v
+  corner-inside v i =
       let k = lengths-fit L (passed .lengths) in
-      let a = k .lf0 there in let b = k .lf1 there in let d = k .lf2 there in
       let h : v .y * P .width + v .x < P .height * P .width = place-lt (P .width) (P .height) (v .x) (v .y) (corner P lay v i .toX) (corner P lay v i .toY) in
-      (omega arith, omega arith, omega arith)
+      record {
+        known = known P lay v i;
+        lf0 = λ there. omega (arith, k .lf0 there);
+        lf1 = λ there. omega (arith, k .lf1 there);
+        lf2 = λ there. omega (arith, k .lf2 there);
+        context = λ n hn. place-inside P (passed .contexts) v (order-lt (v .type) (known P lay v i)) n hn;
+        orders = λ c h. places-many P lay (k .store) v (known P lay v i) c h;
+      }
 
   rows-wide : (c : ℕ) → c < 3 → length (getD (rowsOf P) c []) ≡ P .width
   rows-wide zero h = length-replicate (P .width) 0
@@ -192,7 +225,7 @@ module _ (L : Lent) (passed : Passed L) (preset : ℕ) (below : preset < L .pres
     stretch-inside,
     let k = lengths-fit L (passed .lengths) in
         by-group (L .shift) (clustersOf P) (presetMap L preset) P (varblocks P) (going (L .symbols) 0 (L .log) (L .grids) (rowsOf P) 0)
-        (λ v i. (lf-inside v i, λ c h. places-many P lay (k .store) v (known P lay v i) c h))
+        corner-inside
         (read-inside (L .shift) (clustersOf P) (presetMap L preset) stretch-whole (P .width) (64 * blocks P) (itemsOf P (varblocks P)) (going (L .symbols) 0 (L .log) (L .grids) (rowsOf P) 0)
         (all-sound P lay (passed .contexts) (k .store) (passed .places) (varblocks P) (λ v i. i)) start),
   )
