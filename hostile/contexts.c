@@ -46,7 +46,7 @@ static const uint8_t default_map[MAP_SETS] = {
     13, 14, 14, 14, 14, 14, 7, 8, 9, 9, 10, 11, 12, 13, 14, 14, 14, 14, 14,
 };
 
-/* The record that bits and clusters say, and the answer that is due. */
+/* The answer that is due, and the record and the bits read of an accepted call. */
 struct due {
     struct record record;
     struct answer answer;
@@ -109,9 +109,7 @@ static void expect_record(const uint8_t *bytes, size_t length, uint32_t count, c
         due->answer.number = clusters_refused(&due->record, count, map, map_length);
     else
         default_clusters(&due->record);
-    due->bits = due->answer.number == 0 ? place : 0;
-    if (due->answer.number != 0)
-        memset(&due->record, 0, sizeof due->record);
+    due->bits = place;
 }
 
 /* What a context call is lent for its record. */
@@ -134,6 +132,17 @@ static struct outs lend_outs(struct input *in)
         lend_size(in, "x"),
         lend_size(in, "y"),
     };
+}
+
+/* A refusal hands back no record, and no bits read. */
+static void check_kept(const struct outs *outs)
+{
+    stays(outs->bits, 0);
+    stays(outs->lengths, 0);
+    stays(outs->qf, 0);
+    stays(outs->lf, 0);
+    stays(outs->count, 0);
+    stays(outs->map, 0);
 }
 
 static void check_record(const struct outs *outs, const struct due *due)
@@ -180,5 +189,8 @@ void host_block_context(struct input *in)
     lend_check();
     expect_record(bytes, length, count, map, map_length, &due);
     answered((struct answer){refused, *outs.x, *outs.y}, due.answer);
-    check_record(&outs, &due);
+    if (refused != 0)
+        check_kept(&outs);
+    else
+        check_record(&outs, &due);
 }

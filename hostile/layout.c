@@ -54,8 +54,13 @@ void host_column_count(struct input *in)
         due = bits_at(bytes, length, &place, n, &value) ? 0 : 3;
     }
     answered((struct answer){refused, *x, *y}, (struct answer){due, 0, 0});
-    promise(*count == (due == 0 ? value + 1 : 0), "count %u", *count);
-    promise(*bits == (due == 0 ? place : 0), "%zu bits read", *bits);
+    if (due != 0) {
+        stays(count, 0);
+        stays(bits, 0);
+        return;
+    }
+    promise(*count == value + 1, "count %u", *count);
+    promise(*bits == place, "%zu bits read", *bits);
 }
 
 static float take_float(struct input *in)
@@ -230,7 +235,7 @@ static void check_layout(const struct layout_call *call, uint32_t refused)
     struct answer answer = {refused, *call->x, *call->y};
     if (before != 0) {
         answered(answer, (struct answer){before, 0, 0});
-        promise(*call->used == 0, "used is 0 beside a refusal");
+        stays(call->used, 0);
         stays(call->kinds, 0);
         stays(call->hf_mul, 0);
         stays(call->sigma, 0);
@@ -239,7 +244,10 @@ static void check_layout(const struct layout_call *call, uint32_t refused)
     size_t blocks = call->sides.wide * call->sides.high;
     expect_layout(call, &due);
     answered(answer, due.answer);
-    promise(*call->used == due.used, "%zu columns used where %zu are due", *call->used, due.used);
+    if (refused != 0)
+        stays(call->used, 0);
+    else
+        promise(*call->used == due.used, "%zu columns used where %zu are due", *call->used, due.used);
     same_list("kinds", call->kinds, due.kinds, blocks, sizeof due.kinds[0]);
     same_list("hf_mul", call->hf_mul, due.hf_mul, blocks, sizeof due.hf_mul[0]);
     same_list("sigma", call->sigma, due.sigma, blocks, sizeof due.sigma[0]);

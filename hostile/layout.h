@@ -25,7 +25,8 @@ struct layout_call {
     bool undamaged;
 };
 
-/* The layout that is due: block by block, all zero beside a refusal, and the columns used for it. */
+/* The layout that is due: block by block, all zero beside a refusal, and the columns used for an
+ * accepted one. */
 struct layout_due {
     struct answer answer;
     size_t used;

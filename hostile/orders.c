@@ -124,10 +124,13 @@ void host_orders(struct input *in)
     else
         due = expect_orders(used, symbols, symbols_length, &due_read, due_store);
     answered((struct answer){refused, *x, *y}, due);
-    promise(*read == due_read, "%zu symbols read where %zu are due", *read, due_read);
-    if (due.number == 0)
+    if (due.number == 0) {
+        promise(*read == due_read, "%zu symbols read where %zu are due", *read, due_read);
         check_store(store, due_store);
-    else if (due.number == 13 || due.number == 15)
+        return;
+    }
+    stays(read, 0);
+    if (due.number == 13 || due.number == 15)
         is_cleared(store);
     else
         stays(store, 0);

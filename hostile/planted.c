@@ -37,13 +37,28 @@ enum plant {
     PLACES_SWAPPED,
     CHANNEL_TWICE,
     DIGIT_NOT_COUNTED,
-    OTHER_DEFAULT
+    OTHER_DEFAULT,
+    /* Beside a refusal a result is set to 0, call by call. */
+    WIDTH_ZERO,
+    VALUE_ZERO,
+    PLACE_ZERO,
+    COUNT_ZERO,
+    USED_ZERO,
+    SIDES_ZERO,
+    NOT_ALIKE,
+    RECORD_CLEARED,
+    BITS_READ_ZERO,
+    ORDERS_READ_ZERO,
+    COEFFICIENTS_READ_ZERO
 };
 
 /* The wrappers pass on what they are given, by these names and types of the header. */
 __typeof__(netbuff_transform) __real_netbuff_transform, __wrap_netbuff_transform;
 __typeof__(netbuff_read_bits) __real_netbuff_read_bits, __wrap_netbuff_read_bits;
+__typeof__(netbuff_read_u32) __real_netbuff_read_u32, __wrap_netbuff_read_u32;
+__typeof__(netbuff_column_count) __real_netbuff_column_count, __wrap_netbuff_column_count;
 __typeof__(netbuff_cut) __real_netbuff_cut, __wrap_netbuff_cut;
+__typeof__(netbuff_alike) __real_netbuff_alike, __wrap_netbuff_alike;
 __typeof__(netbuff_layout) __real_netbuff_layout, __wrap_netbuff_layout;
 __typeof__(netbuff_block_context) __real_netbuff_block_context, __wrap_netbuff_block_context;
 __typeof__(netbuff_orders) __real_netbuff_orders, __wrap_netbuff_orders;
@@ -68,6 +83,8 @@ uint32_t __wrap_netbuff_transform(uint32_t number, size_t *wide, size_t *high, s
         *turn = !*turn;
     if (planted() == ORDER_OF_ITS_SIZE && refused == 0 && *order == 1)
         *order = 0;
+    if (planted() == WIDTH_ZERO && refused != 0)
+        *wide = 0;
     return planted() == NUMBER_19 && refused != 0 ? 19 : refused;
 }
 
@@ -77,7 +94,33 @@ uint32_t __wrap_netbuff_read_bits(const uint8_t *bytes, size_t length, size_t by
 {
     if (planted() == READ_BEHIND)
         *value = ((const volatile uint8_t *)bytes)[length];
-    return __real_netbuff_read_bits(bytes, length, byte, bit, n, value, next_byte, next_bit, taken);
+    uint32_t refused =
+        __real_netbuff_read_bits(bytes, length, byte, bit, n, value, next_byte, next_bit, taken);
+    if (planted() == VALUE_ZERO && refused != 0)
+        *value = 0;
+    return refused;
+}
+
+uint32_t __wrap_netbuff_read_u32(const uint8_t *bytes, size_t length, size_t byte, uint32_t bit,
+                                 const uint32_t choices[8], uint32_t *value, size_t *next_byte,
+                                 uint32_t *next_bit, uint32_t *taken)
+{
+    uint32_t refused =
+        __real_netbuff_read_u32(bytes, length, byte, bit, choices, value, next_byte, next_bit, taken);
+    if (planted() == PLACE_ZERO && refused != 0)
+        *next_byte = 0;
+    return refused;
+}
+
+uint32_t __wrap_netbuff_column_count(const uint8_t *bytes, size_t length, uint32_t width,
+                                     uint32_t height, uint32_t mode0, uint32_t mode1, uint32_t mode2,
+                                     uint32_t *count, size_t *bits, size_t *x, size_t *y)
+{
+    uint32_t refused = __real_netbuff_column_count(bytes, length, width, height, mode0, mode1, mode2,
+                                                   count, bits, x, y);
+    if (planted() == COUNT_ZERO && refused != 0)
+        *count = 0;
+    return refused;
 }
 
 uint32_t __wrap_netbuff_cut(size_t bw, size_t bh, const uint8_t *kinds, size_t kinds_length,
@@ -94,6 +137,21 @@ uint32_t __wrap_netbuff_cut(size_t bw, size_t bh, const uint8_t *kinds, size_t k
         out_kinds[-1] = 1;
     if (planted() == WRITE_TO_LENT && refused == 0)
         ((uint8_t *)(uintptr_t)kinds)[kinds_length - 1] ^= 1;
+    if (planted() == SIDES_ZERO && refused != 0)
+        *wide = *high = 0;
+    return refused;
+}
+
+uint32_t __wrap_netbuff_alike(size_t bw, size_t bh, const uint8_t *kinds, size_t kinds_length,
+                              const int32_t *hf_mul, size_t hf_mul_length, size_t bw2, size_t bh2,
+                              const uint8_t *kinds2, size_t kinds2_length, const int32_t *hf_mul2,
+                              size_t hf_mul2_length, bool *alike, size_t *x, size_t *y)
+{
+    uint32_t refused =
+        __real_netbuff_alike(bw, bh, kinds, kinds_length, hf_mul, hf_mul_length, bw2, bh2, kinds2,
+                             kinds2_length, hf_mul2, hf_mul2_length, alike, x, y);
+    if (planted() == NOT_ALIKE && refused != 0)
+        *alike = false;
     return refused;
 }
 
@@ -130,6 +188,8 @@ uint32_t __wrap_netbuff_layout(uint32_t width, uint32_t height, uint32_t mode0, 
     if (refused == 0)
         spoil_layout(kinds, hf_mul, sigma, kinds_length);
     *x -= planted() == BLOCK_BEFORE && refused == 5 && *x > 0;
+    if (planted() == USED_ZERO && refused != 0)
+        *used = 0;
     return planted() == OUTSIDE_AS_OVERLAP && refused == 9 ? 8 : refused;
 }
 
@@ -143,8 +203,12 @@ uint32_t __wrap_netbuff_block_context(const uint8_t *bytes, size_t bytes_length,
     uint32_t refused = __real_netbuff_block_context(bytes, bytes_length, num_clusters, map, map_length,
                                                     num_block_clusters, lengths, lf_thresholds,
                                                     qf_thresholds, block_ctx_map, bits_read, x, y);
-    if (planted() == UNUSED_PLACE && lengths[3] < 15)
+    if (planted() == UNUSED_PLACE && refused == 0 && lengths[3] < 15)
         qf_thresholds[14] = 1;
+    if (planted() == RECORD_CLEARED && refused == 12)
+        memset(block_ctx_map, 0, 2496);
+    if (planted() == BITS_READ_ZERO && refused != 0)
+        *bits_read = 0;
     if (planted() == OTHER_DEFAULT && refused == 0 && (bytes[0] & 1) != 0)
         block_ctx_map[2] = 3;
     return refused;
@@ -172,6 +236,8 @@ uint32_t __wrap_netbuff_orders(const uint8_t *bytes, size_t bytes_length, const 
     if (planted() == STORE_KEPT && refused == 15)
         store[store_length - 1] = 1;
     *x -= planted() == DIGIT_NOT_COUNTED && refused == 13;
+    if (planted() == ORDERS_READ_ZERO && refused != 0)
+        *symbols_read = 0;
     if (refused == 0 && (bytes[0] & 3) < 2)
         spoil_order_0(store);
     return refused;
@@ -233,6 +299,8 @@ uint32_t __wrap_netbuff_coefficients(
         grid1[grid1_length - 1] ^= 1;
     if (planted() == ONE_SYMBOL_MORE && refused == 0)
         ++*symbols_read;
+    if (planted() == COEFFICIENTS_READ_ZERO && refused != 0)
+        *symbols_read = 0;
     if ((planted() == CELL_LEFT || planted() == CELL_BESIDE) && refused == 0)
         misplace(grid0, grid0_length);
     if (planted() == OTHER_CLUSTER && refused == 0 && presets == 1)

@@ -14,11 +14,14 @@ void host_transform(struct input *in)
     lend_check();
     bool known = number < TRANSFORMS;
     answered((struct answer){refused, *x, *y}, (struct answer){known ? 0 : 5, 0, 0});
-    bool turns = written_bool(turn);
     if (!known) {
-        promise(*wide == 0 && *high == 0 && *order == 0 && !turns, "results are 0 beside a refusal");
+        stays(wide, 0);
+        stays(high, 0);
+        stays(order, 0);
+        stays(turn, 0);
         return;
     }
+    bool turns = written_bool(turn);
     struct sides sides = transform_sides[number];
     promise(*wide == sides.wide && *high == sides.high, "sides of transform %u", number);
     promise(*order == transform_order[number], "order %zu of transform %u", *order, number);
@@ -79,8 +82,9 @@ static void check_read(struct read read, bool whole, uint32_t value, uint64_t en
     answered((struct answer){read.refused, *read.taken, 0},
              (struct answer){whole ? 0 : 3, whole ? 0 : taken, 0});
     if (!whole) {
-        promise(*read.value == 0 && *read.next_byte == 0 && *read.next_bit == 0,
-                "value and place are 0 beside a refusal");
+        stays(read.value, 0);
+        stays(read.next_byte, 0);
+        stays(read.next_bit, 0);
         return;
     }
     promise(*read.value == value, "value %u where %u is due", *read.value, value);

@@ -140,7 +140,8 @@ void host_cut(struct input *in)
         check_window(&call);
         return;
     }
-    promise(*wide == 0 && *high == 0, "sides are 0 beside a refusal");
+    stays(wide, 0);
+    stays(high, 0);
     stays(call.kinds, 0);
     stays(call.hf_mul, 0);
 }
@@ -197,8 +198,11 @@ void host_alike(struct input *in)
              !is_layout(other.sides, other.kinds, other.hf_mul))
         due = 18;
     answered((struct answer){refused, *x, *y}, (struct answer){due, 0, 0});
+    if (due != 0) {
+        stays(alike, 0);
+        return;
+    }
     bool same = one.sides.wide == other.sides.wide && one.sides.high == other.sides.high;
-    same =
-        due == 0 && same && same_rectangles(one.sides, one.kinds, one.hf_mul, other.kinds, other.hf_mul);
+    same = same && same_rectangles(one.sides, one.kinds, one.hf_mul, other.kinds, other.hf_mul);
     promise(written_bool(alike) == same, "alike: %d is due", same);
 }

@@ -3,9 +3,11 @@
  *
  * A call that can be refused answers with the refusal's number, or with 0 when it accepted. On a
  * refusal *x and *y receive its position, on 0 they receive 0, 0; the two reads of bits, which have
- * no x and y, hand out the bits that they took instead. Results are handed out through further
- * pointers and are 0 beside a refusal. Lent memory may have any length: each list is a pointer and
- * the number of its elements. A list of no elements may come with any pointer that is not null.
+ * no x and y, hand out the bits that they took in *taken instead. Results are handed out through
+ * further pointers when the call accepted; a refusal leaves them as they were, and all other lent
+ * memory too, unless the call says otherwise. Lent memory may have any length: each list is a
+ * pointer and the number of its elements. A list of no elements may come with any pointer that is
+ * not null.
  *
  * What the caller sees to: every pointer is valid and aligned for the call, that of a list for all
  * its elements. What a call writes, lists and results alike, overlaps nothing else that is lent to
@@ -53,7 +55,7 @@ uint32_t netbuff_transform(uint32_t number, size_t *wide, size_t *high, size_t *
 /*
  * One read of n bits, 0 to 32 (a larger n reads 32), lowest first within each byte, from the bit
  * with number 8 * byte + bit on: the value, and the place behind it. Refused: 3 when the bits end,
- * with nothing read; value and place are then 0. *taken receives 0 here.
+ * with nothing read. *taken receives 0 here.
  */
 uint32_t netbuff_read_bits(const uint8_t *bytes, size_t bytes_length, size_t byte, uint32_t bit,
                            uint32_t n, uint32_t *value, size_t *next_byte, uint32_t *next_bit,
@@ -63,8 +65,7 @@ uint32_t netbuff_read_bits(const uint8_t *bytes, size_t bytes_length, size_t byt
  * A U32: a two-bit selector, then that one of the four choices. A choice is an offset and a number
  * of bits: choices[2k] is the offset of choice k and choices[2k + 1] its bits, more than 32
  * counting as 32. The value is the offset plus the bits read, modulo 2^32. Refused: 3 when the bits
- * end; value and place are then 0. *taken receives the bits that a refused U32 took: 2 when only
- * the field is missing, else 0.
+ * end. *taken receives the bits that a refused U32 took: 2 when only the field is missing, else 0.
  */
 uint32_t netbuff_read_u32(const uint8_t *bytes, size_t bytes_length, size_t byte, uint32_t bit,
                           const uint32_t choices[8], uint32_t *value, size_t *next_byte,
@@ -136,7 +137,7 @@ uint32_t netbuff_alike(size_t bw, size_t bh, const uint8_t *kinds, size_t kinds_
  * lengths of the LF lists of channels 0, 1, 2 and of the qf list; the LF thresholds of channel c
  * from 15 * c on. *bits_read receives the bits read.
  *
- * Refused: 3, 12 (bsize above 64), 1, 12; the whole record is then 0.
+ * Refused: 3, 12 (bsize above 64), 1, 12; the record stays as it was.
  */
 uint32_t netbuff_block_context(const uint8_t *bytes, size_t bytes_length, uint32_t num_clusters,
                                const uint8_t *map, size_t map_length, uint32_t *num_block_clusters,

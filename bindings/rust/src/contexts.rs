@@ -23,7 +23,7 @@ impl BlockContexts {
 }
 
 /// Reads a context record, with the lent clusters and their map; the answer is the number of bits
-/// read. The record is all zero after a refusal.
+/// read. A refusal leaves the record as it was.
 pub fn block_context(
     bytes: &[u8],
     num_clusters: u32,

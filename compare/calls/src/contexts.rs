@@ -52,6 +52,15 @@ impl Contexts {
         map: [0; MAP_MOST],
     };
 
+    /// What the lent record holds before a call: a refusal leaves it so.
+    pub const USED: Self = Self {
+        count: 77,
+        lengths: [9; 4],
+        lf: [-7; 3 * LIST_MOST],
+        qf: [7; LIST_MOST],
+        map: [0xA5; MAP_MOST],
+    };
+
     /// The product of the four (length + 1), where no list is longer than 15.
     pub fn bsize(&self) -> usize {
         self.lengths

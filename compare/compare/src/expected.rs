@@ -26,7 +26,7 @@ pub fn layout(call: &LayoutCall) -> Outcome<usize, LayoutBuffers> {
     }
 }
 
-/// The bits read, and the record, all zero beside a refusal.
+/// The bits read, and the record, which a refusal leaves as it was.
 pub fn contexts(call: &ContextsCall) -> Outcome<usize, Contexts> {
     let refused = |asked| paper::clusters_refused(asked, call.count, &call.map);
     let read = oracle::contexts(call).and_then(|read| match read.asked.and_then(refused) {
@@ -38,7 +38,7 @@ pub fn contexts(call: &ContextsCall) -> Outcome<usize, Contexts> {
             answer: Ok(read.bits_read),
             buffers: oracle::paper_form(&read.contexts),
         },
-        Err(refusal) => Outcome::untouched(refusal, Contexts::ZERO),
+        Err(refusal) => Outcome::untouched(refusal, Contexts::USED),
     }
 }
 

@@ -139,13 +139,13 @@ fn lent(layout: &calls::Layout) -> netbuff::Layout<'_> {
     }
 }
 
-/// A record that holds something, so that zeros beside a refusal show.
+/// A record that holds something, so that what is written beside a refusal shows.
 pub const USED_RECORD: BlockContexts = BlockContexts {
-    num_block_clusters: 77,
-    lengths: [9; 4],
-    lf_thresholds: [-7; 45],
-    qf_thresholds: [7; 15],
-    block_ctx_map: [0xA5; 2496],
+    num_block_clusters: Contexts::USED.count,
+    lengths: Contexts::USED.lengths,
+    lf_thresholds: Contexts::USED.lf,
+    qf_thresholds: Contexts::USED.qf,
+    block_ctx_map: Contexts::USED.map,
 };
 
 pub fn contexts(call: &ContextsCall) -> Outcome<usize, Contexts> {

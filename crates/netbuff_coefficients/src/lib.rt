@@ -3,39 +3,11 @@ use block_check::Group;
 use block_context::HfBlockContext;
 use hf_coeff::CoeffAnswer;
 ghost use mathlib.Core.Path.{_≡_};
-ghost use Rattle.hf_coeff.specs.Call.{answered, passWith, lent, call};
-ghost use Rattle.netbuff_coefficients.specs.Coefficients.{contextsOf, coeffFacts, handedCoeff, CoeffLeaves};
+ghost use Rattle.refusal.specs.Said.{at};
+ghost use Rattle.hf_coeff.specs.Call.{passWith, lent, call};
+ghost use Rattle.netbuff_coefficients.specs.Coefficients.{contextsOf, with, CoeffLeaves};
 
-// What the call hands out: the symbols read, or a refusal.
-pub struct CoeffFacts {
-    pub refusal: u32,
-    pub read: usize,
-    pub x: usize,
-    pub y: usize,
-}
-
-fn coeff_facts(answer: CoeffAnswer) -> CoeffFacts
-    ensures { λ r. ⌜ r ≡ handedCoeff (answered answer) ⌝ }
-{
-    match answer {
-        CoeffAnswer::Accepted(read) => CoeffFacts {
-            refusal: 0,
-            read,
-            x: 0,
-            y: 0,
-        },
-        CoeffAnswer::Refused(refusal) => {
-            let said = refusal.numbers();
-            CoeffFacts {
-                refusal: said.number,
-                read: 0,
-                x: said.x,
-                y: said.y,
-            }
-        }
-    }
-}
-
+// Beside a refusal the number of symbols read stays as it was.
 #[no_mangle]
 pub extern "C" fn netbuff_coefficients<'a, 'b>(
     wide: usize,
@@ -65,7 +37,7 @@ pub extern "C" fn netbuff_coefficients<'a, 'b>(
     x: &'b mut usize,
     y: &'b mut usize,
 ) -> u32
-    ensures { λ r. ⌜ CoeffLeaves (coeffFacts r (now (read .exit)) (now (x .exit)) (now (y .exit))) (now (log .exit)) (now (grid0 .exit)) (now (grid1 .exit)) (now (grid2 .exit))
+    ensures { λ r. ⌜ CoeffLeaves (with (at r (now (x .exit)) (now (y .exit))) (now (read .exit))) (now (log .exit)) (now (grid0 .exit)) (now (grid1 .exit)) (now (grid2 .exit)) (now (read .entry))
         (call (lent (passWith wide high (now (kinds .entry)) (now («hf_mul» .entry)) (contextsOf «num_block_clusters» (now (lengths .entry)) (now («lf_thresholds» .entry)) (now («qf_thresholds» .entry)) (now («block_ctx_map» .entry))) «lf_there» (now (lf0 .entry)) (now (lf1 .entry)) (now (lf2 .entry)) (now (store .entry))) presets (now («cluster_map» .entry)) shift (now (bytes .entry)) (now (symbols .entry)) (now (log .entry)) (now (grid0 .entry)) (now (grid1 .entry)) (now (grid2 .entry)))) ⌝ }
 {
     let list_lengths = *lengths;
@@ -99,9 +71,18 @@ pub extern "C" fn netbuff_coefficients<'a, 'b>(
         grid1,
         grid2,
     );
-    let found = coeff_facts(answer);
-    *read = found.read;
-    *x = found.x;
-    *y = found.y;
-    found.refusal
+    match answer {
+        CoeffAnswer::Accepted(symbols_read) => {
+            *read = symbols_read;
+            *x = 0;
+            *y = 0;
+            0
+        }
+        CoeffAnswer::Refused(refusal) => {
+            let said = refusal.numbers();
+            *x = said.x;
+            *y = said.y;
+            said.number
+        }
+    }
 }

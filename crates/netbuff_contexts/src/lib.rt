@@ -1,39 +1,11 @@
 // C interface: the context call.
 use hf_block_context::ContextAnswer;
 ghost use mathlib.Core.Path.{_≡_};
-ghost use Rattle.hf_block_context.specs.Call.{answered, recordOf, parsed};
-ghost use Rattle.netbuff_contexts.specs.Contexts.{told, numbers, handed, contextHanded};
+ghost use Rattle.refusal.specs.Said.{at};
+ghost use Rattle.hf_block_context.specs.Call.{recordOf, parsed};
+ghost use Rattle.netbuff_contexts.specs.Contexts.{results, with, handed};
 
-// What the call hands out beside the record: 0 and the bits read, or the refusal.
-pub struct ContextNumbers {
-    pub refusal: u32,
-    pub bits_read: usize,
-    pub x: usize,
-    pub y: usize,
-}
-
-fn context_numbers(answer: ContextAnswer) -> ContextNumbers
-    ensures { λ r. ⌜ r ≡ told (answered answer) ⌝ }
-{
-    match answer {
-        ContextAnswer::Accepted(bits_read) => ContextNumbers {
-            refusal: 0,
-            bits_read,
-            x: 0,
-            y: 0,
-        },
-        ContextAnswer::Refused(refusal) => {
-            let said = refusal.numbers();
-            ContextNumbers {
-                refusal: said.number,
-                bits_read: 0,
-                x: said.x,
-                y: said.y,
-            }
-        }
-    }
-}
-
+// Beside a refusal the record and the bits read stay as they were.
 #[no_mangle]
 pub extern "C" fn netbuff_block_context<'a, 'b>(
     bytes: &'a [u8],
@@ -48,9 +20,10 @@ pub extern "C" fn netbuff_block_context<'a, 'b>(
     x: &'b mut usize,
     y: &'b mut usize,
 ) -> u32
-    ensures { λ r. ⌜ contextHanded (numbers r (now («bits_read» .exit)) (now (x .exit)) (now (y .exit)))
-        (recordOf (now («num_block_clusters» .exit)) (now (lengths .exit)) (now («lf_thresholds» .exit)) (now («qf_thresholds» .exit)) (now («block_ctx_map» .exit)))
-        ≡ handed (parsed (now (bytes .entry)) «num_clusters» (now (map .entry))) ⌝ }
+    ensures { λ r. ⌜ with (at r (now (x .exit)) (now (y .exit)))
+        (results (recordOf (now («num_block_clusters» .exit)) (now (lengths .exit)) (now («lf_thresholds» .exit)) (now («qf_thresholds» .exit)) (now («block_ctx_map» .exit))) (now («bits_read» .exit)))
+        ≡ handed (parsed (now (bytes .entry)) «num_clusters» (now (map .entry)))
+        (results (recordOf (now («num_block_clusters» .entry)) (now (lengths .entry)) (now («lf_thresholds» .entry)) (now («qf_thresholds» .entry)) (now («block_ctx_map» .entry))) (now («bits_read» .entry))) ⌝ }
 {
     let parts = hf_block_context::parse_into(
         bytes,
@@ -61,12 +34,21 @@ pub extern "C" fn netbuff_block_context<'a, 'b>(
         block_ctx_map,
     );
     let answer = parts.answer;
-    let found = context_numbers(answer);
-    *num_block_clusters = parts.num_block_clusters;
     let list_lengths = parts.lengths;
-    *lengths = list_lengths;
-    *bits_read = found.bits_read;
-    *x = found.x;
-    *y = found.y;
-    found.refusal
+    match answer {
+        ContextAnswer::Accepted(read) => {
+            *num_block_clusters = parts.num_block_clusters;
+            *lengths = list_lengths;
+            *bits_read = read;
+            *x = 0;
+            *y = 0;
+            0
+        }
+        ContextAnswer::Refused(refusal) => {
+            let said = refusal.numbers();
+            *x = said.x;
+            *y = said.y;
+            said.number
+        }
+    }
 }

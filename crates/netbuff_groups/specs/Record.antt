@@ -1,32 +1,59 @@
--- What the exported cut and likeness hand out (document 01, Layout, "Added by us").
-use mathlib.Core.Path.{_≡_}
-use mathlib.Core.Bool.{Bool, false}
+-- What the exported cut and likeness hand out (document 01, Layout, "Added by us", and Refused).
+use mathlib.Core.Path.{_≡_, ap, _∙_}
+use mathlib.Core.Bool.{Bool}
 use mathlib.Core.List.{List}
 use Prim.Native.Nat.{ℕ}
+use Rattle.refusal.specs.declared.Said.{Said}
+use Rattle.refusal.specs.Said.{at}
 use Rattle.block_check.specs.declared.Group.{Group}
 use Rattle.block_check.specs.Calls.{Answer, gives, refuses}
-use Rattle.block_record.specs.Calls.{Outcome}
-use Rattle.netbuff_groups.specs.declared.CutFacts.{CutFacts}
-use Rattle.netbuff_groups.specs.declared.LikeFacts.{LikeFacts}
+use Rattle.block_record.specs.declared.cut.CutAnswer.{CutAnswer}
+use Rattle.block_record.specs.Calls.{Outcome, outcome, saidCut}
+use Rattle.likeness.specs.declared.LikeAnswer.{LikeAnswer}
+use Rattle.likeness.specs.Calls.{saidLike}
 
-abbrev pub cutFacts : ℕ → ℕ → ℕ → ℕ → ℕ → CutFacts
-cutFacts n w h x y = record { refusal = n; wide = w; high = h; x = x; y = y }
+-- number and position, and what the group's sides hold then
+pub record SidesHanded : Type 0 where
+  pub said : Said
+  pub sides : Group
 
--- the group's sides; or the refusal, and nothing else
-abbrev pub handedCut : Answer Group → CutFacts
-handedCut (gives g) = cutFacts 0 (g .wide) (g .high) 0 0
-handedCut (refuses s) = cutFacts (s .number) 0 0 (s .x) (s .y)
+abbrev pub withSides : Said → Group → SidesHanded
+withSides s g = record { said = s; sides = g }
 
--- what is handed out and what the buffers hold then, against the call's outcome
-pub record CutLeaves (facts : CutFacts) (kinds muls : List ℕ) (o : Outcome) : Type 0 where
-  pub factsAre : facts ≡ handedCut (o .answer)
+-- the group's sides; or the refusal, and nothing else: the sides keep what they held
+abbrev pub handedCut : Answer Group → Group → SidesHanded
+handedCut (gives g) kept = withSides (at 0 0 0) g
+handedCut (refuses s) kept = withSides s kept
+
+-- what is handed out, where the sides held kept before, and what the buffers hold then, against the call's outcome
+pub record CutLeaves (handed : SidesHanded) (kinds muls : List ℕ) (kept : Group) (o : Outcome) : Type 0 where
+  pub handedIs : handed ≡ handedCut (o .answer) kept
   pub kindsAre : kinds ≡ o .kinds
   pub mulsAre : muls ≡ o .muls
 
-abbrev pub likeFacts : ℕ → Bool → ℕ → ℕ → LikeFacts
-likeFacts n a x y = record { refusal = n; alike = a; x = x; y = y }
+-- the call's own answer, handed on
+pub cut-leaves : (h : SidesHanded) (a : CutAnswer) (k m : List ℕ) (kept : Group) (o : Outcome) → outcome (saidCut a) k m ≡ o → h ≡ handedCut (saidCut a) kept
+    → CutLeaves h k m kept o
+cut-leaves h a k m kept o e f =
+    record {
+      handedIs = f ∙ ap (λ (z : Outcome). handedCut (z .answer) kept) e;
+      kindsAre = ap (λ (z : Outcome). z .kinds) e;
+      mulsAre = ap (λ (z : Outcome). z .muls) e;
+    }
 
--- yes or no; or the refusal, and nothing else
-abbrev pub handedLike : Answer Bool → LikeFacts
-handedLike (gives b) = likeFacts 0 b 0 0
-handedLike (refuses s) = likeFacts (s .number) false (s .x) (s .y)
+-- number and position, and yes or no
+pub record AlikeHanded : Type 0 where
+  pub said : Said
+  pub alike : Bool
+
+abbrev pub withAlike : Said → Bool → AlikeHanded
+withAlike s b = record { said = s; alike = b }
+
+-- yes or no; or the refusal, and nothing else: what stood there stays
+abbrev pub handedLike : Answer Bool → Bool → AlikeHanded
+handedLike (gives b) kept = withAlike (at 0 0 0) b
+handedLike (refuses s) kept = withAlike s kept
+
+-- the call's own answer, handed on
+pub like-handed : (h : AlikeHanded) (a : LikeAnswer) (kept : Bool) (l : Answer Bool) → saidLike a ≡ l → h ≡ handedLike (saidLike a) kept → h ≡ handedLike l kept
+like-handed h a kept l e f = f ∙ ap (λ (z : Answer Bool). handedLike z kept) e

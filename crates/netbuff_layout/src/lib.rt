@@ -4,26 +4,10 @@ use filter_strength::Filter;
 use hf_metadata::LayoutAnswer;
 ghost use mathlib.Core.Path.{_≡_};
 ghost use mathlib.Core.List.{[], _∷_};
-ghost use Rattle.column_count.specs.Count.{counted, countOf};
-ghost use Rattle.hf_metadata.specs.Call.{answered, inputs, layoutOf};
-ghost use Rattle.netbuff_layout.specs.Layout.{filterOf, columns, handedOut, handedAll, left, handedCount};
-
-// What a layout call hands out beside its three lists.
-pub struct LayoutHanded {
-    pub refusal: u32,
-    pub used: usize,
-    pub x: usize,
-    pub y: usize,
-}
-
-// What a column count hands out.
-pub struct CountHanded {
-    pub refusal: u32,
-    pub count: u32,
-    pub bits: usize,
-    pub x: usize,
-    pub y: usize,
-}
+ghost use Rattle.refusal.specs.Said.{at};
+ghost use Rattle.column_count.specs.Count.{countOf};
+ghost use Rattle.hf_metadata.specs.Call.{inputs, layoutOf};
+ghost use Rattle.netbuff_layout.specs.Layout.{filterOf, withCount, handedCount, withUsed, LayoutLeaves};
 
 fn filter_of(on: bool, multiplier: f32) -> Filter
     ensures { λ r. ⌜ r ≡ filterOf on multiplier ⌝ }
@@ -34,52 +18,7 @@ fn filter_of(on: bool, multiplier: f32) -> Filter
     Filter::Off
 }
 
-fn layout_handed(answer: LayoutAnswer) -> LayoutHanded
-    ensures { λ r. ⌜ r ≡ handedOut (answered answer) ⌝ }
-{
-    match answer {
-        LayoutAnswer::Accepted(used) => LayoutHanded {
-            refusal: 0,
-            used,
-            x: 0,
-            y: 0,
-        },
-        LayoutAnswer::Refused(why) => {
-            let said = why.numbers();
-            LayoutHanded {
-                refusal: said.number,
-                used: 0,
-                x: said.x,
-                y: said.y,
-            }
-        }
-    }
-}
-
-fn count_handed(answer: ColumnCount) -> CountHanded
-    ensures { λ r. ⌜ r ≡ handedCount (counted answer) ⌝ }
-{
-    match answer {
-        ColumnCount::Count(count, bits) => CountHanded {
-            refusal: 0,
-            count,
-            bits,
-            x: 0,
-            y: 0,
-        },
-        ColumnCount::Refused(why) => {
-            let said = why.numbers();
-            CountHanded {
-                refusal: said.number,
-                count: 0,
-                bits: 0,
-                x: said.x,
-                y: said.y,
-            }
-        }
-    }
-}
-
+// Beside a refusal count and bits stay as they were.
 #[no_mangle]
 pub extern "C" fn netbuff_column_count(
     bytes: &[u8],
@@ -93,16 +32,27 @@ pub extern "C" fn netbuff_column_count(
     x: &mut usize,
     y: &mut usize,
 ) -> u32
-    ensures { λ r. ⌜ columns r (now (count .exit)) (now (bits .exit)) (now (x .exit)) (now (y .exit)) ≡ handedCount (countOf width height (mode0 ∷ mode1 ∷ mode2 ∷ []) (now (bytes .entry))) ⌝ }
+    ensures { λ r. ⌜ withCount (at r (now (x .exit)) (now (y .exit))) (now (count .exit)) (now (bits .exit))
+        ≡ handedCount (countOf width height (mode0 ∷ mode1 ∷ mode2 ∷ []) (now (bytes .entry))) (now (count .entry)) (now (bits .entry)) ⌝ }
 {
-    let out = count_handed(column_count::column_count(width, height, [mode0, mode1, mode2], bytes));
-    *count = out.count;
-    *bits = out.bits;
-    *x = out.x;
-    *y = out.y;
-    out.refusal
+    match column_count::column_count(width, height, [mode0, mode1, mode2], bytes) {
+        ColumnCount::Count(columns, read) => {
+            *count = columns;
+            *bits = read;
+            *x = 0;
+            *y = 0;
+            0
+        }
+        ColumnCount::Refused(refusal) => {
+            let said = refusal.numbers();
+            *x = said.x;
+            *y = said.y;
+            said.number
+        }
+    }
 }
 
+// Beside a refusal the number of columns used stays as it was.
 #[no_mangle]
 pub extern "C" fn netbuff_layout(
     width: u32,
@@ -124,11 +74,11 @@ pub extern "C" fn netbuff_layout(
     x: &mut usize,
     y: &mut usize,
 ) -> u32
-    ensures { λ r. ⌜ left r (now (used .exit)) (now (x .exit)) (now (y .exit)) (now (kinds .exit)) (now («hf_mul» .exit)) (now (sigma .exit))
-        ≡ handedAll (layoutOf (inputs width height (mode0 ∷ mode1 ∷ mode2 ∷ []) (now (types .entry)) (now (muls .entry)) (now (sharpness .entry)) (filterOf «filter_on» multiplier) (now (lookup .entry)) scale)
+    ensures { λ r. ⌜ LayoutLeaves (withUsed (at r (now (x .exit)) (now (y .exit))) (now (used .exit))) (now (kinds .exit)) (now («hf_mul» .exit)) (now (sigma .exit)) (now (used .entry))
+        (layoutOf (inputs width height (mode0 ∷ mode1 ∷ mode2 ∷ []) (now (types .entry)) (now (muls .entry)) (now (sharpness .entry)) (filterOf «filter_on» multiplier) (now (lookup .entry)) scale)
         (now (kinds .entry)) (now («hf_mul» .entry)) (now (sigma .entry))) ⌝ }
 {
-    let out = layout_handed(hf_metadata::layout(
+    let answer = hf_metadata::layout(
         width,
         height,
         [mode0, mode1, mode2],
@@ -141,9 +91,19 @@ pub extern "C" fn netbuff_layout(
         kinds,
         hf_mul,
         sigma,
-    ));
-    *used = out.used;
-    *x = out.x;
-    *y = out.y;
-    out.refusal
+    );
+    match answer {
+        LayoutAnswer::Accepted(columns) => {
+            *used = columns;
+            *x = 0;
+            *y = 0;
+            0
+        }
+        LayoutAnswer::Refused(refusal) => {
+            let said = refusal.numbers();
+            *x = said.x;
+            *y = said.y;
+            said.number
+        }
+    }
 }

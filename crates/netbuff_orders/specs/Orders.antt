@@ -1,12 +1,34 @@
--- What the exported order call hands out (document 01, Orders).
+-- What the exported order call hands out (document 01, Orders and Refused).
+use mathlib.Core.Path.{_≡_, ap, _∙_}
+use mathlib.Core.List.{List}
 use Prim.Native.Nat.{ℕ}
-use Rattle.hf_pass.specs.Call.{Answer, reads, refuses}
-use Rattle.netbuff_orders.specs.declared.OrdersOutcome.{OrdersOutcome}
+use Rattle.refusal.specs.declared.Said.{Said}
+use Rattle.refusal.specs.Said.{at}
+use Rattle.hf_pass.specs.declared.OrdersAnswer.{OrdersAnswer}
+use Rattle.hf_pass.specs.Call.{Answer, reads, refuses, answered, Outcome, outcome}
 
-abbrev pub outcome : ℕ → ℕ → ℕ → ℕ → OrdersOutcome
-outcome n m x y = record { refusal = n; read = m; x = x; y = y }
+-- number and position, and what the number of symbols read holds then
+pub record Handed : Type 0 where
+  pub said : Said
+  pub read : ℕ
 
--- the symbols read; or the refusal, and nothing else
-abbrev pub handed : Answer → OrdersOutcome
-handed (reads m) = outcome 0 m 0 0
-handed (refuses s) = outcome (s .number) 0 (s .x) (s .y)
+abbrev pub with : Said → ℕ → Handed
+with s m = record { said = s; read = m }
+
+-- the symbols read; or the refusal, and nothing else: the number keeps what it held
+abbrev pub handed : Answer → ℕ → Handed
+handed (reads m) kept = with (at 0 0 0) m
+handed (refuses s) kept = with s kept
+
+-- what is handed out, where the number of symbols read held kept before, and what the store holds then, against the call's outcome
+pub record OrdersLeave (h : Handed) (store : List ℕ) (kept : ℕ) (o : Outcome) : Type 0 where
+  pub handedIs : h ≡ handed (o .answer) kept
+  pub storeIs : store ≡ o .store
+
+-- the call's own answer, handed on
+pub orders-leave : (h : Handed) (a : OrdersAnswer) (store : List ℕ) (kept : ℕ) (o : Outcome) → outcome a store ≡ o → h ≡ handed (answered a) kept → OrdersLeave h store kept o
+orders-leave h a store kept o e f =
+    record {
+      handedIs = f ∙ ap (λ (z : Outcome). handed (z .answer) kept) e;
+      storeIs = ap (λ (z : Outcome). z .store) e;
+    }

@@ -2,41 +2,13 @@
 use hf_pass::OrdersAnswer;
 ghost use mathlib.Core.Path.{_≡_};
 ghost use lib.ListN.{length};
-ghost use Rattle.hf_pass.specs.Call.{answered, parsed};
+ghost use Rattle.refusal.specs.Said.{at};
+ghost use Rattle.hf_pass.specs.Call.{parsed};
 ghost use Rattle.hf_pass_store.specs.Store.{placesFit};
 ghost use Rattle.hf_pass_store.specs.LookedUp.{stretchAt, stretchFrom};
-ghost use Rattle.netbuff_orders.specs.Orders.{handed, outcome};
+ghost use Rattle.netbuff_orders.specs.Orders.{with, OrdersLeave};
 
-// What the order call hands out: the symbols read, or a refusal.
-pub struct OrdersOutcome {
-    pub refusal: u32,
-    pub read: usize,
-    pub x: usize,
-    pub y: usize,
-}
-
-fn orders_outcome(answer: OrdersAnswer) -> OrdersOutcome
-    ensures { λ r. ⌜ r ≡ handed (answered answer) ⌝ }
-{
-    match answer {
-        OrdersAnswer::Accepted(read) => OrdersOutcome {
-            refusal: 0,
-            read,
-            x: 0,
-            y: 0,
-        },
-        OrdersAnswer::Refused(refusal) => {
-            let said = refusal.numbers();
-            OrdersOutcome {
-                refusal: said.number,
-                read: 0,
-                x: said.x,
-                y: said.y,
-            }
-        }
-    }
-}
-
+// Beside a refusal the number of symbols read stays as it was.
 #[no_mangle]
 pub extern "C" fn netbuff_orders(
     bytes: &[u8],
@@ -46,15 +18,24 @@ pub extern "C" fn netbuff_orders(
     x: &mut usize,
     y: &mut usize,
 ) -> u32
-    ensures { λ r. ⌜ (outcome r (now (read .exit)) (now (x .exit)) (now (y .exit)) ≡ handed (parsed (now (bytes .entry)) (now (symbols .entry)) (now (store .entry)) .answer))
-        × (now (store .exit) ≡ parsed (now (bytes .entry)) (now (symbols .entry)) (now (store .entry)) .store) ⌝ }
+    ensures { λ r. ⌜ OrdersLeave (with (at r (now (x .exit)) (now (y .exit))) (now (read .exit))) (now (store .exit)) (now (read .entry))
+        (parsed (now (bytes .entry)) (now (symbols .entry)) (now (store .entry))) ⌝ }
 {
     let answer = hf_pass::parse(bytes, symbols, &mut store[..]);
-    let out = orders_outcome(answer);
-    *read = out.read;
-    *x = out.x;
-    *y = out.y;
-    out.refusal
+    match answer {
+        OrdersAnswer::Accepted(symbols_read) => {
+            *read = symbols_read;
+            *x = 0;
+            *y = 0;
+            0
+        }
+        OrdersAnswer::Refused(refusal) => {
+            let said = refusal.numbers();
+            *x = said.x;
+            *y = said.y;
+            said.number
+        }
+    }
 }
 
 // The list of an order and a channel: `count` numbers of the store from `first` on.

@@ -2,40 +2,40 @@
 use bit_place::Place;
 use bits::Got;
 use bits::U32Specifier;
+use refusal::Refusal;
 ghost use mathlib.Core.Path.{_≡_};
 ghost use Prim.Native.Nat.{min};
+ghost use Rattle.refusal.specs.Said.{at};
 ghost use Rattle.bits.specs.Bits.{readBits, readU32};
-ghost use Rattle.bits.specs.Reads.{gotOf};
+ghost use Rattle.bits.specs.Reads.{gotOf, answered};
 ghost use Rattle.coded_numbers.specs.Signed.{unpackSigned};
-ghost use Rattle.netbuff_reads.specs.Reader.{handed, outcome, bitsAt, choice};
+ghost use Rattle.netbuff_reads.specs.Reader.{results, with, handed, bitsAt, choice};
 
-// What a read hands out: the value and the place behind it, or 3 and the bits that the read took.
-pub struct ReadOutcome {
-    pub refusal: u32,
-    pub value: u32,
-    pub byte: usize,
-    pub bit: u32,
-    pub taken: u32,
-}
-
-fn read_outcome(got: Got) -> ReadOutcome
-    ensures { λ r. ⌜ r ≡ handed got ⌝ }
+// The value and the place behind it, or the refusal and the bits that the read took; value and place
+// then stay as they were.
+fn hand_out(
+    got: Got,
+    value: &mut u32,
+    next_byte: &mut usize,
+    next_bit: &mut u32,
+    taken: &mut u32,
+) -> u32
+    ensures { λ r. ⌜ with (at r (now (taken .exit)) 0) (results (now (value .exit)) (now («next_byte» .exit)) (now («next_bit» .exit)))
+        ≡ handed (answered got) (results (now (value .entry)) (now («next_byte» .entry)) (now («next_bit» .entry))) ⌝ }
 {
     match got {
-        Got::Value(value, next) => ReadOutcome {
-            refusal: 0,
-            value,
-            byte: next.byte,
-            bit: next.bit,
-            taken: 0,
-        },
-        Got::End(taken) => ReadOutcome {
-            refusal: 3,
-            value: 0,
-            byte: 0,
-            bit: 0,
-            taken,
-        },
+        Got::Value(v, next) => {
+            *value = v;
+            *next_byte = next.byte;
+            *next_bit = next.bit;
+            *taken = 0;
+            0
+        }
+        Got::End(bits) => {
+            let said = Refusal::BitsEnd(bits as usize).numbers();
+            *taken = bits;
+            said.number
+        }
     }
 }
 
@@ -50,15 +50,12 @@ pub extern "C" fn netbuff_read_bits(
     next_bit: &mut u32,
     taken: &mut u32,
 ) -> u32
-    ensures { λ r. ⌜ outcome r (now (value .exit)) (now («next_byte» .exit)) (now («next_bit» .exit)) (now (taken .exit))
-        ≡ handed (gotOf (bitsAt byte bit) (readBits (now (bytes .entry)) (bitsAt byte bit) (min n 32))) ⌝ }
+    ensures { λ r. ⌜ with (at r (now (taken .exit)) 0) (results (now (value .exit)) (now («next_byte» .exit)) (now («next_bit» .exit)))
+        ≡ handed (answered (gotOf (bitsAt byte bit) (readBits (now (bytes .entry)) (bitsAt byte bit) (min n 32))))
+        (results (now (value .entry)) (now («next_byte» .entry)) (now («next_bit» .entry))) ⌝ }
 {
-    let out = read_outcome(bits::read_bits(bytes, Place { byte, bit }, n));
-    *value = out.value;
-    *next_byte = out.byte;
-    *next_bit = out.bit;
-    *taken = out.taken;
-    out.refusal
+    let got = bits::read_bits(bytes, Place { byte, bit }, n);
+    hand_out(got, value, next_byte, next_bit, taken)
 }
 
 // The four choices are lent as pairs of an offset and a number of bits.
@@ -73,9 +70,10 @@ pub extern "C" fn netbuff_read_u32(
     next_bit: &mut u32,
     taken: &mut u32,
 ) -> u32
-    ensures { λ r. ⌜ outcome r (now (value .exit)) (now («next_byte» .exit)) (now («next_bit» .exit)) (now (taken .exit))
-        ≡ handed (gotOf (bitsAt byte bit)
-        (readU32 (now (bytes .entry)) (bitsAt byte bit) (choice (now (choices .entry)) 0) (choice (now (choices .entry)) 1) (choice (now (choices .entry)) 2) (choice (now (choices .entry)) 3))) ⌝ }
+    ensures { λ r. ⌜ with (at r (now (taken .exit)) 0) (results (now (value .exit)) (now («next_byte» .exit)) (now («next_bit» .exit)))
+        ≡ handed (answered (gotOf (bitsAt byte bit)
+        (readU32 (now (bytes .entry)) (bitsAt byte bit) (choice (now (choices .entry)) 0) (choice (now (choices .entry)) 1) (choice (now (choices .entry)) 2) (choice (now (choices .entry)) 3))))
+        (results (now (value .entry)) (now («next_byte» .entry)) (now («next_bit» .entry))) ⌝ }
 {
     let d0 = U32Specifier {
         offset: choices[0],
@@ -93,12 +91,8 @@ pub extern "C" fn netbuff_read_u32(
         offset: choices[6],
         bits: choices[7],
     };
-    let out = read_outcome(bits::read_u32(bytes, Place { byte, bit }, d0, d1, d2, d3));
-    *value = out.value;
-    *next_byte = out.byte;
-    *next_bit = out.bit;
-    *taken = out.taken;
-    out.refusal
+    let got = bits::read_u32(bytes, Place { byte, bit }, d0, d1, d2, d3);
+    hand_out(got, value, next_byte, next_bit, taken)
 }
 
 #[no_mangle]

@@ -1,14 +1,30 @@
--- What the exported transform look-up hands out (document 01, Transform).
-use mathlib.Core.Bool.{Bool, false}
+-- What the exported transform look-up hands out (document 01, Transform and Refused).
+use mathlib.Core.Bool.{Bool}
 use Prim.Native.Nat.{ℕ}
+use Rattle.refusal.specs.declared.Said.{Said}
+use Rattle.refusal.specs.Said.{at}
 use Rattle.dct_select.specs.Transforms.{wide, high, orderOf, turns}
 use Rattle.dct_select.specs.LookUp.{Answer, finds, refuses, numberOf}
-use Rattle.netbuff_transform.specs.declared.TransformFacts.{TransformFacts}
 
-abbrev pub facts : ℕ → ℕ → ℕ → ℕ → Bool → ℕ → ℕ → TransformFacts
-facts n w h o t x y = record { refusal = n; wide = w; high = h; order = o; turn = t; x = x; y = y }
+-- the results: size in blocks, order number and turn
+pub record Results : Type 0 where
+  pub wide : ℕ
+  pub high : ℕ
+  pub order : ℕ
+  pub turn : Bool
 
--- the transform's size in blocks, order number and turn; or the refusal, and nothing else
-abbrev pub handed : Answer → TransformFacts
-handed (finds t) = facts 0 (wide (numberOf t)) (high (numberOf t)) (orderOf (numberOf t)) (turns (numberOf t)) 0 0
-handed (refuses s) = facts (s .number) 0 0 0 false (s .x) (s .y)
+abbrev pub results : ℕ → ℕ → ℕ → Bool → Results
+results w h o t = record { wide = w; high = h; order = o; turn = t }
+
+-- number and position, and what the results hold then
+pub record Handed : Type 0 where
+  pub said : Said
+  pub results : Results
+
+abbrev pub with : Said → Results → Handed
+with s r = record { said = s; results = r }
+
+-- the transform's size, order number and turn; or the refusal, and nothing else: the results keep what they held
+abbrev pub handed : Answer → Results → Handed
+handed (finds t) kept = with (at 0 0 0) (results (wide (numberOf t)) (high (numberOf t)) (orderOf (numberOf t)) (turns (numberOf t)))
+handed (refuses s) kept = with s kept

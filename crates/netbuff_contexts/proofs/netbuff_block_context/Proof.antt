@@ -1,24 +1,40 @@
-use Rattle.netbuff_contexts.specs.declared.ContextNumbers.{ContextNumbers}
-use Rattle.netbuff_contexts.specs.Contexts.{handed, contextHanded}
-use Rattle.hf_block_context.specs.Parts.{withLists}
+use Rattle.hf_block_context.specs.Parts.{was-accepted, was-refused}
 use borrow.Author.Needs.{needs}
-use mathlib.Core.Path.{_∙_, ap}
-use Prim.Native.Nat.{_-_}
 use Rattle.netbuff_contexts.proofs.netbuff_block_context.Statement.{statement}
 use Rattle.netbuff_contexts.proofs.netbuff_block_context.Tie as tie
 
 parse-into-requires : tie.Need-parse-into-requires
 parse-into-requires c κs = search needs
 
-context-numbers-requires : tie.Need-context-numbers-requires
-context-numbers-requires c κs = search needs
+enum-known-answer : tie.Need-enum-known-answer
+enum-known-answer c = search needs
+
+enum-known-answer-2 : tie.Need-enum-known-answer-2
+enum-known-answer-2 c = search needs
+
+numbers-requires : tie.Need-numbers-requires
+numbers-requires c κs = search needs
 
 returns : tie.Need-returns
-returns c =
-    let p = c .before .before .parse-into in
+returns c = let p = c .before .before .before .before .parse-into in
     let l = p .last .1 .1 .1 in
-    ap (λ (n : ContextNumbers). contextHanded n (withLists (p .result) (l .0) (l .1 .0) (l .1 .1 .0) .contexts)) (c .before .context-numbers .ensures)
-    ∙ ap handed (p .ensures)
+    let a = c .before .before .before .before .before .before .before .before .before .before .args in
+    rw (← was-accepted (p .result) (l .0) (l .1 .0) (l .1 .1 .0) (a .lf-thresholds .now) (a .qf-thresholds .now) (a .block-ctx-map .now) _ (p .ensures) _ (c .before .answer .given .1))
+
+returns-2 : tie.Need-returns-2
+returns-2 c = let p = c .before .before .before .before .before .parse-into in
+    let l = p .last .1 .1 .1 in
+    let a = c .before .before .before .before .before .before .before .before .before .before .before .args in
+    let w = was-refused (p .result) (l .0) (l .1 .0) (l .1 .1 .0) (a .lf-thresholds .now) (a .qf-thresholds .now) (a .block-ctx-map .now) _ (p .ensures) _ (c .before .before .answer2 .given .1) in
+    rw (← w .0, w .1, w .2, w .3, c .numbers .ensures)
 
 pub netbuff-block-context-spec : {M : Type 1} → statement M
-netbuff-block-context-spec = tie.close (tie.spec parse-into-requires context-numbers-requires returns)
+netbuff-block-context-spec =
+    tie.close
+    (tie.spec
+    parse-into-requires
+    enum-known-answer
+    enum-known-answer-2
+    numbers-requires
+    returns
+    returns-2)

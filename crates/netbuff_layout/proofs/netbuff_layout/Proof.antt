@@ -1,9 +1,5 @@
-use Rattle.netbuff_layout.specs.Layout.{handed-layout}
-use Rattle.hf_metadata.specs.Call.{inputs, layoutOf}
-use Rattle.filter_strength.specs.declared.Filter.{Filter}
-use mathlib.Core.List.{[], _∷_}
+use Rattle.netbuff_layout.specs.Layout.{layout-leaves}
 use borrow.Author.Needs.{needs}
-use mathlib.Core.Path.{_∙_, ap}
 use Rattle.netbuff_layout.proofs.netbuff_layout.Statement.{statement}
 use Rattle.netbuff_layout.proofs.netbuff_layout.Tie as tie
 
@@ -13,8 +9,14 @@ filter-of-requires c κs = search needs
 layout-requires : tie.Need-layout-requires
 layout-requires c κs = search needs
 
-layout-handed-requires : tie.Need-layout-handed-requires
-layout-handed-requires c κs = search needs
+enum-known-answer : tie.Need-enum-known-answer
+enum-known-answer c = search needs
+
+enum-known-answer-2 : tie.Need-enum-known-answer-2
+enum-known-answer-2 c = search needs
+
+numbers-requires : tie.Need-numbers-requires
+numbers-requires c κs = search needs
 
 same-length : tie.Need-same-length
 same-length c = search needs
@@ -26,12 +28,19 @@ same-length-3 : tie.Need-same-length-3
 same-length-3 c = search needs
 
 returns : tie.Need-returns
-returns c =
-    let a = c .before .before .before .before .before .before .before .before .before .before .before .before .before .before .before .before .before .before .before .args in
-    let v = c .before .before .before .before .before .before .before .layout in
-    let q = c .before .before .before .before .before .before .before .before .before .before .before .before .filter-of in
-    handed-layout (c .layout-handed .result) (v .result) (v .last .1 .1 .1 .1 .1 .1 .1 .1 .1 .0) (v .last .1 .1 .1 .1 .1 .1 .1 .1 .1 .1 .0) (v .last .1 .1 .1 .1 .1 .1 .1 .1 .1 .1 .1 .0) _ (c .layout-handed .ensures)
-    (v .ensures ∙ ap (λ (f : Filter). layoutOf (inputs (a .width) (a .height) (a .mode0 ∷ a .mode1 ∷ a .mode2 ∷ []) (a .types .now) (a .muls .now) (a .sharpness .now) f (a .lookup .now) (a .scale)) (a .kinds .now) (a .hf-mul .now) (a .sigma .now)) (q .ensures))
+returns c = layout-leaves _ (c .before .before .before .before .before .before .before .before .before .layout .result) _ _ _ _ _ (rw (← c .before .before .before .before .before .before .before .before .before .before .before .before .before .before .filter-of .ensures) (c .before .before .before .before .before .before .before .before .before .layout .ensures)) (rw (c .before .answer .given .1))
+
+same-length-4 : tie.Need-same-length-4
+same-length-4 c = search needs
+
+same-length-5 : tie.Need-same-length-5
+same-length-5 c = search needs
+
+same-length-6 : tie.Need-same-length-6
+same-length-6 c = search needs
+
+returns-2 : tie.Need-returns-2
+returns-2 c = layout-leaves _ (c .before .before .before .before .before .before .before .before .before .before .layout .result) _ _ _ _ _ (rw (← c .before .before .before .before .before .before .before .before .before .before .before .before .before .before .before .filter-of .ensures) (c .before .before .before .before .before .before .before .before .before .before .layout .ensures)) (rw (c .before .before .answer2 .given .1, c .numbers .ensures))
 
 pub netbuff-layout-spec : {M : Type 1} → statement M
 netbuff-layout-spec =
@@ -39,8 +48,14 @@ netbuff-layout-spec =
     (tie.spec
     filter-of-requires
     layout-requires
-    layout-handed-requires
+    enum-known-answer
+    enum-known-answer-2
+    numbers-requires
     same-length
     same-length-2
     same-length-3
-    returns)
+    returns
+    same-length-4
+    same-length-5
+    same-length-6
+    returns-2)

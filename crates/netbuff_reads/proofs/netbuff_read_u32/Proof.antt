@@ -1,6 +1,5 @@
-use Rattle.netbuff_reads.specs.Reader.{handed}
 use borrow.Author.Needs.{needs}
-use mathlib.Core.Path.{_∙_, ap}
+use mathlib.Core.Path.{_∙_}
 use Rattle.netbuff_reads.proofs.netbuff_read_u32.Statement.{statement}
 use Rattle.netbuff_reads.proofs.netbuff_read_u32.Tie as tie
 
@@ -31,11 +30,11 @@ element-copy-out-t19-4 c = search needs
 read-u32-requires : tie.Need-read-u32-requires
 read-u32-requires c κs = search needs
 
-read-outcome-requires : tie.Need-read-outcome-requires
-read-outcome-requires c κs = search needs
+hand-out-requires : tie.Need-hand-out-requires
+hand-out-requires c κs = search needs
 
 returns : tie.Need-returns
-returns c = c .read-outcome .ensures ∙ ap handed (c .before .read-u32 .ensures)
+returns c = c .hand-out .ensures ∙ rw (c .before .before .before .before .before .read-u32 .ensures)
 
 pub netbuff-read-u32-spec : {M : Type 1} → statement M
 netbuff-read-u32-spec =
@@ -50,5 +49,5 @@ netbuff-read-u32-spec =
     element-copy-out-t16-4
     element-copy-out-t19-4
     read-u32-requires
-    read-outcome-requires
+    hand-out-requires
     returns)

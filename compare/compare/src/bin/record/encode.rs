@@ -81,7 +81,10 @@ pub fn contexts(body: &mut Body, call: &ContextsCall, outcome: &Outcome<usize, C
     body.bytes(&call.map);
     body.answer(&outcome.answer);
     body.size(*outcome.answer.as_ref().unwrap_or(&0));
-    let record = &outcome.buffers;
+    let record = match outcome.answer {
+        Ok(_) => &outcome.buffers,
+        Err(_) => &Contexts::ZERO,
+    };
     body.number(record.count);
     body.digest(&record.lengths);
     body.digest(&record.lf);

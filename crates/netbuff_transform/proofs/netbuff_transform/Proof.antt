@@ -2,8 +2,8 @@ use Rattle.refusal.specs.Said.{said}
 use Rattle.dct_select.specs.LookUp.{finds, refuses, answered, lookUp}
 use borrow.Author.Needs.{needs}
 use mathlib.Core.Path.{_≡_, _∙_, ap, sym}
-use Rattle.netbuff_transform.proofs.transform_facts.Statement.{statement}
-use Rattle.netbuff_transform.proofs.transform_facts.Tie as tie
+use Rattle.netbuff_transform.proofs.netbuff_transform.Statement.{statement}
+use Rattle.netbuff_transform.proofs.netbuff_transform.Tie as tie
 
 from-number-requires : tie.Need-from-number-requires
 from-number-requires c κs = search needs
@@ -40,8 +40,8 @@ returns-2 c =
     sym (c .before .before .before .before .from-number .ensures) ∙ ap answered (r .1) in
     rw (e, c .numbers .ensures)
 
-pub transform-facts-spec : {M : Type 1} → statement M
-transform-facts-spec =
+pub netbuff-transform-spec : {M : Type 1} → statement M
+netbuff-transform-spec =
     tie.close
     (tie.spec
     from-number-requires
