@@ -11,10 +11,6 @@ use Rattle.hf_coeff_walk.specs.Outcome.{walk-used, walk-done, walk-15, walk-zer
 use Rattle.hf_coeff_walk.specs.Runs.{entry-at, entries-lent, entries-room, context-fits}
 use Rattle.hf_coeff_channel.proofs.coefficients.walk_sparse.Statement.{statement}
 use Rattle.hf_coeff_channel.proofs.coefficients.walk_sparse.Tie as tie
-use Rattle.hf_coeff_channel.proofs.coefficients.gain_at.Reads as gain-at-reads
-use Rattle.hf_coeff_channel.proofs.coefficients.lesser_of.Reads as lesser-of-reads
-use Rattle.hf_coeff_channel.proofs.coefficients.zeros_from.Reads as zeros-from-reads
-use Rattle.hf_coeff_channel.proofs.context.coeff_context.Reads as coeff-context-reads
 
 abbrev Inv-loop : tie.InvT-loop
 Inv-loop nonzeros frequencies order spot symbols start count first part shift log₀ grid₀ left₀ prev₀ k₀ end stop log grid left prev k =

@@ -3,8 +3,8 @@ use Prim.Native.Nat.{_+_, _*_, _-_}
 use native.Mathlib.Omega.{arith}
 use borrow.Author.Needs.{needs}
 use Rattle.hf_coeff_group.specs.Stored.{of-three}
-use Rattle.hf_coeff.proofs.channels.list_of.Statement.{statement}
-use Rattle.hf_coeff.proofs.channels.list_of.Tie as tie
+use Rattle.hf_coeff_channel.proofs.list_of.Statement.{statement}
+use Rattle.hf_coeff_channel.proofs.list_of.Tie as tie
 
 mul-a : tie.Need-mul-a
 mul-a c = let a = c .args in omega (arith, of-three (a .c) (a .lists .count) (c .pre .0))
