@@ -6,8 +6,9 @@ use native.Mathlib.Omega.{arith}
 use native.Mathlib.Nat.{div-lt-iff-lt-mul}
 use lib.Pow.{pow-pos}
 use lib.Dec.{leb, leb→le}
-use lib.ListN.{length, getD, set, drop, length-set}
-use lib.Seq.{set-getD}
+use lib.ListN.{length, getD, set, take, drop, length-set, length-drop}
+use lib.Seq.{set-getD, getD-drop}
+use Rattle.laws.specs.Lists.{tail-all}
 use Rattle.laws.specs.Tables.{at-each, each-at}
 use Rattle.coded_numbers.specs.Signed.{unpackSigned}
 use Rattle.hf_coeff_walk.specs.Walk.{walk, coeffContext, FREQ, NUM-NONZERO, gain}
@@ -32,41 +33,55 @@ pub context-fits : (power n i prev : ℕ) → n < 32 * 2 ^ power → i < 63 * 2 
 unfolding coeffContext
 context-fits power n i prev h g f = omega (arith, entry-at power n h, freq-at power i g)
 
+-- the clusters of coefficients from the entry of a count on of which `left` are left
+abbrev pub entriesFor : ℕ → List ℕ → ℕ → List ℕ
+entriesFor power part left = drop (2 * getD NUM-NONZERO ((left - 1) / 2 ^ power) 0) part
+
+-- the same as they are lent
+module _ (power : ℕ) (part : List ℕ) (left x : ℕ) (e : x ≡ 2 * getD NUM-NONZERO ((left - 1) / 2 ^ power) 0) where
+  pub entries-lent : take (length part - x) (drop x part) ≡ entriesFor power part left
+  entries-lent = tail-all part x ∙ rw e
+
+  pub entries-room : left - 1 < 32 * 2 ^ power → length part ≡ 458 → 60 < length (take (length part - x) (drop x part))
+  entries-room h l = rw (tail-all part x, length-drop x part) (omega (arith, entry-at power (left - 1) h))
+
 -- what a run of zeros below place `stop` requires
-pub record ZerosReady (power symbols start from stop x part log : ℕ) : Type 0 where
+pub record ZerosReady (power symbols start from stop entries log : ℕ) : Type 0 where
   pub exponent : power ≤ 10
   pub begins : from ≤ stop
   pub places : stop ≤ 63 * 2 ^ power
   pub lent : start + stop ≤ symbols
   pub room : start + stop ≤ log
-  pub entry : x ≤ 180
-  pub entries : part ≡ 458
+  pub enough : 60 < entries
 
 -- places from `from` to below r are zeros and logged: the walk is the same from r on
-pub record Zeros (power : ℕ) (part symbols : List ℕ) (start from stop x : ℕ) (log₀ : List ℕ) (r : ℕ) (log : List ℕ) : Type 0 where
+pub record Zeros (power : ℕ) (entries symbols : List ℕ) (start from stop : ℕ) (log₀ : List ℕ) (r : ℕ) (log : List ℕ) : Type 0 where
   pub lower : from ≤ r
   pub upper : r ≤ stop
   pub long : length log ≡ length log₀
-  pub passed : (shift : ℕ) (places : List ℕ) (left : ℕ) (g : List ℕ) → 0 < left → x ≡ getD NUM-NONZERO ((left - 1) / 2 ^ power) 0 → stop ≤ length places
+  pub passed : (shift : ℕ) (part places : List ℕ) (left : ℕ) (g : List ℕ) → 0 < left → left ≤ 32 * 2 ^ power → entries ≡ entriesFor power part left → stop ≤ length places
       → walk shift (2 ^ power) part (drop r places) r 0 left (drop (start + r) symbols) (start + r) log g
       ≡ walk shift (2 ^ power) part (drop from places) from 0 left (drop (start + from) symbols) (start + from) log₀ g
 
-module _ (power : ℕ) (part symbols : List ℕ) (start from stop x : ℕ) (log₀ : List ℕ) where
-  pub zeros-start : from ≤ stop → Zeros power part symbols start from stop x log₀ from log₀
-  zeros-start h = record { lower = omega arith; upper = h; long = refl; passed = λ shift places left g l e s. refl }
+module _ (power : ℕ) (entries symbols : List ℕ) (start from stop : ℕ) (log₀ : List ℕ) where
+  pub zeros-start : from ≤ stop → Zeros power entries symbols start from stop log₀ from log₀
+  zeros-start h = record { lower = omega arith; upper = h; long = refl; passed = λ shift part places left g l m e s. refl }
 
-  pub zeros-turn : (k : ℕ) (log : List ℕ) → k < stop → stop ≤ 63 * 2 ^ power → start + stop ≤ length symbols → x ≤ 180 → getD symbols (start + k) 0 ≡ 0
-      → Zeros power part symbols start from stop x log₀ k log
-      → Zeros power part symbols start from stop x log₀ (k + 1) (set log (start + k) (getD part ((x + getD FREQ (k / 2 ^ power) 0) * 2) 0))
-  zeros-turn k log h b n f u z =
+  pub zeros-turn : (k : ℕ) (log : List ℕ) → k < stop → stop ≤ 63 * 2 ^ power → start + stop ≤ length symbols → getD symbols (start + k) 0 ≡ 0
+      → Zeros power entries symbols start from stop log₀ k log
+      → Zeros power entries symbols start from stop log₀ (k + 1) (set log (start + k) (getD entries (getD FREQ (k / 2 ^ power) 0 * 2) 0))
+  zeros-turn k log h b n u z =
       record {
         lower = omega (arith, z .lower);
         upper = omega arith;
-        long = length-set log (start + k) (getD part ((x + getD FREQ (k / 2 ^ power) 0) * 2) 0) ∙ z .long;
-        passed = λ shift places left g l e s.
-            let c : coeffContext (2 ^ power) (left - 1) k 0 ≡ (x + getD FREQ (k / 2 ^ power) 0) * 2 = unfold coeffContext in omega (arith, e) in
+        long = length-set log (start + k) (getD entries (getD FREQ (k / 2 ^ power) 0 * 2) 0) ∙ z .long;
+        passed = λ shift part places left g l m e s.
+            let x : ℕ = getD NUM-NONZERO ((left - 1) / 2 ^ power) 0 in
+            let y : ℕ = getD FREQ (k / 2 ^ power) 0 in
+            let c : coeffContext (2 ^ power) (left - 1) k 0 ≡ 2 * x + y * 2 = unfold coeffContext in omega arith in
+            let d : getD entries (y * 2) 0 ≡ getD part (coeffContext (2 ^ power) (left - 1) k 0) 0 = rw (e, c) (getD-drop (2 * x) part (y * 2) 0) in
             let a : start + (k + 1) ≡ start + k + 1 = omega arith in
-            rw (sym c, a) (sym (walk-zero shift (2 ^ power) part places symbols k 0 left (start + k) log g (omega arith) l (omega (arith, c, freq-at power k (omega arith))) (omega arith) u) ∙ z .passed shift places left g l e s);
+            rw (d, a) (sym (walk-zero shift (2 ^ power) part places symbols k 0 left (start + k) log g (omega arith) l (context-fits power (left - 1) k 0 (omega arith) (omega arith) (omega arith)) (omega arith) u) ∙ z .passed shift part places left g l m e s);
       }
 
 -- a sum in the cell, also for a symbol 0

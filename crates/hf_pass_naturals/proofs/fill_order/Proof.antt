@@ -6,8 +6,6 @@ use Prim.Native.Nat.{_-_}
 use borrow.Author.Needs.{needs}
 use Rattle.hf_pass_naturals.proofs.fill_order.Statement.{statement}
 use Rattle.hf_pass_naturals.proofs.fill_order.Tie as tie
-use Rattle.hf_pass_naturals.proofs.copy_twice.Reads as copy-twice-reads
-use Rattle.natural_order.proofs.fill_natural_order.Reads as fill-natural-order-reads
 
 sub-fill-natural-order : tie.Need-sub-fill-natural-order
 sub-fill-natural-order c = search needs

@@ -1,20 +1,18 @@
 use borrow.Author.Needs.{needs}
-use Rattle.hf_coeff_walk.specs.Outcome.{below-63}
 use Rattle.hf_coeff_walk.specs.Runs.{Zeros, zeros-start, zeros-turn, freq-at}
 use native.Mathlib.Omega.{arith}
 use Prim.Native.Nat.{_-_}
 use Rattle.hf_coeff_channel.proofs.coefficients.pass_zeros.Statement.{statement}
 use Rattle.hf_coeff_channel.proofs.coefficients.pass_zeros.Tie as tie
-use Rattle.hf_coeff_channel.proofs.coefficients.wide.Reads as wide-reads
 
 abbrev Inv-loop : tie.InvT-loop
-Inv-loop frequencies power symbols start from stop x part log₀ k₀ log k = Zeros power part symbols start from stop x log₀ k log
+Inv-loop frequencies power symbols start from stop entries log₀ k₀ log k = Zeros power entries symbols start from stop log₀ k log
 
 abbrev μ-loop : tie.MeasureT-loop
-μ-loop frequencies power symbols start from stop x part log₀ k₀ log k = stop - k
+μ-loop frequencies power symbols start from stop entries log₀ k₀ log k = stop - k
 
 loop-holds : tie.Need-loop-holds Inv-loop μ-loop
-loop-holds c = let a = c .before .before .before .args in zeros-start (a .power) (a .part .now) (a .symbols .now) (a .start) (a .from) (a .stop) (a .x) (a .log .now) (c .before .before .before .pre .1 .begins)
+loop-holds c = let a = c .before .before .before .args in zeros-start (a .power) (a .entries .now) (a .symbols .now) (a .start) (a .from) (a .stop) (a .log .now) (c .before .before .before .pre .1 .begins)
 
 add-at : tie.Need-add-at Inv-loop μ-loop
 add-at c = search needs
@@ -31,23 +29,14 @@ same-length c = search needs
 returns : tie.Need-returns Inv-loop μ-loop
 returns c = search needs
 
-shr-i : tie.Need-shr-i Inv-loop μ-loop
-shr-i c = search needs
-
-element-copy-out-wide : tie.Need-element-copy-out-wide Inv-loop μ-loop
-element-copy-out-wide c = below-63 (c .before .before .before .before .before .before .before .args .power) (c .before .before .before .loop .k) (omega (arith, c .before .before .before .before .before .before .before .pre .1 .places))
-
-wide-requires : tie.Need-wide-requires Inv-loop μ-loop
-wide-requires c κs = search needs
-
-add-log : tie.Need-add-log Inv-loop μ-loop
-add-log c = search needs
+place-entry-requires : tie.Need-place-entry-requires Inv-loop μ-loop
+place-entry-requires c κs = (c .before .before .before .before .before .before .before .pre .0, c .before .before .before .before .before .before .before .pre .1 .exponent, omega (arith, c .before .before .before .before .before .before .before .pre .1 .places))
 
 mul-log : tie.Need-mul-log Inv-loop μ-loop
 mul-log c = search needs
 
 shared-slice-read-log : tie.Need-shared-slice-read-log Inv-loop μ-loop
-shared-slice-read-log c = rw (c .before .wide .ensures .0, c .before .before .before .before .before .before .before .before .before .before .pre .0) (omega (arith, c .before .before .before .before .before .before .before .before .before .before .pre .1 .entry, c .before .before .before .before .before .before .before .before .before .before .pre .1 .entries, freq-at (c .before .before .before .before .before .before .before .before .before .before .args .power) (c .before .before .before .before .before .before .loop .k) (omega (arith, c .before .before .before .before .before .before .before .before .before .before .pre .1 .places))))
+shared-slice-read-log c = omega (arith, c .before .place-entry .ensures .0, c .before .before .before .before .before .before .before .before .before .pre .1 .enough, freq-at (c .before .before .before .before .before .before .before .before .before .args .power) (c .before .before .before .before .before .loop .k) (omega (arith, c .before .before .before .before .before .before .before .before .before .pre .1 .places)))
 
 slice-write-log : tie.Need-slice-write-log Inv-loop μ-loop
 slice-write-log c = search needs
@@ -60,10 +49,10 @@ loop-less c = search needs
 
 loop-again : tie.Need-loop-again Inv-loop μ-loop
 loop-again c =
-    let a = c .before .before .before .before .before .before .before .before .before .before .args in
-    let l = c .before .before .before .before .before .before .loop in
-    let p = c .before .before .before .before .before .before .before .before .before .before .pre in
-    rw (c .before .wide .ensures .0, p .0) (zeros-turn (a .power) (a .part .now) (a .symbols .now) (a .start) (a .from) (a .stop) (a .x) (a .log .now) (l .k) (l .log) (omega arith) (p .1 .places) (p .1 .lent) (p .1 .entry) (c .before .before .before .if1 .left) (l .inv))
+    let a = c .before .before .before .before .before .before .before .before .before .args in
+    let l = c .before .before .before .before .before .loop in
+    let p = c .before .before .before .before .before .before .before .before .before .pre in
+    rw (c .before .place-entry .ensures .0) (zeros-turn (a .power) (a .entries .now) (a .symbols .now) (a .start) (a .from) (a .stop) (a .log .now) (l .k) (l .log) (omega arith) (p .1 .places) (p .1 .lent) (c .before .before .if1 .left) (l .inv))
 
 same-length-2 : tie.Need-same-length-2 Inv-loop μ-loop
 same-length-2 c = search needs
@@ -83,10 +72,7 @@ pass-zeros-spec =
     shared-slice-read-if1
     same-length
     returns
-    shr-i
-    element-copy-out-wide
-    wide-requires
-    add-log
+    place-entry-requires
     mul-log
     shared-slice-read-log
     slice-write-log

@@ -1,6 +1,6 @@
 use borrow.Author.Needs.{needs}
-use mathlib.Core.Path.{refl, _≡_, _∙_, sym}
-use Prim.Native.Nat.{_^_, _≤_, _<_, _-_, _+_, _*_}
+use mathlib.Core.Path.{refl, _≡_, _∙_, ap, sym}
+use Prim.Native.Nat.{ℕ, _^_, _≤_, _<_, _-_, _+_, _*_}
 use Rattle.hf_coeff_walk.specs.Walk.{walk}
 use Rattle.natural_order.specs.Places.{paired}
 use Rattle.hf_coeff_walk.specs.Places.{placesOf}
@@ -8,14 +8,9 @@ use Rattle.hf_coeff_walk.specs.PlaceLaws.{places-count}
 use native.Mathlib.Omega.{arith}
 use lib.ListN.{length, drop, length-set}
 use Rattle.hf_coeff_walk.specs.Outcome.{walk-used, walk-done, walk-15, walk-zero, walk-more, ends}
-use Rattle.hf_coeff_walk.specs.Runs.{entry-at, context-fits}
+use Rattle.hf_coeff_walk.specs.Runs.{entry-at, entries-lent, entries-room, context-fits}
 use Rattle.hf_coeff_channel.proofs.coefficients.walk_sparse.Statement.{statement}
 use Rattle.hf_coeff_channel.proofs.coefficients.walk_sparse.Tie as tie
-use Rattle.hf_coeff_channel.proofs.coefficients.count_entry.Reads as count-entry-reads
-use Rattle.hf_coeff_channel.proofs.coefficients.gain_at.Reads as gain-at-reads
-use Rattle.hf_coeff_channel.proofs.coefficients.lesser_of.Reads as lesser-of-reads
-use Rattle.hf_coeff_channel.proofs.coefficients.zeros_from.Reads as zeros-from-reads
-use Rattle.hf_coeff_channel.proofs.context.coeff_context.Reads as coeff-context-reads
 
 abbrev Inv-loop : tie.InvT-loop
 Inv-loop nonzeros frequencies order spot symbols start count first part shift log₀ grid₀ left₀ prev₀ k₀ end stop log grid left prev k =
@@ -103,23 +98,40 @@ sub-count-entry c = search needs
 count-entry-requires : tie.Need-count-entry-requires Inv-loop μ-loop
 count-entry-requires c κs = search needs
 
+mul-x : tie.Need-mul-x Inv-loop μ-loop
+mul-x c = search needs
+
 add-zeros-from : tie.Need-add-zeros-from Inv-loop μ-loop
 add-zeros-from c = search needs
 
+sub-zeros-from : tie.Need-sub-zeros-from Inv-loop μ-loop
+sub-zeros-from c =
+    let a = c .before .before .before .before .before .before .before .before .before .before .before .before .before .before .args in
+    let l = c .before .before .before .before .before .before .before .loop in
+    omega (arith, c .count-entry .ensures .0, entry-at (a .spot .log) (l .left - 1) (omega arith), c .before .before .before .before .before .before .before .before .before .before .before .before .before .before .pre .2 .entries)
+
+part-zeros-from-start : tie.Need-part-zeros-from-start Inv-loop μ-loop
+part-zeros-from-start c =
+    let a = c .before .before .before .before .before .before .before .before .before .before .before .before .before .before .args in
+    let l = c .before .before .before .before .before .before .before .loop in
+    omega (arith, c .count-entry .ensures .0, entry-at (a .spot .log) (l .left - 1) (omega arith), c .before .before .before .before .before .before .before .before .before .before .before .before .before .before .pre .2 .entries)
+
+part-zeros-from-end : tie.Need-part-zeros-from-end Inv-loop μ-loop
+part-zeros-from-end c = search needs
+
 zeros-from-requires : tie.Need-zeros-from-requires Inv-loop μ-loop
 zeros-from-requires c κs =
-    let l = c .before .before .before .before .before .before .before .before .loop in
-    let a = c .before .before .before .before .before .before .before .before .before .before .before .before .before .before .before .args in
-    let r = c .before .before .before .before .before .before .before .before .before .before .before .before .before .before .before .pre .2 in (
-      c .before .before .before .before .before .before .before .before .before .before .before .before .before .before .before .pre .1,
+    let l = c .before .before .before .before .before .before .before .before .before .loop in
+    let a = c .before .before .before .before .before .before .before .before .before .before .before .before .before .before .before .before .args in
+    let r = c .before .before .before .before .before .before .before .before .before .before .before .before .before .before .before .before .pre .2 in (
+      c .before .before .before .before .before .before .before .before .before .before .before .before .before .before .before .before .pre .1,
       record {
         exponent = r .power;
         begins = omega arith;
         places = omega (arith, r .fits);
         lent = l .inv .7;
         room = simp length-set (omega (arith, r .room));
-        entry = rw (c .before .count-entry .ensures) (entry-at (a .spot .log) (l .left - 1) (omega arith));
-        entries = r .entries;
+        enough = entries-room (a .spot .log) (a .part .now) (l .left) (2 * c .before .before .count-entry .result) (ap (λ (n : ℕ). 2 * n) (c .before .before .count-entry .ensures .0)) (omega arith) (r .entries);
       },
     )
 
@@ -128,8 +140,8 @@ loop-less c = omega (arith, c .before .before .zeros-from .ensures .lower)
 
 loop-again : tie.Need-loop-again Inv-loop μ-loop
 loop-again c =
-    let l = c .before .before .before .before .before .before .before .before .before .before .before .loop in
-    let a = c .before .before .before .before .before .before .before .before .before .before .before .before .before .before .before .before .before .before .args in
+    let l = c .before .before .before .before .before .before .before .before .before .before .before .before .loop in
+    let a = c .before .before .before .before .before .before .before .before .before .before .before .before .before .before .before .before .before .before .before .args in
     let z = c .before .before .zeros-from .ensures in
     let e : a .start + (l .k + 1) ≡ a .start + l .k + 1 = omega arith in (
       z .upper,
@@ -141,8 +153,8 @@ loop-again c =
       l .inv .6,
       l .inv .7,
       l .inv .8,
-      rw (e, c .before .before .before .before .before .before .before .before .coeff-context .ensures) at (z .passed (a .shift) (placesOf (a .spot .turn) (a .spot .row) (a .spot .x) (a .spot .y) (paired (a .order .now))) (l .left) (l .grid) (omega arith) (c .before .before .before .before .count-entry .ensures) (omega arith))
-          ∙ sym (walk-zero (a .shift) (2 ^ (a .spot .log)) (a .part .now) (placesOf (a .spot .turn) (a .spot .row) (a .spot .x) (a .spot .y) (paired (a .order .now))) (a .symbols .now) (l .k) (l .prev) (l .left) (a .start + l .k) (l .log) (l .grid) (omega arith) (omega arith) (context-fits (a .spot .log) (l .left - 1) (l .k) (l .prev) (omega arith) (omega arith) (l .inv .2)) (omega arith) (c .before .before .before .before .before .if2 .taken)) ∙ l .inv .9,
+      rw (e, c .before .before .before .before .before .before .before .before .before .coeff-context .ensures) at (z .passed (a .shift) (a .part .now) (placesOf (a .spot .turn) (a .spot .row) (a .spot .x) (a .spot .y) (paired (a .order .now))) (l .left) (l .grid) (omega arith) (l .inv .1) (entries-lent (a .spot .log) (a .part .now) (l .left) (2 * c .before .before .before .before .before .count-entry .result) (ap (λ (n : ℕ). 2 * n) (c .before .before .before .before .before .count-entry .ensures .0))) (omega arith))
+          ∙ sym (walk-zero (a .shift) (2 ^ (a .spot .log)) (a .part .now) (placesOf (a .spot .turn) (a .spot .row) (a .spot .x) (a .spot .y) (paired (a .order .now))) (a .symbols .now) (l .k) (l .prev) (l .left) (a .start + l .k) (l .log) (l .grid) (omega arith) (omega arith) (context-fits (a .spot .log) (l .left - 1) (l .k) (l .prev) (omega arith) (omega arith) (l .inv .2)) (omega arith) (c .before .before .before .before .before .before .if2 .taken)) ∙ l .inv .9,
     )
 
 gain-at-requires : tie.Need-gain-at-requires Inv-loop μ-loop
@@ -177,8 +189,8 @@ loop-again-2 c =
           (sym (walk-more (a .shift) (2 ^ (a .spot .log)) (a .part .now) (placesOf (a .spot .turn) (a .spot .row) (a .spot .x) (a .spot .y) (paired (a .order .now))) (a .symbols .now) (l .k) (l .prev) (l .left) (a .start + l .k) (l .log) (l .grid) (omega arith) (omega arith) (context-fits (a .spot .log) (l .left - 1) (l .k) (l .prev) (omega arith) (omega arith) (l .inv .2)) (omega arith) (c .before .before .before .before .if2 .left)) ∙ l .inv .9),
     )
 
-add-t39 : tie.Need-add-t39 Inv-loop μ-loop
-add-t39 c = search needs
+add-t43 : tie.Need-add-t43 Inv-loop μ-loop
+add-t43 c = search needs
 
 same-length-3 : tie.Need-same-length-3 Inv-loop μ-loop
 same-length-3 c = search needs
@@ -192,8 +204,8 @@ returns-2 c =
     let a = c .before .before .before .before .before .before .before .before .before .args in
     ends _ _ _ (walk-done (a .shift) (2 ^ (a .spot .log)) (a .part .now) (placesOf (a .spot .turn) (a .spot .row) (a .spot .x) (a .spot .y) (paired (a .order .now))) (a .symbols .now) (l .k) (l .prev) (l .left) (a .start + l .k) (l .log) (l .grid) (omega arith)) (l .inv .9)
 
-add-t40 : tie.Need-add-t40 Inv-loop μ-loop
-add-t40 c = search needs
+add-t44 : tie.Need-add-t44 Inv-loop μ-loop
+add-t44 c = search needs
 
 same-length-5 : tie.Need-same-length-5 Inv-loop μ-loop
 same-length-5 c = search needs
@@ -244,7 +256,11 @@ walk-sparse-spec =
     slice-write-log
     sub-count-entry
     count-entry-requires
+    mul-x
     add-zeros-from
+    sub-zeros-from
+    part-zeros-from-start
+    part-zeros-from-end
     zeros-from-requires
     loop-less
     loop-again
@@ -253,11 +269,11 @@ walk-sparse-spec =
     add-k
     loop-less-2
     loop-again-2
-    add-t39
+    add-t43
     same-length-3
     same-length-4
     returns-2
-    add-t40
+    add-t44
     same-length-5
     same-length-6
     returns-3

@@ -1,7 +1,6 @@
 use borrow.Author.Needs.{needs}
 use Rattle.hf_coeff_channel.proofs.coefficients.zeros_from.Statement.{statement}
 use Rattle.hf_coeff_channel.proofs.coefficients.zeros_from.Tie as tie
-use Rattle.hf_coeff_channel.proofs.coefficients.pass_zeros.Reads as pass-zeros-reads
 
 pass-zeros-requires : tie.Need-pass-zeros-requires
 pass-zeros-requires c κs = (c .before .before .before .before .before .pre .0, rw (c .before .if1 .taken) at (c .before .before .before .before .before .pre .1))
