@@ -45,6 +45,7 @@ static void look_up(void)
     refused = netbuff_transform(27, &wide, &high, &order, &turn, &x, &y);
     printf("transform 27: refused %" PRIu32 " %zu %zu\n", refused, x, y);
     expect(refused == 5 && x == 0 && y == 0, "transform 27");
+    expect(wide == 1 && high == 2 && order == 4 && turn, "a refusal leaves results as they were");
 }
 
 static void count_columns(void)

@@ -2,7 +2,6 @@
 use block_check::Group;
 use block_context::HfBlockContext;
 use hf_coeff::CoeffAnswer;
-ghost use mathlib.Core.Path.{_≡_};
 ghost use Rattle.refusal.specs.Said.{at};
 ghost use Rattle.hf_coeff.specs.Call.{passWith, lent, call};
 ghost use Rattle.netbuff_coefficients.specs.Coefficients.{contextsOf, with, CoeffLeaves};
