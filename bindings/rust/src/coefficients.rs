@@ -25,7 +25,8 @@ pub struct CoefficientOutput<'a> {
     pub log: &'a mut [u8],
 }
 
-/// Reads the coefficients of a group; the answer is the number of symbols read.
+/// Reads the coefficients of a group; the answer is the number of symbols read. Refused with 15 to
+/// 17, what was added and logged before stays.
 pub fn coefficients(input: CoefficientInput, output: CoefficientOutput) -> Result<usize> {
     let lf = input.lf.unwrap_or([&[]; 3]);
     let [grid0, grid1, grid2] = output.grids;

@@ -1,6 +1,7 @@
 //! Safe calls of Netbuff: layout, filter strengths, block contexts, orders and coefficients of a
 //! JPEG XL scan. What each call means, the lengths that fit and the refusals stand in
-//! `include/netbuff.h` and in document 01.
+//! `include/netbuff.h` and in document 01. A refusal is an `Err`, and leaves what was lent for
+//! writing as it was, unless the call says otherwise.
 
 mod coefficients;
 mod contexts;
