@@ -3,9 +3,10 @@ use Prim.Native.Nat.{ℕ, _<_, _≤_, _-_, _+_, _*_, _^_}
 use mathlib.Core.Path.{refl, _≡_, _∙_, ap, sym}
 use native.Mathlib.Omega.{arith}
 use borrow.Author.Needs.{needs}
-use lib.ListN.{length, drop, set, length-set}
+use lib.ListN.{length, getD, drop, set, length-set}
 use Rattle.hf_coeff_walk.specs.Item.{countOver}
-use Rattle.hf_coeff_group.specs.Group.{going, read}
+use Rattle.hf_pass_store.specs.Store.{stretch}
+use Rattle.hf_coeff_group.specs.Group.{Reading, going, read}
 use Rattle.hf_coeff_group.specs.Steps.{cut}
 use Rattle.hf_coeff_group.specs.Stored.{lists-end, list-is}
 use Rattle.hf_coeff_group.specs.Rewritten.{rewritten}
@@ -30,10 +31,36 @@ abbrev μ-loop : tie.MeasureT-loop
 less : (n : ℕ) → n < 3 → 3 - (n + 1) < 3 - n
 less n h = omega arith
 
+-- the whole reading of the varblock
+abbrev wholeAt : tie.Start Inv-loop μ-loop → ℕ → Reading
+wholeAt c left =
+    let a = c .args in
+    read (a .shift) (a .clusters) (a .map .now) (itemsBy (a .t2) (a .width) (a .store .now))
+    (going (drop (a .at) (a .symbols .now)) (a .at) (a .log .now) (a .g0 .now ∷ a .g1 .now ∷ a .g2 .now ∷ []) (cut (a .width) (a .rows .now)) left)
+
+-- the list is that of the channel
+list-at : (c : tie.After-list-of Inv-loop μ-loop) → c .list-of .result .now ≡ stretch (c .before .before .before .before .before .before .before .before .before .before .before .before .before .args .store .now) (c .before .before .before .before .before .before .before .before .before .before .before .before .before .args .t2 .order) (c .before .before .before .channel-walked .result)
+list-at c =
+    let s = c .before .before .before .before .before .before .before .before .before .before .before .before .before in
+    let a = s .args in
+    c .list-of .ensures ∙ list-is (a .store .now) (s .pre .1 .whole) (a .t2 .order) (s .pre .1 .listed) (a .lists) (s .pre .0) (c .before .before .before .channel-walked .result) (c .before .before .before .channel-walked .ensures .0)
+
+-- the channel's count was read
+count-read : (c : tie.Else1 Inv-loop μ-loop) → (c .before .before .before .before .before .before .before .before .before .before .before .before .before .before .before .before .before .before .before .before .before .loop .at < length (c .before .before .before .before .before .before .before .before .before .before .before .before .before .before .before .before .before .before .before .before .before .before .before .before .before .before .before .before .before .args .symbols .now)) × (getD (c .before .before .before .before .before .before .before .before .before .before .before .before .before .before .before .before .before .before .before .before .before .before .before .before .before .before .before .before .before .args .symbols .now) (c .before .before .before .before .before .before .before .before .before .before .before .before .before .before .before .before .before .before .before .before .before .loop .at) 0 ≤ 63 * 2 ^ (c .before .before .before .before .before .before .before .before .before .before .before .before .before .before .before .before .before .before .before .before .before .before .before .before .before .before .before .before .before .args .t2 .at .log))
+count-read c =
+    let s = c .before .before .before .before .before .before .before .before .before .before .before .before .before .before .before .before .before .before .before .before .before .before .before .before .before .before .before .before .before in
+    let a = s .args in
+    let l = c .before .before .before .before .before .before .before .before .before .before .before .before .before .before .before .before .before .before .before .before .before .loop in
+    let w = c .before .before .before .before .before .before .before .before .before .before .walk-channel in
+    let z = w .last .1 .1 .1 .1 .1 .1 .1 .1 .1 .1 .1 in
+    let left : ℕ = 0 in
+    turn-count (a .t2) (a .width) (a .clusters) (a .map .now) (a .store .now) (a .symbols .now) (a .at) (a .shift) (wholeAt s left) (length (a .log .now)) (s .pre .1) (l .n) (l .at) (l .counts) (a .rows .now) (l .log) (l .g0 ∷ l .g1 ∷ l .g2 ∷ []) (l .inv .6 left) (c .before .before .before .before .before .before .before .before .before .before .before .before .before .before .before .before .before .before .before .before .loop-test .taken) (c .before .before .before .before .before .before .before .before .before .before .before .before .before .before .before .before .before .before .before .channel-walked .result) (c .before .before .before .before .before .before .before .before .before .before .before .before .before .before .before .before .before .before .before .channel-walked .ensures .0) (c .before .before .before .before .before .before .before .before .before .before .before .before .before .before .before .before .before .before .before .channel-walked .ensures .1) (c .before .before .before .before .before .before .before .before .before .before .before .before .before .before .before .before .list-of .result .now) (list-at (c .before .before .before .before .before .before .before .before .before .before .before .before .before .before .before .before)) (w .result) (z .0) (z .1 .0 ∷ z .1 .1 .0 ∷ z .1 .1 .1 .0 ∷ []) (w .ensures) (sym (c .before .is-stopped .ensures) ∙ c .if1 .left)
+
 loop-holds : tie.Need-loop-holds Inv-loop μ-loop
 loop-holds c =
-    let a = c .before .before .before .before .before .before .before .args in
-    (refl, refl, refl, refl, omega arith, refl, λ left. turns-start (a .t2) (a .width) (a .clusters) (a .map .now) (a .store .now) (a .symbols .now) (a .at) (a .shift) (length (a .log .now)) (c .before .before .before .before .before .before .before .pre .1) (a .rows .now) (a .log .now) (a .g0 .now ∷ a .g1 .now ∷ a .g2 .now ∷ []) left)
+    let s = c .before .before .before .before .before .before .before in
+    let a = s .args in
+    (refl, refl, refl, refl, omega arith, refl, λ left. turns-start (a .t2) (a .width) (a .clusters) (a .map .now) (a .store .now) (a .symbols .now) (a .at) (a .shift) (length (a .log .now)) (s .pre .1) (a .rows .now) (a .log .now) (a .g0 .now ∷ a .g1 .now ∷ a .g2 .now ∷ []) left)
 
 channel-walked-requires : tie.Need-channel-walked-requires Inv-loop μ-loop
 channel-walked-requires c κs = c .loop-test .taken
@@ -46,8 +73,9 @@ element-copy-out-walk-channel c = c .before .before .loop-test .taken
 
 list-of-requires : tie.Need-list-of-requires Inv-loop μ-loop
 list-of-requires c κs =
-    let a = c .before .before .before .before .before .before .before .before .before .before .before .before .args in
-    (c .before .before .channel-walked .ensures .0, lists-end (a .store .now) (c .before .before .before .before .before .before .before .before .before .before .before .before .pre .1 .whole) (a .t2 .order) (c .before .before .before .before .before .before .before .before .before .before .before .before .pre .1 .listed) (a .lists) (c .before .before .before .before .before .before .before .before .before .before .before .before .pre .0))
+    let s = c .before .before .before .before .before .before .before .before .before .before .before .before in
+    let a = s .args in
+    (c .before .before .channel-walked .ensures .0, lists-end (a .store .now) (s .pre .1 .whole) (a .t2 .order) (s .pre .1 .listed) (a .lists) (s .pre .0))
 
 mul-walk-channel-2 : tie.Need-mul-walk-channel-2 Inv-loop μ-loop
 mul-walk-channel-2 c = search needs
@@ -57,10 +85,11 @@ index-1-walk-channel c = c .before .before .before .channel-walked .ensures .0
 
 walk-channel-requires : tie.Need-walk-channel-requires Inv-loop μ-loop
 walk-channel-requires c κs =
-    let a = c .before .before .before .before .before .before .before .before .before .before .before .before .before .before .before .before .before .before .args in
+    let s = c .before .before .before .before .before .before .before .before .before .before .before .before .before .before .before .before .before .before in
+    let a = s .args in
     let l = c .before .before .before .before .before .before .before .before .before .before .loop in
     let left : ℕ = 0 in
-    turn-asks (a .t2) (a .width) (a .clusters) (a .map .now) (a .store .now) (a .symbols .now) (a .at) (a .shift) (read (a .shift) (a .clusters) (a .map .now) (itemsBy (a .t2) (a .width) (a .store .now)) (going (drop (a .at) (a .symbols .now)) (a .at) (a .log .now) (a .g0 .now ∷ a .g1 .now ∷ a .g2 .now ∷ []) (cut (a .width) (a .rows .now)) left)) (length (a .log .now)) (c .before .before .before .before .before .before .before .before .before .before .before .before .before .before .before .before .before .before .pre .1) (l .n) (l .at) (l .counts) (a .rows .now) (l .log) (l .g0 ∷ l .g1 ∷ l .g2 ∷ []) (l .inv .6 left) (c .before .before .before .before .before .before .before .before .before .loop-test .taken) (c .before .before .before .before .before .before .before .before .channel-walked .result) (c .before .before .before .before .before .before .before .before .channel-walked .ensures .0) (c .before .before .before .before .before .before .before .before .channel-walked .ensures .1) (c .before .before .before .before .before .list-of .result .now) (c .before .before .before .before .before .list-of .ensures ∙ list-is (a .store .now) (c .before .before .before .before .before .before .before .before .before .before .before .before .before .before .before .before .before .before .pre .1 .whole) (a .t2 .order) (c .before .before .before .before .before .before .before .before .before .before .before .before .before .before .before .before .before .before .pre .1 .listed) (a .lists) (c .before .before .before .before .before .before .before .before .before .before .before .before .before .before .before .before .before .before .pre .0) (c .before .before .before .before .before .before .before .before .channel-walked .result) (c .before .before .before .before .before .before .before .before .channel-walked .ensures .0)) (l .inv .0)
+    turn-asks (a .t2) (a .width) (a .clusters) (a .map .now) (a .store .now) (a .symbols .now) (a .at) (a .shift) (wholeAt s left) (length (a .log .now)) (s .pre .1) (l .n) (l .at) (l .counts) (a .rows .now) (l .log) (l .g0 ∷ l .g1 ∷ l .g2 ∷ []) (l .inv .6 left) (c .before .before .before .before .before .before .before .before .before .loop-test .taken) (c .before .before .before .before .before .before .before .before .channel-walked .result) (c .before .before .before .before .before .before .before .before .channel-walked .ensures .0) (c .before .before .before .before .before .before .before .before .channel-walked .ensures .1) (c .before .before .before .before .before .list-of .result .now) (list-at (c .before .before .before .before .before)) (l .inv .0)
 
 is-stopped-requires : tie.Need-is-stopped-requires Inv-loop μ-loop
 is-stopped-requires c κs = tt
@@ -79,42 +108,24 @@ same-length-4 c = c .before .before .before .g2 .given ∙ c .before .before .be
 
 returns : tie.Need-returns Inv-loop μ-loop
 returns c =
-    let a = c .before .before .before .before .before .before .before .before .before .before .before .before .before .before .before .before .before .before .before .before .before .before .before .before .before .before .before .before .before .args in
+    let s = c .before .before .before .before .before .before .before .before .before .before .before .before .before .before .before .before .before .before .before .before .before .before .before .before .before .before .before .before .before in
+    let a = s .args in
     let l = c .before .before .before .before .before .before .before .before .before .before .before .before .before .before .before .before .before .before .before .before .before .loop in
     let w = c .before .before .before .before .before .before .before .before .before .before .walk-channel in
     let z = w .last .1 .1 .1 .1 .1 .1 .1 .1 .1 .1 .1 in
-    λ left. turn-stops (a .t2) (a .width) (a .clusters) (a .map .now) (a .store .now) (a .symbols .now) (a .at) (a .shift) (read (a .shift) (a .clusters) (a .map .now) (itemsBy (a .t2) (a .width) (a .store .now)) (going (drop (a .at) (a .symbols .now)) (a .at) (a .log .now) (a .g0 .now ∷ a .g1 .now ∷ a .g2 .now ∷ []) (cut (a .width) (a .rows .now)) left)) (length (a .log .now)) (c .before .before .before .before .before .before .before .before .before .before .before .before .before .before .before .before .before .before .before .before .before .before .before .before .before .before .before .before .before .pre .1) (l .n) (l .at) (l .counts) (a .rows .now) (l .log) (l .g0 ∷ l .g1 ∷ l .g2 ∷ []) (l .inv .6 left) (c .before .before .before .before .before .before .before .before .before .before .before .before .before .before .before .before .before .before .before .before .loop-test .taken) (c .before .before .before .before .before .before .before .before .before .before .before .before .before .before .before .before .before .before .before .channel-walked .result) (c .before .before .before .before .before .before .before .before .before .before .before .before .before .before .before .before .before .before .before .channel-walked .ensures .0) (c .before .before .before .before .before .before .before .before .before .before .before .before .before .before .before .before .before .before .before .channel-walked .ensures .1) (c .before .before .before .before .before .before .before .before .before .before .before .before .before .before .before .before .list-of .result .now) (c .before .before .before .before .before .before .before .before .before .before .before .before .before .before .before .before .list-of .ensures ∙ list-is (a .store .now) (c .before .before .before .before .before .before .before .before .before .before .before .before .before .before .before .before .before .before .before .before .before .before .before .before .before .before .before .before .before .pre .1 .whole) (a .t2 .order) (c .before .before .before .before .before .before .before .before .before .before .before .before .before .before .before .before .before .before .before .before .before .before .before .before .before .before .before .before .before .pre .1 .listed) (a .lists) (c .before .before .before .before .before .before .before .before .before .before .before .before .before .before .before .before .before .before .before .before .before .before .before .before .before .before .before .before .before .pre .0) (c .before .before .before .before .before .before .before .before .before .before .before .before .before .before .before .before .before .before .before .channel-walked .result) (c .before .before .before .before .before .before .before .before .before .before .before .before .before .before .before .before .before .before .before .channel-walked .ensures .0)) (w .result) (z .0) (z .1 .0 ∷ z .1 .1 .0 ∷ z .1 .1 .1 .0 ∷ []) (w .ensures) (sym (c .before .is-stopped .ensures) ∙ c .if1 .taken) (a .at + 192 * 2 ^ (a .t2 .at .log)) (rewritten (a .t2) (l .counts) (a .rows .now) 3)
+    λ left. turn-stops (a .t2) (a .width) (a .clusters) (a .map .now) (a .store .now) (a .symbols .now) (a .at) (a .shift) (wholeAt s left) (length (a .log .now)) (s .pre .1) (l .n) (l .at) (l .counts) (a .rows .now) (l .log) (l .g0 ∷ l .g1 ∷ l .g2 ∷ []) (l .inv .6 left) (c .before .before .before .before .before .before .before .before .before .before .before .before .before .before .before .before .before .before .before .before .loop-test .taken) (c .before .before .before .before .before .before .before .before .before .before .before .before .before .before .before .before .before .before .before .channel-walked .result) (c .before .before .before .before .before .before .before .before .before .before .before .before .before .before .before .before .before .before .before .channel-walked .ensures .0) (c .before .before .before .before .before .before .before .before .before .before .before .before .before .before .before .before .before .before .before .channel-walked .ensures .1) (c .before .before .before .before .before .before .before .before .before .before .before .before .before .before .before .before .list-of .result .now) (list-at (c .before .before .before .before .before .before .before .before .before .before .before .before .before .before .before .before)) (w .result) (z .0) (z .1 .0 ∷ z .1 .1 .0 ∷ z .1 .1 .1 .0 ∷ []) (w .ensures) (sym (c .before .is-stopped .ensures) ∙ c .if1 .taken) (a .at + 192 * 2 ^ (a .t2 .at .log)) (rewritten (a .t2) (l .counts) (a .rows .now) 3)
 
 mul-wide : tie.Need-mul-wide Inv-loop μ-loop
-mul-wide c =
-    let a = c .before .before .before .before .before .before .before .before .before .before .before .before .before .before .before .before .before .before .before .before .before .before .before .before .before .before .before .before .before .args in
-    let l = c .before .before .before .before .before .before .before .before .before .before .before .before .before .before .before .before .before .before .before .before .before .loop in
-    let w = c .before .before .before .before .before .before .before .before .before .before .walk-channel in
-    let z = w .last .1 .1 .1 .1 .1 .1 .1 .1 .1 .1 .1 in
-    let left : ℕ = 0 in
-    let k = turn-count (a .t2) (a .width) (a .clusters) (a .map .now) (a .store .now) (a .symbols .now) (a .at) (a .shift) (read (a .shift) (a .clusters) (a .map .now) (itemsBy (a .t2) (a .width) (a .store .now)) (going (drop (a .at) (a .symbols .now)) (a .at) (a .log .now) (a .g0 .now ∷ a .g1 .now ∷ a .g2 .now ∷ []) (cut (a .width) (a .rows .now)) left)) (length (a .log .now)) (c .before .before .before .before .before .before .before .before .before .before .before .before .before .before .before .before .before .before .before .before .before .before .before .before .before .before .before .before .before .pre .1) (l .n) (l .at) (l .counts) (a .rows .now) (l .log) (l .g0 ∷ l .g1 ∷ l .g2 ∷ []) (l .inv .6 left) (c .before .before .before .before .before .before .before .before .before .before .before .before .before .before .before .before .before .before .before .before .loop-test .taken) (c .before .before .before .before .before .before .before .before .before .before .before .before .before .before .before .before .before .before .before .channel-walked .result) (c .before .before .before .before .before .before .before .before .before .before .before .before .before .before .before .before .before .before .before .channel-walked .ensures .0) (c .before .before .before .before .before .before .before .before .before .before .before .before .before .before .before .before .before .before .before .channel-walked .ensures .1) (c .before .before .before .before .before .before .before .before .before .before .before .before .before .before .before .before .list-of .result .now) (c .before .before .before .before .before .before .before .before .before .before .before .before .before .before .before .before .list-of .ensures ∙ list-is (a .store .now) (c .before .before .before .before .before .before .before .before .before .before .before .before .before .before .before .before .before .before .before .before .before .before .before .before .before .before .before .before .before .pre .1 .whole) (a .t2 .order) (c .before .before .before .before .before .before .before .before .before .before .before .before .before .before .before .before .before .before .before .before .before .before .before .before .before .before .before .before .before .pre .1 .listed) (a .lists) (c .before .before .before .before .before .before .before .before .before .before .before .before .before .before .before .before .before .before .before .before .before .before .before .before .before .before .before .before .before .pre .0) (c .before .before .before .before .before .before .before .before .before .before .before .before .before .before .before .before .before .before .before .channel-walked .result) (c .before .before .before .before .before .before .before .before .before .before .before .before .before .before .before .before .before .before .before .channel-walked .ensures .0)) (w .result) (z .0) (z .1 .0 ∷ z .1 .1 .0 ∷ z .1 .1 .1 .0 ∷ []) (w .ensures) (sym (c .before .is-stopped .ensures) ∙ c .if1 .left) in
-    omega (arith, k .0, c .before .before .before .before .before .before .before .before .before .before .before .before .before .before .before .before .before .before .before .before .before .before .before .before .before .before .before .before .before .good, c .before .before .before .before .before .before .before .before .before .before .before .before .before .before .before .before .before .before .before .before .before .before .before .before .before .before .before .before .before .fits)
+mul-wide c = omega (arith, count-read c .0, c .before .before .before .before .before .before .before .before .before .before .before .before .before .before .before .before .before .before .before .before .before .before .before .before .before .before .before .before .before .good, c .before .before .before .before .before .before .before .before .before .before .before .before .before .before .before .before .before .before .before .before .before .before .before .before .before .before .before .before .before .fits)
 
 shared-slice-read-wide : tie.Need-shared-slice-read-wide Inv-loop μ-loop
-shared-slice-read-wide c =
-    let a = c .before .before .before .before .before .before .before .before .before .before .before .before .before .before .before .before .before .before .before .before .before .before .before .before .before .before .before .before .before .before .args in
-    let l = c .before .before .before .before .before .before .before .before .before .before .before .before .before .before .before .before .before .before .before .before .before .before .loop in
-    let w = c .before .before .before .before .before .before .before .before .before .before .before .walk-channel in
-    let z = w .last .1 .1 .1 .1 .1 .1 .1 .1 .1 .1 .1 in
-    let left : ℕ = 0 in
-    turn-count (a .t2) (a .width) (a .clusters) (a .map .now) (a .store .now) (a .symbols .now) (a .at) (a .shift) (read (a .shift) (a .clusters) (a .map .now) (itemsBy (a .t2) (a .width) (a .store .now)) (going (drop (a .at) (a .symbols .now)) (a .at) (a .log .now) (a .g0 .now ∷ a .g1 .now ∷ a .g2 .now ∷ []) (cut (a .width) (a .rows .now)) left)) (length (a .log .now)) (c .before .before .before .before .before .before .before .before .before .before .before .before .before .before .before .before .before .before .before .before .before .before .before .before .before .before .before .before .before .before .pre .1) (l .n) (l .at) (l .counts) (a .rows .now) (l .log) (l .g0 ∷ l .g1 ∷ l .g2 ∷ []) (l .inv .6 left) (c .before .before .before .before .before .before .before .before .before .before .before .before .before .before .before .before .before .before .before .before .before .loop-test .taken) (c .before .before .before .before .before .before .before .before .before .before .before .before .before .before .before .before .before .before .before .before .channel-walked .result) (c .before .before .before .before .before .before .before .before .before .before .before .before .before .before .before .before .before .before .before .before .channel-walked .ensures .0) (c .before .before .before .before .before .before .before .before .before .before .before .before .before .before .before .before .before .before .before .before .channel-walked .ensures .1) (c .before .before .before .before .before .before .before .before .before .before .before .before .before .before .before .before .before .list-of .result .now) (c .before .before .before .before .before .before .before .before .before .before .before .before .before .before .before .before .before .list-of .ensures ∙ list-is (a .store .now) (c .before .before .before .before .before .before .before .before .before .before .before .before .before .before .before .before .before .before .before .before .before .before .before .before .before .before .before .before .before .before .pre .1 .whole) (a .t2 .order) (c .before .before .before .before .before .before .before .before .before .before .before .before .before .before .before .before .before .before .before .before .before .before .before .before .before .before .before .before .before .before .pre .1 .listed) (a .lists) (c .before .before .before .before .before .before .before .before .before .before .before .before .before .before .before .before .before .before .before .before .before .before .before .before .before .before .before .before .before .before .pre .0) (c .before .before .before .before .before .before .before .before .before .before .before .before .before .before .before .before .before .before .before .before .channel-walked .result) (c .before .before .before .before .before .before .before .before .before .before .before .before .before .before .before .before .before .before .before .before .channel-walked .ensures .0)) (w .result) (z .0) (z .1 .0 ∷ z .1 .1 .0 ∷ z .1 .1 .1 .0 ∷ []) (w .ensures) (sym (c .before .before .is-stopped .ensures) ∙ c .before .if1 .left) .0
+shared-slice-read-wide c = count-read (c .before) .0
 
 wide-requires : tie.Need-wide-requires Inv-loop μ-loop
 wide-requires c κs = tt
 
 count-over-requires : tie.Need-count-over-requires Inv-loop μ-loop
-count-over-requires c κs =
-    let a = c .before .before .before .before .before .before .before .before .before .before .before .before .before .before .before .before .before .before .before .before .before .before .before .before .before .before .before .before .before .before .before .args in
-    let l = c .before .before .before .before .before .before .before .before .before .before .before .before .before .before .before .before .before .before .before .before .before .before .before .loop in
-    let w = c .before .before .before .before .before .before .before .before .before .before .before .before .walk-channel in
-    let z = w .last .1 .1 .1 .1 .1 .1 .1 .1 .1 .1 .1 in
-    let left : ℕ = 0 in
-    (c .before .before .before .before .before .before .before .before .before .before .before .before .before .before .before .before .before .before .before .before .before .before .before .before .before .before .before .before .before .before .before .pre .1 .power, rw (c .wide .ensures) (turn-count (a .t2) (a .width) (a .clusters) (a .map .now) (a .store .now) (a .symbols .now) (a .at) (a .shift) (read (a .shift) (a .clusters) (a .map .now) (itemsBy (a .t2) (a .width) (a .store .now)) (going (drop (a .at) (a .symbols .now)) (a .at) (a .log .now) (a .g0 .now ∷ a .g1 .now ∷ a .g2 .now ∷ []) (cut (a .width) (a .rows .now)) left)) (length (a .log .now)) (c .before .before .before .before .before .before .before .before .before .before .before .before .before .before .before .before .before .before .before .before .before .before .before .before .before .before .before .before .before .before .before .pre .1) (l .n) (l .at) (l .counts) (a .rows .now) (l .log) (l .g0 ∷ l .g1 ∷ l .g2 ∷ []) (l .inv .6 left) (c .before .before .before .before .before .before .before .before .before .before .before .before .before .before .before .before .before .before .before .before .before .before .loop-test .taken) (c .before .before .before .before .before .before .before .before .before .before .before .before .before .before .before .before .before .before .before .before .before .channel-walked .result) (c .before .before .before .before .before .before .before .before .before .before .before .before .before .before .before .before .before .before .before .before .before .channel-walked .ensures .0) (c .before .before .before .before .before .before .before .before .before .before .before .before .before .before .before .before .before .before .before .before .before .channel-walked .ensures .1) (c .before .before .before .before .before .before .before .before .before .before .before .before .before .before .before .before .before .before .list-of .result .now) (c .before .before .before .before .before .before .before .before .before .before .before .before .before .before .before .before .before .before .list-of .ensures ∙ list-is (a .store .now) (c .before .before .before .before .before .before .before .before .before .before .before .before .before .before .before .before .before .before .before .before .before .before .before .before .before .before .before .before .before .before .before .pre .1 .whole) (a .t2 .order) (c .before .before .before .before .before .before .before .before .before .before .before .before .before .before .before .before .before .before .before .before .before .before .before .before .before .before .before .before .before .before .before .pre .1 .listed) (a .lists) (c .before .before .before .before .before .before .before .before .before .before .before .before .before .before .before .before .before .before .before .before .before .before .before .before .before .before .before .before .before .before .before .pre .0) (c .before .before .before .before .before .before .before .before .before .before .before .before .before .before .before .before .before .before .before .before .before .channel-walked .result) (c .before .before .before .before .before .before .before .before .before .before .before .before .before .before .before .before .before .before .before .before .before .channel-walked .ensures .0)) (w .result) (z .0) (z .1 .0 ∷ z .1 .1 .0 ∷ z .1 .1 .1 .0 ∷ []) (w .ensures) (sym (c .before .before .before .is-stopped .ensures) ∙ c .before .before .if1 .left) .1))
+count-over-requires c κs = (c .before .before .before .before .before .before .before .before .before .before .before .before .before .before .before .before .before .before .before .before .before .before .before .before .before .before .before .before .before .before .before .pre .1 .power, rw (c .wide .ensures) (count-read (c .before .before) .1))
 
 mul-counts : tie.Need-mul-counts Inv-loop μ-loop
 mul-counts c = let k = c .before .before .before .before .before .before .before .before .before .before .before .before .before .before .before .before .before .before .before .before .before .before .channel-walked .ensures .0 in search needs
@@ -133,7 +144,8 @@ loop-less c = less (c .before .before .before .before .before .before .before .b
 
 loop-again : tie.Need-loop-again Inv-loop μ-loop
 loop-again c =
-    let a = c .before .before .before .before .before .before .before .before .before .before .before .before .before .before .before .before .before .before .before .before .before .before .before .before .before .before .before .before .before .before .before .before .before .args in
+    let s = c .before .before .before .before .before .before .before .before .before .before .before .before .before .before .before .before .before .before .before .before .before .before .before .before .before .before .before .before .before .before .before .before .before in
+    let a = s .args in
     let l = c .before .before .before .before .before .before .before .before .before .before .before .before .before .before .before .before .before .before .before .before .before .before .before .before .before .loop in
     let w = c .before .before .before .before .before .before .before .before .before .before .before .before .before .before .walk-channel in
     let z = w .last .1 .1 .1 .1 .1 .1 .1 .1 .1 .1 .1 in (
@@ -143,7 +155,7 @@ loop-again c =
       c .before .before .before .before .before .before .before .g2 .given ∙ l .inv .3,
       omega (arith, c .before .before .before .before .before .before .before .before .before .before .before .before .before .before .before .before .before .before .before .before .before .before .before .before .loop-test .taken),
       length-set (l .counts) (c .before .before .before .before .before .before .before .before .before .before .before .before .before .before .before .before .before .before .before .before .before .before .before .channel-walked .result) (c .before .count-over .result) ∙ l .inv .5,
-      λ left. turn-goes (a .t2) (a .width) (a .clusters) (a .map .now) (a .store .now) (a .symbols .now) (a .at) (a .shift) (read (a .shift) (a .clusters) (a .map .now) (itemsBy (a .t2) (a .width) (a .store .now)) (going (drop (a .at) (a .symbols .now)) (a .at) (a .log .now) (a .g0 .now ∷ a .g1 .now ∷ a .g2 .now ∷ []) (cut (a .width) (a .rows .now)) left)) (length (a .log .now)) (c .before .before .before .before .before .before .before .before .before .before .before .before .before .before .before .before .before .before .before .before .before .before .before .before .before .before .before .before .before .before .before .before .before .pre .1) (l .n) (l .at) (l .counts) (a .rows .now) (l .log) (l .g0 ∷ l .g1 ∷ l .g2 ∷ []) (l .inv .6 left) (c .before .before .before .before .before .before .before .before .before .before .before .before .before .before .before .before .before .before .before .before .before .before .before .before .loop-test .taken) (c .before .before .before .before .before .before .before .before .before .before .before .before .before .before .before .before .before .before .before .before .before .before .before .channel-walked .result) (c .before .before .before .before .before .before .before .before .before .before .before .before .before .before .before .before .before .before .before .before .before .before .before .channel-walked .ensures .0) (c .before .before .before .before .before .before .before .before .before .before .before .before .before .before .before .before .before .before .before .before .before .before .before .channel-walked .ensures .1) (c .before .before .before .before .before .before .before .before .before .before .before .before .before .before .before .before .before .before .before .before .list-of .result .now) (c .before .before .before .before .before .before .before .before .before .before .before .before .before .before .before .before .before .before .before .before .list-of .ensures ∙ list-is (a .store .now) (c .before .before .before .before .before .before .before .before .before .before .before .before .before .before .before .before .before .before .before .before .before .before .before .before .before .before .before .before .before .before .before .before .before .pre .1 .whole) (a .t2 .order) (c .before .before .before .before .before .before .before .before .before .before .before .before .before .before .before .before .before .before .before .before .before .before .before .before .before .before .before .before .before .before .before .before .before .pre .1 .listed) (a .lists) (c .before .before .before .before .before .before .before .before .before .before .before .before .before .before .before .before .before .before .before .before .before .before .before .before .before .before .before .before .before .before .before .before .before .pre .0) (c .before .before .before .before .before .before .before .before .before .before .before .before .before .before .before .before .before .before .before .before .before .before .before .channel-walked .result) (c .before .before .before .before .before .before .before .before .before .before .before .before .before .before .before .before .before .before .before .before .before .before .before .channel-walked .ensures .0)) (w .result) (z .0) (z .1 .0 ∷ z .1 .1 .0 ∷ z .1 .1 .1 .0 ∷ []) (w .ensures) (sym (c .before .before .before .before .before .is-stopped .ensures) ∙ c .before .before .before .before .if1 .left) (c .symbols-read .result) _ (c .symbols-read .ensures) (l .inv .5) (ap (set (l .counts) (c .before .before .before .before .before .before .before .before .before .before .before .before .before .before .before .before .before .before .before .before .before .before .before .channel-walked .result)) (c .before .count-over .ensures ∙ ap (λ (k : ℕ). countOver k (2 ^ (a .t2 .at .log))) (c .before .before .wide .ensures))),
+      λ left. turn-goes (a .t2) (a .width) (a .clusters) (a .map .now) (a .store .now) (a .symbols .now) (a .at) (a .shift) (wholeAt s left) (length (a .log .now)) (s .pre .1) (l .n) (l .at) (l .counts) (a .rows .now) (l .log) (l .g0 ∷ l .g1 ∷ l .g2 ∷ []) (l .inv .6 left) (c .before .before .before .before .before .before .before .before .before .before .before .before .before .before .before .before .before .before .before .before .before .before .before .before .loop-test .taken) (c .before .before .before .before .before .before .before .before .before .before .before .before .before .before .before .before .before .before .before .before .before .before .before .channel-walked .result) (c .before .before .before .before .before .before .before .before .before .before .before .before .before .before .before .before .before .before .before .before .before .before .before .channel-walked .ensures .0) (c .before .before .before .before .before .before .before .before .before .before .before .before .before .before .before .before .before .before .before .before .before .before .before .channel-walked .ensures .1) (c .before .before .before .before .before .before .before .before .before .before .before .before .before .before .before .before .before .before .before .before .list-of .result .now) (list-at (c .before .before .before .before .before .before .before .before .before .before .before .before .before .before .before .before .before .before .before .before)) (w .result) (z .0) (z .1 .0 ∷ z .1 .1 .0 ∷ z .1 .1 .1 .0 ∷ []) (w .ensures) (sym (c .before .before .before .before .before .is-stopped .ensures) ∙ c .before .before .before .before .if1 .left) (c .symbols-read .result) _ (c .symbols-read .ensures) (l .inv .5) (ap (set (l .counts) (c .before .before .before .before .before .before .before .before .before .before .before .before .before .before .before .before .before .before .before .before .before .before .before .channel-walked .result)) (c .before .count-over .ensures ∙ ap (λ (k : ℕ). countOver k (2 ^ (a .t2 .at .log))) (c .before .before .wide .ensures))),
     )
 
 same-length-5 : tie.Need-same-length-5 Inv-loop μ-loop
@@ -160,9 +172,10 @@ same-length-8 c = c .before .loop .inv .3
 
 returns-2 : tie.Need-returns-2 Inv-loop μ-loop
 returns-2 c =
-    let a = c .before .before .before .before .before .before .before .before .before .args in
+    let s = c .before .before .before .before .before .before .before .before .before in
+    let a = s .args in
     let l = c .before .loop in
-    λ left. turns-end (a .t2) (a .width) (a .clusters) (a .map .now) (a .store .now) (a .symbols .now) (a .at) (a .shift) (read (a .shift) (a .clusters) (a .map .now) (itemsBy (a .t2) (a .width) (a .store .now)) (going (drop (a .at) (a .symbols .now)) (a .at) (a .log .now) (a .g0 .now ∷ a .g1 .now ∷ a .g2 .now ∷ []) (cut (a .width) (a .rows .now)) left)) (l .n) (l .at) (l .counts) (a .rows .now) (l .log) (l .g0 ∷ l .g1 ∷ l .g2 ∷ []) (l .inv .6 left) (omega (arith, l .inv .4))
+    λ left. turns-end (a .t2) (a .width) (a .clusters) (a .map .now) (a .store .now) (a .symbols .now) (a .at) (a .shift) (wholeAt s left) (l .n) (l .at) (l .counts) (a .rows .now) (l .log) (l .g0 ∷ l .g1 ∷ l .g2 ∷ []) (l .inv .6 left) (omega (arith, l .inv .4))
 
 pub read-turns-spec : {M : Type 1} → statement M
 read-turns-spec =

@@ -98,8 +98,8 @@ sub-count-entry c = search needs
 count-entry-requires : tie.Need-count-entry-requires Inv-loop μ-loop
 count-entry-requires c κs = search needs
 
-mul-x : tie.Need-mul-x Inv-loop μ-loop
-mul-x c = search needs
+mul-entry : tie.Need-mul-entry Inv-loop μ-loop
+mul-entry c = search needs
 
 add-zeros-from : tie.Need-add-zeros-from Inv-loop μ-loop
 add-zeros-from c = search needs
@@ -256,7 +256,7 @@ walk-sparse-spec =
     slice-write-log
     sub-count-entry
     count-entry-requires
-    mul-x
+    mul-entry
     add-zeros-from
     sub-zeros-from
     part-zeros-from-start
