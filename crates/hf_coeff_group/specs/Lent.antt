@@ -1,7 +1,7 @@
 -- A varblock as it is lent: what fits, and its reading.
 use mathlib.Core.Path.{_≡_, refl, ap, sym, _∙_}
 use mathlib.Core.Bool.{Bool, true, false, cond, _&&_}
-use mathlib.Core.List.{List}
+use mathlib.Core.List.{List, [], _∷_}
 use Prim.Native.Nat.{ℕ, zero, suc, _+_, _*_, _-_, _^_, _<_}
 use native.Mathlib.Omega.{arith}
 use borrow.Author.Tests.{ltb-true, leb-true, eqb-true, lt-ltb, le-leb, eq-eqb}
@@ -18,11 +18,12 @@ use Rattle.hf_pass_store.specs.LookedUp.{stretchFrom, stretchAt}
 use Rattle.hf_coeff_walk.specs.declared.Walk.the-variants.{Stopped}
 use Rattle.hf_coeff_group.specs.declared.plan.Plan.{Plan}
 use Rattle.hf_coeff_group.specs.Group.{Grids, Reading, going, refused, read}
-use Rattle.hf_coeff_group.specs.Steps.{cut, Shown}
+use Rattle.hf_coeff_group.specs.Steps.{cut}
+use Rattle.hf_coeff_group.specs.Rewritten.{VarblockShown}
 use Rattle.hf_coeff_group.specs.Stored.{stretch-long, lists-are}
 use Rattle.hf_coeff_group.specs.Plans.{itemsBy, PlanReady}
 
--- what is lent for a varblock fits: at most 2^10 blocks in a group of at most 32 × 32, at most 16 clusters, a preset's whole
+-- what is lent for a varblock fits: at most 2^10 blocks, at least one of them wide, in a group of at most 32 × 32, at most 16 clusters, a preset's whole
 -- stretch of the cluster map, an order of as many places (`list` numbers), and a log with room for all its symbols
 unfoldable pub varblockFits : Plan → (width clusters map list symbols at shift log : ℕ) → Bool
 varblockFits p width clusters map list symbols at shift log =
@@ -40,6 +41,7 @@ varblockFits p width clusters map list symbols at shift log =
     && eqb list (128 * 2 ^ (p .at .log))
     && leb at log
     && leb (192 * 2 ^ (p .at .log)) (log - at)
+    && leb 1 (p .at .wide)
 
 -- the reading of a varblock, `left` of the counts before being left over; nothing is read where what is lent does not fit
 abbrev pub varblockRead : Plan → (width clusters : ℕ) (map store : List ℕ) (rows : Grids) (symbols : List ℕ) (at shift : ℕ) (log : List ℕ) (G : Grids) (left : ℕ) → Reading
@@ -64,7 +66,8 @@ module _ (p : Plan) (width clusters : ℕ) (map store : List ℕ) (symbols at sh
   pub fits-ready : varblockFits p width clusters (length map) (stretchAt (length store) (p .order) 0 .count) symbols at shift log ≡ true → PlanReady p width clusters map store symbols at shift log
   unfolding varblockFits
   fits-ready e =
-      let n = and-true _ _ e in
+      let o = and-true _ _ e in
+      let n = and-true _ _ (o .0) in
       let m = and-true _ _ (n .0) in
       let l = and-true _ _ (m .0) in
       let k = and-true _ _ (l .0) in
@@ -86,6 +89,7 @@ module _ (p : Plan) (width clusters : ℕ) (map store : List ℕ) (symbols at sh
         left = omega arith;
         column = x;
         top = ltb-true (p .at .y) 32 (a .1);
+        some = leb-true 1 (p .at .wide) (o .1);
         power = leb-true (p .at .log) 10 (b .1);
         across = w;
         cluster = each (ltb-true (getD (p .contexts) 0 0) clusters (d .1)) (ltb-true (getD (p .contexts) 1 0) clusters (f .1)) (ltb-true (getD (p .contexts) 2 0) clusters (g .1));
@@ -93,7 +97,7 @@ module _ (p : Plan) (width clusters : ℕ) (map store : List ℕ) (symbols at sh
         entries = eqb-true (length map) (495 * clusters) (k .1);
         listed = s .0;
         whole = s .1;
-        places = λ o t. stretch-long store (s .1) (p .order) o (s .0) t ∙ s .2;
+        places = λ c t. stretch-long store (s .1) (p .order) c (s .0) t ∙ s .2;
         begins = leb-true at symbols (j .1);
         shifts = leb-true shift 3 (i .1);
         room = omega arith;
@@ -126,6 +130,7 @@ module _ (p : Plan) (width clusters : ℕ) (map store : List ℕ) (symbols at sh
         eq-eqb (stretchAt (length store) (p .order) 0 .count) (128 * 2 ^ (p .at .log)) n,
         le-leb at log (omega arith),
         le-leb (192 * 2 ^ (p .at .log)) (log - at) (omega arith),
+        le-leb 1 (p .at .wide) (r .some),
       )
 
 -- the outcomes
@@ -136,8 +141,8 @@ module _ (p : Plan) (width clusters : ℕ) (map store : List ℕ) (rows : Grids)
   abbrev whole : ℕ → Reading
   whole left = read shift clusters map (itemsBy p width store) (going (drop at symbols) at log G (cut width rows) left)
 
-  pub varblock-refused : fitting ≡ false → (most : ℕ) (rows₁ : Grids) (left : ℕ) → Shown width symbols most (Stopped Length) rows₁ log G (varblockRead p width clusters map store rows symbols at shift log G left)
-  varblock-refused e most rows₁ left = rw e (record { it = record { answer = refl; logged = refl; cells = refl } })
+  pub varblock-refused : fitting ≡ false → (most left : ℕ) → VarblockShown p width symbols most (Stopped Length) (0 ∷ 0 ∷ 0 ∷ []) rows log G (varblockRead p width clusters map store rows symbols at shift log G left)
+  varblock-refused e most left = rw e (record { shown = record { it = record { answer = refl; logged = refl; cells = refl } }; counted = λ long. refl })
 
   pub varblock-reads : fitting ≡ true → (left : ℕ) → whole left ≡ varblockRead p width clusters map store rows symbols at shift log G left
   varblock-reads e left = rw e

@@ -1,14 +1,17 @@
--- Rows of counts, rewritten by what the channels of a varblock have read.
-use mathlib.Core.Path.{_≡_, refl}
+-- Rows of counts, rewritten by what the channels of a varblock have read, and what its reading hands back.
+use mathlib.Core.Path.{_≡_, refl, ap, sym, _∙_}
+use mathlib.Core.Bool.{Bool, true, false, true≢false}
 use mathlib.Core.List.{List, [], _∷_}
-use Prim.Native.Nat.{ℕ, zero, suc, _+_, _<_}
+use Prim.Native.Nat.{ℕ, zero, suc, _+_, _≤_, _<_}
 use native.Mathlib.Omega.{arith}
-use lib.ListN.{length, getD, set}
-use lib.Seq.{getD-set-same, getD-set-other}
+use lib.ListN.{length, getD, set, take}
+use lib.Seq.{getD-set-same, getD-set-other, getD-take}
+use Rattle.hf_coeff_walk.specs.declared.Walk.{Walk}
+use Rattle.hf_coeff_walk.specs.Outcome.{isStopped}
 use Rattle.hf_coeff_walk.specs.Item.{rowOf}
 use Rattle.hf_coeff_group.specs.declared.plan.Plan.{Plan}
-use Rattle.hf_coeff_group.specs.Group.{Grids}
-use Rattle.hf_coeff_group.specs.Steps.{Rows, rowBy}
+use Rattle.hf_coeff_group.specs.Group.{Grids, Reading, going, refused}
+use Rattle.hf_coeff_group.specs.Steps.{Rows, rowBy, Shown}
 use Rattle.hf_coeff_group.specs.Plans.{channelWalked}
 
 -- three rows
@@ -21,6 +24,17 @@ rewritten p counts rows zero = three rows
 rewritten p counts rows (suc n) =
     let c = channelWalked n in
     rowBy (rewritten p counts rows n) c (p .at .x) (p .at .wide) (getD counts c 0)
+
+-- what the counts of channels 0, 1, 2 come to over a varblock's blocks: what its reading leaves in their rows at its column x; 0 beside a refusal
+abbrev pub countsBy : ℕ → Reading → List ℕ
+countsBy x (going us at log grids rows left) = getD (getD rows 0 []) x 0 ∷ getD (getD rows 1 []) x 0 ∷ getD (getD rows 2 []) x 0 ∷ []
+countsBy x (refused why at log grids) = 0 ∷ 0 ∷ 0 ∷ []
+
+-- what the reading R of a varblock hands back: how it ended, the counts, log and grids; the rows are rewritten by the counts
+pub record VarblockShown (p : Plan) (width : ℕ) (symbols : List ℕ) (most : ℕ) (w : Walk) (counts : List ℕ) (rows : Grids) (log : List ℕ) (G : Grids) (R : Reading) : Type 0 where
+  pub shown : Shown width symbols most w (rewritten p counts rows 3) log G R
+  -- of rows that have a number in that column, as rows of 32 do
+  pub counted : ((c : ℕ) → c < 3 → p .at .x < length (getD rows c [])) → counts ≡ countsBy (p .at .x) R
 
 module _ (p : Plan) (counts : List ℕ) (rows : Grids) where
   -- a channel's own row is still as it was when the channel is walked
@@ -38,6 +52,37 @@ module _ (p : Plan) (counts : List ℕ) (rows : Grids) where
   row-joins (suc (suc zero)) v h e =
       rw (getD-set-same counts 2 v 0 (omega arith), getD-set-other counts 2 0 v 0 (λ e. omega arith), getD-set-other counts 2 1 v 0 (λ e. omega arith))
   row-joins (suc (suc (suc n))) v h e = absurd (omega arith)
+
+-- a number of a row before those that are rewritten, and the first of these
+row-before : (row : List ℕ) (x n v j : ℕ) → j < x → getD (rowOf row x n v) j 0 ≡ getD row j 0
+row-before row x zero v j h = refl
+row-before row x (suc n) v j h = row-before (set row x v) (x + 1) n v j (omega arith) ∙ getD-set-other row x j v 0 (omega arith)
+
+row-first : (row : List ℕ) (x n v : ℕ) → 1 ≤ n → x < length row → getD (rowOf row x n v) x 0 ≡ v
+row-first row x zero v h l = absurd (omega arith)
+row-first row x (suc n) v h l = row-before (set row x v) (x + 1) n v x (omega arith) ∙ getD-set-same row x v 0 l
+
+-- the counts of a reading that was stopped, and of one that was not
+module _ (p : Plan) (width : ℕ) (symbols : List ℕ) (most : ℕ) (w : Walk) (log : List ℕ) (G : Grids) where
+  pub counts-none : (rows : Grids) (R : Reading) → Shown width symbols most w rows log G R → isStopped w ≡ true → 0 ∷ 0 ∷ 0 ∷ [] ≡ countsBy (p .at .x) R
+  counts-none rows (refused why at log′ G′) s e = refl
+  counts-none rows (going us at log′ G′ rows′ left) s e = absurd (let f = s .it .answer in let z : _≡_ {A = Bool} true false = sym e ∙ ap isStopped f in true≢false z)
+
+  module _ (counts : List ℕ) (rows : Grids) (column : p .at .x < width) (some : 1 ≤ p .at .wide) (inside : (c : ℕ) → c < 3 → p .at .x < length (getD rows c [])) where
+    at-column : (c : ℕ) → c < 3 → getD (take width (rowOf (getD rows c []) (p .at .x) (p .at .wide) (getD counts c 0))) (p .at .x) 0 ≡ getD counts c 0
+    at-column c h = getD-take width _ (p .at .x) 0 column ∙ row-first (getD rows c []) (p .at .x) (p .at .wide) (getD counts c 0) some (inside c h)
+
+    listed : (l : List ℕ) → length l ≡ 3 → l ≡ getD l 0 0 ∷ getD l 1 0 ∷ getD l 2 0 ∷ []
+    listed (a ∷ b ∷ c ∷ []) e = refl
+    listed [] e = absurd (omega arith)
+    listed (a ∷ []) e = absurd (omega arith)
+    listed (a ∷ b ∷ []) e = absurd (omega arith)
+    listed (a ∷ b ∷ c ∷ d ∷ l) e = absurd (omega arith)
+
+    pub counts-read : (R : Reading) → length counts ≡ 3 → Shown width symbols most w (rewritten p counts rows 3) log G R → isStopped w ≡ false → counts ≡ countsBy (p .at .x) R
+    counts-read (refused why at log′ G′) e s f = absurd (let g = s .it .answer in let z : _≡_ {A = Bool} true false = sym (ap isStopped g) ∙ f in true≢false z)
+    counts-read (going us at log′ G′ rows′ left) e s f =
+        rw (s .it .used, at-column 0 (omega arith), at-column 1 (omega arith), at-column 2 (omega arith)) (listed counts e)
 
 -- the three rows, rewritten one after the other
 pub rows-are : (p : Plan) (counts : List ℕ) (rows : Grids) → Rows rows → (r₀ r₁ r₂ : List ℕ) → r₁ ≡ rowOf (getD rows 1 []) (p .at .x) (p .at .wide) (getD counts 1 0)

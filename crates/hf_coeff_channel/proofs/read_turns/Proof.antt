@@ -4,12 +4,13 @@ use mathlib.Core.Path.{refl, _≡_, _∙_, ap, sym}
 use native.Mathlib.Omega.{arith}
 use borrow.Author.Needs.{needs}
 use lib.ListN.{length, getD, drop, set, length-set}
+use Rattle.hf_coeff_walk.specs.declared.Walk.the-variants.{Ended}
 use Rattle.hf_coeff_walk.specs.Item.{countOver}
 use Rattle.hf_pass_store.specs.Store.{stretch}
 use Rattle.hf_coeff_group.specs.Group.{Reading, going, read}
 use Rattle.hf_coeff_group.specs.Steps.{cut}
 use Rattle.hf_coeff_group.specs.Stored.{lists-end, list-is}
-use Rattle.hf_coeff_group.specs.Rewritten.{rewritten}
+use Rattle.hf_coeff_group.specs.Rewritten.{rewritten, counts-none, counts-read}
 use Rattle.hf_coeff_group.specs.Plans.{itemsBy}
 use Rattle.hf_coeff_group.specs.StepLaws.{TurnsDue, turns-start, turns-end, turn-asks, turn-count, turn-stops, turn-goes}
 use Rattle.hf_coeff_channel.proofs.read_turns.Statement.{statement}
@@ -113,7 +114,12 @@ returns c =
     let l = c .before .before .before .before .before .before .before .before .before .before .before .before .before .before .before .before .before .before .before .before .before .loop in
     let w = c .before .before .before .before .before .before .before .before .before .before .walk-channel in
     let z = w .last .1 .1 .1 .1 .1 .1 .1 .1 .1 .1 .1 in
-    λ left. turn-stops (a .t2) (a .width) (a .clusters) (a .map .now) (a .store .now) (a .symbols .now) (a .at) (a .shift) (wholeAt s left) (length (a .log .now)) (s .pre .1) (l .n) (l .at) (l .counts) (a .rows .now) (l .log) (l .g0 ∷ l .g1 ∷ l .g2 ∷ []) (l .inv .6 left) (c .before .before .before .before .before .before .before .before .before .before .before .before .before .before .before .before .before .before .before .before .loop-test .taken) (c .before .before .before .before .before .before .before .before .before .before .before .before .before .before .before .before .before .before .before .channel-walked .result) (c .before .before .before .before .before .before .before .before .before .before .before .before .before .before .before .before .before .before .before .channel-walked .ensures .0) (c .before .before .before .before .before .before .before .before .before .before .before .before .before .before .before .before .before .before .before .channel-walked .ensures .1) (c .before .before .before .before .before .before .before .before .before .before .before .before .before .before .before .before .list-of .result .now) (list-at (c .before .before .before .before .before .before .before .before .before .before .before .before .before .before .before .before)) (w .result) (z .0) (z .1 .0 ∷ z .1 .1 .0 ∷ z .1 .1 .1 .0 ∷ []) (w .ensures) (sym (c .before .is-stopped .ensures) ∙ c .if1 .taken) (a .at + 192 * 2 ^ (a .t2 .at .log)) (rewritten (a .t2) (l .counts) (a .rows .now) 3)
+    λ left.
+    let t = turn-stops (a .t2) (a .width) (a .clusters) (a .map .now) (a .store .now) (a .symbols .now) (a .at) (a .shift) (wholeAt s left) (length (a .log .now)) (s .pre .1) (l .n) (l .at) (l .counts) (a .rows .now) (l .log) (l .g0 ∷ l .g1 ∷ l .g2 ∷ []) (l .inv .6 left) (c .before .before .before .before .before .before .before .before .before .before .before .before .before .before .before .before .before .before .before .before .loop-test .taken) (c .before .before .before .before .before .before .before .before .before .before .before .before .before .before .before .before .before .before .before .channel-walked .result) (c .before .before .before .before .before .before .before .before .before .before .before .before .before .before .before .before .before .before .before .channel-walked .ensures .0) (c .before .before .before .before .before .before .before .before .before .before .before .before .before .before .before .before .before .before .before .channel-walked .ensures .1) (c .before .before .before .before .before .before .before .before .before .before .before .before .before .before .before .before .list-of .result .now) (list-at (c .before .before .before .before .before .before .before .before .before .before .before .before .before .before .before .before)) (w .result) (z .0) (z .1 .0 ∷ z .1 .1 .0 ∷ z .1 .1 .1 .0 ∷ []) (w .ensures) (sym (c .before .is-stopped .ensures) ∙ c .if1 .taken) (a .at + 192 * 2 ^ (a .t2 .at .log)) (rewritten (a .t2) (0 ∷ 0 ∷ 0 ∷ []) (a .rows .now) 3) in
+    record {
+      shown = t;
+      counted = λ long. counts-none (a .t2) (a .width) (a .symbols .now) (a .at + 192 * 2 ^ (a .t2 .at .log)) (w .result) (z .0) (z .1 .0 ∷ z .1 .1 .0 ∷ z .1 .1 .1 .0 ∷ []) (rewritten (a .t2) (0 ∷ 0 ∷ 0 ∷ []) (a .rows .now) 3) (wholeAt s left) t (sym (c .before .is-stopped .ensures) ∙ c .if1 .taken);
+    }
 
 mul-wide : tie.Need-mul-wide Inv-loop μ-loop
 mul-wide c = omega (arith, count-read c .0, c .before .before .before .before .before .before .before .before .before .before .before .before .before .before .before .before .before .before .before .before .before .before .before .before .before .before .before .before .before .good, c .before .before .before .before .before .before .before .before .before .before .before .before .before .before .before .before .before .before .before .before .before .before .before .before .before .before .before .before .before .fits)
@@ -175,7 +181,12 @@ returns-2 c =
     let s = c .before .before .before .before .before .before .before .before .before in
     let a = s .args in
     let l = c .before .loop in
-    λ left. turns-end (a .t2) (a .width) (a .clusters) (a .map .now) (a .store .now) (a .symbols .now) (a .at) (a .shift) (wholeAt s left) (l .n) (l .at) (l .counts) (a .rows .now) (l .log) (l .g0 ∷ l .g1 ∷ l .g2 ∷ []) (l .inv .6 left) (omega (arith, l .inv .4))
+    λ left.
+    let t = turns-end (a .t2) (a .width) (a .clusters) (a .map .now) (a .store .now) (a .symbols .now) (a .at) (a .shift) (wholeAt s left) (l .n) (l .at) (l .counts) (a .rows .now) (l .log) (l .g0 ∷ l .g1 ∷ l .g2 ∷ []) (l .inv .6 left) (omega (arith, l .inv .4)) in
+    record {
+      shown = t;
+      counted = λ long. counts-read (a .t2) (a .width) (a .symbols .now) (a .at + 192 * 2 ^ (a .t2 .at .log)) (Ended (l .at)) (l .log) (l .g0 ∷ l .g1 ∷ l .g2 ∷ []) (l .counts) (a .rows .now) (s .pre .1 .column) (s .pre .1 .some) long (wholeAt s left) (l .inv .5) t refl;
+    }
 
 pub read-turns-spec : {M : Type 1} → statement M
 read-turns-spec =

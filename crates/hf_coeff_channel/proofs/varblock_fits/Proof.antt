@@ -76,12 +76,16 @@ returns-13 : tie.Need-returns-13
 unfolding varblockFits
 returns-13 c = let a = c .before .before .before .before .before .before .before .before .before .before .before .before .before .before .before .before .args in rw (lt-ltb (a .t1 .at .x) (a .width) (omega arith), lt-ltb (a .t1 .at .y) 32 (omega arith), le-leb (a .t1 .at .log) 10 (omega arith), le-leb (a .width) 32 (omega arith), lt-ltb (getD (a .t1 .contexts) 0 0) (a .clusters) (omega arith), lt-ltb (getD (a .t1 .contexts) 1 0) (a .clusters) (omega arith), lt-ltb (getD (a .t1 .contexts) 2 0) (a .clusters) (omega arith), le-leb (a .clusters) 16 (omega arith), le-leb (a .shift) 3 (omega arith), le-leb (a .at) (a .symbols) (omega arith), eq-eqb (a .map) (495 * a .clusters) (omega arith), eq-eqb (a .list) (128 * 2 ^ (a .t1 .at .log)) (omega (arith, shifted-left 128 (a .t1 .at .log) (omega arith) (omega arith))), lt-leb (a .at) (a .log) (omega arith))
 
-shl-result : tie.Need-shl-result
-shl-result c = search needs
+shl-if14 : tie.Need-shl-if14
+shl-if14 c = search needs
 
 returns-14 : tie.Need-returns-14
 unfolding varblockFits
-returns-14 c = let a = c .before .before .before .before .before .before .before .before .before .before .before .before .before .before .before .before .args in rw (lt-ltb (a .t1 .at .x) (a .width) (omega arith), lt-ltb (a .t1 .at .y) 32 (omega arith), le-leb (a .t1 .at .log) 10 (omega arith), le-leb (a .width) 32 (omega arith), lt-ltb (getD (a .t1 .contexts) 0 0) (a .clusters) (omega arith), lt-ltb (getD (a .t1 .contexts) 1 0) (a .clusters) (omega arith), lt-ltb (getD (a .t1 .contexts) 2 0) (a .clusters) (omega arith), le-leb (a .clusters) 16 (omega arith), le-leb (a .shift) 3 (omega arith), le-leb (a .at) (a .symbols) (omega arith), eq-eqb (a .map) (495 * a .clusters) (omega arith), eq-eqb (a .list) (128 * 2 ^ (a .t1 .at .log)) (omega (arith, shifted-left 128 (a .t1 .at .log) (omega arith) (omega arith))), le-leb (a .at) (a .log) (omega arith), shifted-left 192 (a .t1 .at .log) (omega arith) (omega arith))
+returns-14 c = let a = c .before .before .before .before .before .before .before .before .before .before .before .before .before .before .before .before .before .args in rw (lt-ltb (a .t1 .at .x) (a .width) (omega arith), lt-ltb (a .t1 .at .y) 32 (omega arith), le-leb (a .t1 .at .log) 10 (omega arith), le-leb (a .width) 32 (omega arith), lt-ltb (getD (a .t1 .contexts) 0 0) (a .clusters) (omega arith), lt-ltb (getD (a .t1 .contexts) 1 0) (a .clusters) (omega arith), lt-ltb (getD (a .t1 .contexts) 2 0) (a .clusters) (omega arith), le-leb (a .clusters) 16 (omega arith), le-leb (a .shift) 3 (omega arith), le-leb (a .at) (a .symbols) (omega arith), eq-eqb (a .map) (495 * a .clusters) (omega arith), eq-eqb (a .list) (128 * 2 ^ (a .t1 .at .log)) (omega (arith, shifted-left 128 (a .t1 .at .log) (omega arith) (omega arith))), le-leb (a .at) (a .log) (omega arith), lt-leb (192 * 2 ^ (a .t1 .at .log)) (a .log - a .at) (omega (arith, shifted-left 192 (a .t1 .at .log) (omega arith) (omega arith))))
+
+returns-15 : tie.Need-returns-15
+unfolding varblockFits
+returns-15 c = let a = c .before .before .before .before .before .before .before .before .before .before .before .before .before .before .before .before .before .args in rw (lt-ltb (a .t1 .at .x) (a .width) (omega arith), lt-ltb (a .t1 .at .y) 32 (omega arith), le-leb (a .t1 .at .log) 10 (omega arith), le-leb (a .width) 32 (omega arith), lt-ltb (getD (a .t1 .contexts) 0 0) (a .clusters) (omega arith), lt-ltb (getD (a .t1 .contexts) 1 0) (a .clusters) (omega arith), lt-ltb (getD (a .t1 .contexts) 2 0) (a .clusters) (omega arith), le-leb (a .clusters) 16 (omega arith), le-leb (a .shift) 3 (omega arith), le-leb (a .at) (a .symbols) (omega arith), eq-eqb (a .map) (495 * a .clusters) (omega arith), eq-eqb (a .list) (128 * 2 ^ (a .t1 .at .log)) (omega (arith, shifted-left 128 (a .t1 .at .log) (omega arith) (omega arith))), le-leb (a .at) (a .log) (omega arith), le-leb (192 * 2 ^ (a .t1 .at .log)) (a .log - a .at) (omega (arith, shifted-left 192 (a .t1 .at .log) (omega arith) (omega arith))))
 
 pub varblock-fits-spec : {M : Type 1} → statement M
 varblock-fits-spec =
@@ -105,5 +109,6 @@ varblock-fits-spec =
     shl-if12
     returns-12
     returns-13
-    shl-result
-    returns-14)
+    shl-if14
+    returns-14
+    returns-15)
