@@ -287,6 +287,7 @@ uint32_t __wrap_netbuff_coefficients(
 {
     if (grid_is_noted(grid0_length))
         memcpy(grid_before, grid0, grid0_length * sizeof grid0[0]);
+    size_t read_before = *symbols_read;
     uint32_t refused = __real_netbuff_coefficients(
         wide, high, kinds, kinds_length, hf_mul, hf_mul_length, num_block_clusters, lengths,
         lf_thresholds, qf_thresholds, block_ctx_map, lf_there, lf0, lf0_length, lf1, lf1_length, lf2,
@@ -307,7 +308,7 @@ uint32_t __wrap_netbuff_coefficients(
         log_other(&log[*symbols_read - 1], cluster_map, cluster_map_length);
     if (planted() == ACCEPTED_AS_17 && refused == 0) {
         *x = *symbols_read;
-        *symbols_read = 0;
+        *symbols_read = read_before;
         return 17;
     }
     return refused;

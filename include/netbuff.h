@@ -117,7 +117,8 @@ uint32_t netbuff_layout(uint32_t width, uint32_t height, uint32_t mode0, uint32_
  *
  * Each call judges the whole layout that it is lent (18). The rows of blocks that a row of groups
  * lies in (32 of them, fewer at the lower edge) are a layout by themselves, one piece of each list,
- * and their groups are the same: to cut all groups, lend each call just the rows of its group.
+ * and their groups are the same: to cut all groups, lend each call just the rows of its group, with
+ * their number as bh and the index counted among the groups of these rows.
  */
 uint32_t netbuff_cut(size_t bw, size_t bh, const uint8_t *kinds, size_t kinds_length,
                      const int32_t *hf_mul, size_t hf_mul_length, size_t index, uint8_t *out_kinds,

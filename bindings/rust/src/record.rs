@@ -16,7 +16,9 @@ pub struct Sides {
     pub high: usize,
 }
 
-/// Cuts the pass group with this index, counted row by row, out of a layout.
+/// Cuts the pass group with this index, counted row by row, out of a layout. All that is lent is
+/// judged, so whoever cuts all groups lends just the rows of blocks that a group lies in (32, fewer
+/// at the lower edge): they are a layout themselves, and the index is then counted within them.
 pub fn cut(layout: Layout, index: usize, kinds: &mut [u8], hf_mul: &mut [i32]) -> Result<Sides> {
     let mut sides = Sides::default();
     // SAFETY: the lists and every reference are valid for the call, those lent for writing are

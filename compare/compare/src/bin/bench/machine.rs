@@ -52,8 +52,9 @@ mod tests {
     #[test]
     fn the_kind_tells_processors_load_and_compiler() {
         let kind = kind();
-        for part in ["processors: ", "load before: ", "rustc"] {
-            assert!(kind.contains(part), "{kind}");
+        for label in ["processors: ", "load before: ", "rustc "] {
+            let (_, value) = kind.split_once(label).expect(&kind);
+            assert!(value.starts_with(|c: char| c.is_ascii_digit()), "{kind}");
         }
     }
 }

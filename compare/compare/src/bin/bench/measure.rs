@@ -5,10 +5,10 @@ use std::time::{Duration, Instant};
 use crate::spread::Spread;
 use crate::times::Times;
 
-const ROUNDS: u32 = 11;
+const TURNS: u32 = 11;
 /// At least so many, where a call takes longer than a round should.
-const FEW_ROUNDS: u32 = 3;
-const ROUND_TIME: Duration = Duration::from_millis(40);
+const FEW_TURNS: u32 = 3;
+const TURN_TIME: Duration = Duration::from_millis(40);
 
 /// Makes a call so many times; the time that they took, without what was made ready for them.
 pub type Side = Box<dyn FnMut(usize) -> Duration>;
@@ -67,8 +67,8 @@ pub fn measure(sides: Sides) -> Times {
 
 /// How many rounds are made, where the longest takes so long.
 fn rounds(longest: Duration) -> u32 {
-    let fit = (ROUND_TIME * ROUNDS).as_nanos() / longest.as_nanos().max(1);
-    (fit as u32).clamp(FEW_ROUNDS, ROUNDS)
+    let fit = (TURN_TIME * TURNS).as_nanos() / longest.as_nanos().max(1);
+    (fit as u32).clamp(FEW_TURNS, TURNS)
 }
 
 struct Timed {
@@ -85,7 +85,7 @@ impl Timed {
         const MOST: u128 = 2_000_000;
         side(1);
         let once = side(1).max(Duration::from_nanos(20));
-        let times = (ROUND_TIME.as_nanos() / once.as_nanos()).clamp(1, MOST) as u32;
+        let times = (TURN_TIME.as_nanos() / once.as_nanos()).clamp(1, MOST) as u32;
         Self {
             side,
             times,
