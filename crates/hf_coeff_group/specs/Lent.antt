@@ -142,7 +142,7 @@ module _ (p : Plan) (width clusters : ℕ) (map store : List ℕ) (rows : Grids)
   whole left = read shift clusters map (itemsBy p width store) (going (drop at symbols) at log G (cut width rows) left)
 
   pub varblock-refused : fitting ≡ false → (most left : ℕ) → VarblockShown p width symbols most (Stopped Length) (0 ∷ 0 ∷ 0 ∷ []) rows log G (varblockRead p width clusters map store rows symbols at shift log G left)
-  varblock-refused e most left = rw e (record { shown = record { it = record { answer = refl; logged = refl; cells = refl } }; counted = λ long. refl })
+  varblock-refused e most left = rw e (record { shown = record { it = record { answer = refl; logged = refl; cells = refl } }; none = λ stops. refl; counted = λ long. refl })
 
   pub varblock-reads : fitting ≡ true → (left : ℕ) → whole left ≡ varblockRead p width clusters map store rows symbols at shift log G left
   varblock-reads e left = rw e

@@ -33,6 +33,7 @@ countsBy x (refused why at log grids) = 0 ∷ 0 ∷ 0 ∷ []
 -- what the reading R of a varblock hands back: how it ended, the counts, log and grids; the rows are rewritten by the counts
 pub record VarblockShown (p : Plan) (width : ℕ) (symbols : List ℕ) (most : ℕ) (w : Walk) (counts : List ℕ) (rows : Grids) (log : List ℕ) (G : Grids) (R : Reading) : Type 0 where
   pub shown : Shown width symbols most w (rewritten p counts rows 3) log G R
+  pub none : isStopped w ≡ true → counts ≡ 0 ∷ 0 ∷ 0 ∷ []
   -- of rows that have a number in that column, as rows of 32 do
   pub counted : ((c : ℕ) → c < 3 → p .at .x < length (getD rows c [])) → counts ≡ countsBy (p .at .x) R
 

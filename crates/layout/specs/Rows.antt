@@ -1,18 +1,20 @@
 -- The rows of blocks that a row of pass groups lies in: a layout by themselves, and its groups are the whole layout's. So a caller
 -- who cuts every group may lend each cut just these rows.
 use mathlib.Core.Path.{_≡_, ap, sym, _∙_}
+use mathlib.Core.Bool.{true}
 use mathlib.Core.List.{List}
 use Prim.Native.Nat.{ℕ, _+_, _*_, _-_, _≤_, _<_}
 use native.Mathlib.Nat.{add-mul, mul-le-mul-right}
 use native.Mathlib.Omega.{arith}
 use lib.Arith.{digits-div, digits-mod}
+use borrow.Author.Tests.{lt-ltb}
 use lib.ListN.{length, take, drop, length-drop}
 use lib.Seq.{length-take-le, getD-take, getD-drop}
 use Rattle.layout.specs.Kinds.{highOf}
 use Rattle.layout.specs.Grid.{at, grid-length, grid-at, grid-is, place-lt}
-use Rattle.layout.specs.Valid.{Cells, Covers, Fits, Owned, Valid, Layout}
+use Rattle.layout.specs.Valid.{Cells, Covers, Owned, Valid, Layout}
 use Rattle.layout.specs.Same.{valid-same}
-use Rattle.layout.specs.Cut.{groups, groupX, groupY, side, cutCells, cut}
+use Rattle.layout.specs.Cut.{groups, groupX, groupY, hasGroup, side, cutCells, groupWide, groupHigh, cut}
 use Rattle.layout.specs.CutLaws.{within}
 
 module _ (bw bh q : ℕ) where
@@ -100,6 +102,15 @@ module _ (bw bh q : ℕ) where
 
     same-high : side (side bh q) 0 ≡ side bh q
     same-high = omega arith
+
+    -- it has the same sides, and is one of the groups of the rows
+    pub rows-sides : (groupWide bw p ≡ groupWide bw (q * groups bw + p)) × (groupHigh bw (side bh q) p ≡ groupHigh bw bh (q * groups bw + p))
+    rows-sides = (rw (first-x, there-x), rw (first-y, there-y, same-high))
+
+    pub rows-has : 32 * q < bh → hasGroup bw (side bh q) p ≡ true
+    rows-has starts =
+        let one : groups (side bh q) ≡ 1 = omega arith in
+        rw one (lt-ltb p (1 * groups bw) (omega arith))
 
     pub cut-rows : (l : List ℕ) → cut bw (side bh q) p (rowsOf l) ≡ cut bw bh (q * groups bw + p) l
     unfolding cut

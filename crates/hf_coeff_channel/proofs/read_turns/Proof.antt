@@ -1,3 +1,4 @@
+use mathlib.Core.Bool.{true≢false}
 use mathlib.Core.List.{[], _∷_}
 use Prim.Native.Nat.{ℕ, _<_, _≤_, _-_, _+_, _*_, _^_}
 use mathlib.Core.Path.{refl, _≡_, _∙_, ap, sym}
@@ -118,6 +119,7 @@ returns c =
     let t = turn-stops (a .t2) (a .width) (a .clusters) (a .map .now) (a .store .now) (a .symbols .now) (a .at) (a .shift) (wholeAt s left) (length (a .log .now)) (s .pre .1) (l .n) (l .at) (l .counts) (a .rows .now) (l .log) (l .g0 ∷ l .g1 ∷ l .g2 ∷ []) (l .inv .6 left) (c .before .before .before .before .before .before .before .before .before .before .before .before .before .before .before .before .before .before .before .before .loop-test .taken) (c .before .before .before .before .before .before .before .before .before .before .before .before .before .before .before .before .before .before .before .channel-walked .result) (c .before .before .before .before .before .before .before .before .before .before .before .before .before .before .before .before .before .before .before .channel-walked .ensures .0) (c .before .before .before .before .before .before .before .before .before .before .before .before .before .before .before .before .before .before .before .channel-walked .ensures .1) (c .before .before .before .before .before .before .before .before .before .before .before .before .before .before .before .before .list-of .result .now) (list-at (c .before .before .before .before .before .before .before .before .before .before .before .before .before .before .before .before)) (w .result) (z .0) (z .1 .0 ∷ z .1 .1 .0 ∷ z .1 .1 .1 .0 ∷ []) (w .ensures) (sym (c .before .is-stopped .ensures) ∙ c .if1 .taken) (a .at + 192 * 2 ^ (a .t2 .at .log)) (rewritten (a .t2) (0 ∷ 0 ∷ 0 ∷ []) (a .rows .now) 3) in
     record {
       shown = t;
+      none = λ stops. refl;
       counted = λ long. counts-none (a .t2) (a .width) (a .symbols .now) (a .at + 192 * 2 ^ (a .t2 .at .log)) (w .result) (z .0) (z .1 .0 ∷ z .1 .1 .0 ∷ z .1 .1 .1 .0 ∷ []) (rewritten (a .t2) (0 ∷ 0 ∷ 0 ∷ []) (a .rows .now) 3) (wholeAt s left) t (sym (c .before .is-stopped .ensures) ∙ c .if1 .taken);
     }
 
@@ -185,6 +187,7 @@ returns-2 c =
     let t = turns-end (a .t2) (a .width) (a .clusters) (a .map .now) (a .store .now) (a .symbols .now) (a .at) (a .shift) (wholeAt s left) (l .n) (l .at) (l .counts) (a .rows .now) (l .log) (l .g0 ∷ l .g1 ∷ l .g2 ∷ []) (l .inv .6 left) (omega (arith, l .inv .4)) in
     record {
       shown = t;
+      none = λ stops. absurd (true≢false (sym stops));
       counted = λ long. counts-read (a .t2) (a .width) (a .symbols .now) (a .at + 192 * 2 ^ (a .t2 .at .log)) (Ended (l .at)) (l .log) (l .g0 ∷ l .g1 ∷ l .g2 ∷ []) (l .counts) (a .rows .now) (s .pre .1 .column) (s .pre .1 .some) long (wholeAt s left) (l .inv .5) t refl;
     }
 
