@@ -9,17 +9,15 @@ ghost use lib.Seq.{paste};
 ghost use Rattle.block_sizes.specs.BlockSizes.{widthOf, heightOf};
 ghost use Rattle.hf_pass_naturals.specs.Naturals.{wholeStore, naturalStore, threeOf};
 
-// The first n numbers, written again from n on and from 2n on, in one go: each is read once.
-fn copy_twice(list: &mut [u16], n: usize)
-    requires { ⌜ 3 * n ≤ length (now list) ⌝ }
-    ensures { λ r. ⌜ now (list .exit) ≡ paste (paste (now (list .entry)) n (now (list .entry)) n) (2 * n) (now (list .entry)) n ⌝ }
+// The first n numbers, written again from `to` on.
+fn copy_to(list: &mut [u16], to: usize, n: usize)
+    requires { ⌜ (n ≤ to) × (to + n ≤ length (now list)) ⌝ }
+    ensures { λ r. ⌜ now (list .exit) ≡ paste (now (list .entry)) to (now (list .entry)) n ⌝ }
 {
-    let twice = 2 * n;
     let mut j = 0;
     while j < n {
         let v = list[j];
-        list[n + j] = v;
-        list[twice + j] = v;
+        list[to + j] = v;
         j += 1;
     }
 }
@@ -30,7 +28,9 @@ fn fill_order(lists: &mut [u16], order: usize, n: usize)
     ensures { λ r. ⌜ now (lists .exit) ≡ threeOf order ⌝ }
 {
     fill_natural_order(&mut lists[0..n], order);
-    copy_twice(&mut lists[..], n);
+    copy_to(&mut lists[..], n, n);
+    let twice = 2 * n;
+    copy_to(&mut lists[..], twice, n);
 }
 
 // The natural order of each size, for all three channels; false, and nothing written, if the store has another length.

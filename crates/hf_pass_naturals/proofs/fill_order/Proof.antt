@@ -1,11 +1,12 @@
 use Rattle.hf_pass_naturals.specs.Naturals.{three-times}
 use borrow.Rule.Slice.PartMut.{putMid}
-use lib.Seq.{paste}
 use mathlib.Core.Path.{refl}
-use Prim.Native.Nat.{_-_}
 use borrow.Author.Needs.{needs}
+use Prim.Native.Nat.{_-_}
 use Rattle.hf_pass_naturals.proofs.fill_order.Statement.{statement}
 use Rattle.hf_pass_naturals.proofs.fill_order.Tie as tie
+use Rattle.hf_pass_naturals.proofs.copy_to.Reads as copy-to-reads
+use Rattle.natural_order.proofs.fill_natural_order.Reads as fill-natural-order-reads
 
 sub-fill-natural-order : tie.Need-sub-fill-natural-order
 sub-fill-natural-order c = search needs
@@ -19,20 +20,27 @@ part-fill-natural-order-end c = search needs
 fill-natural-order-requires : tie.Need-fill-natural-order-requires
 fill-natural-order-requires c κs = search needs
 
-copy-twice-requires : tie.Need-copy-twice-requires
-copy-twice-requires c κs = search needs
+copy-to-requires : tie.Need-copy-to-requires
+copy-to-requires c κs = search needs
+
+mul-twice : tie.Need-mul-twice
+mul-twice c = search needs
+
+copy-to-requires-2 : tie.Need-copy-to-requires-2
+copy-to-requires-2 c κs = search needs
 
 same-length : tie.Need-same-length
 same-length c = search needs
 
 returns : tie.Need-returns
 returns c =
-    let a = c .before .before .before .before .before .before .before .before .before .args in
-    let p = c .before .before .before .before .before .before .before .before .before .pre in
-    let f = c .before .before .before .before .before .before .fill-natural-order in
-    let t = c .before .before .copy-twice in
+    let a = c .before .before .before .before .before .before .before .before .before .before .before .before .before .args in
+    let p = c .before .before .before .before .before .before .before .before .before .before .before .before .before .pre in
+    let f = c .before .before .before .before .before .before .before .before .before .before .fill-natural-order in
+    let s = c .before .before .before .before .before .before .copy-to in
+    let t = c .before .before .copy-to2 in
     let one = putMid 0 (a .n - 0) (a .lists .now) (f .last .0) in
-    three-times (a .order) (a .n) (p .0) (p .1) (a .lists .now) one (paste one (a .n) one (a .n)) (t .last .0) (p .2) (f .last .0) (f .ensures .1) refl refl (t .ensures)
+    three-times (a .order) (a .n) (p .0) (p .1) (a .lists .now) one (s .last .0) (t .last .0) (p .2) (f .last .0) (f .ensures .1) refl (s .ensures) (t .ensures)
 
 pub fill-order-spec : {M : Type 1} → statement M
 fill-order-spec =
@@ -42,6 +50,8 @@ fill-order-spec =
     part-fill-natural-order-start
     part-fill-natural-order-end
     fill-natural-order-requires
-    copy-twice-requires
+    copy-to-requires
+    mul-twice
+    copy-to-requires-2
     same-length
     returns)
