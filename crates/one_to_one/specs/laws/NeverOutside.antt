@@ -99,7 +99,7 @@ module _ (P : Pass) (lay : LaidOut P) (contexts : fit (P .contexts) ≡ true) (w
       some = wide-sized (v .type) (known P lay v i) .0;
       right = right P lay v i;
       blocks = some-blocks P lay whole v (known P lay v i);
-      context = context-lt (P .contexts) n (orderOf (v .type)) (v .mul) (P .lfThere) _ _ _ contexts hn (order-lt (v .type) (known P lay v i));
+      context = context-lt (P .contexts) n (orderOf (v .type)) (v .hfMul) (P .lfThere) _ _ _ contexts hn (order-lt (v .type) (known P lay v i));
       size = places-many P lay whole v (known P lay v i) c hc;
       places = cell-inside;
     }
@@ -131,7 +131,7 @@ size-used R e =
 
 place-inside : (P : Pass) → fit (P .contexts) ≡ true → (v : Varblock) → orderOf (v .type) < 13 → (n : ℕ) → n < 3 → contextPlace P v n < 2496
 place-inside P e v o n h =
-    let a = block-index-lt (used (P .contexts)) n (orderOf (v .type)) (v .mul) (P .lfThere) (at (P .lf0) (P .width) (v .x) (v .y)) (at (P .lf1) (P .width) (v .x) (v .y)) (at (P .lf2) (P .width) (v .x) (v .y)) h o in
+    let a = block-index-lt (used (P .contexts)) n (orderOf (v .type)) (v .hfMul) (P .lfThere) (at (P .lf0) (P .width) (v .x) (v .y)) (at (P .lf1) (P .width) (v .x) (v .y)) (at (P .lf2) (P .width) (v .x) (v .y)) h o in
     omega (arith, size-used (P .contexts) e)
 
 -- From items to the group.

@@ -17,7 +17,7 @@ use Rattle.layout.specs.Varblocks.{Varblock, cornersRow, cornersFrom}
 use Rattle.layout.specs.Grid.{rowOf, gridFrom, fillFrom}
 use Rattle.layout.specs.Cut.{cut, groupX, groupY}
 use Rattle.layout.specs.Check.{clear, fitting, visitCell, checkRun}
-use Rattle.lf_group.specs.Blocks.{wideIn, highIn}
+use Rattle.lf_group.specs.Blocks.{bwIn, bhIn}
 use Rattle.filter_strength.specs.declared.Filter.the-variants.{Off}
 use Rattle.filter_strength.specs.Strength.{zero32, scaledBy, dividedBy}
 use Rattle.filter_strength.specs.Limits.{inLimits}
@@ -50,7 +50,7 @@ abbrev pub columns : Inputs
 columns = inputs 8 8 (0 ∷ 0 ∷ 0 ∷ []) (0 ∷ []) (0 ∷ []) (0 ∷ []) Off (replicate 8 zero32) 1
 
 layout-accepted : layoutOf columns (0 ∷ []) (0 ∷ []) (0 ∷ []) ≡ record { answer = accepted 1; kinds = 2 ∷ []; hfMul = 1 ∷ []; sigma = 0 ∷ [] }
-unfolding layoutOf wideIn highIn inLimits le lt eq reading column judge place scan takeCell rows cells wide high TRANSFORMS scaledBy dividedBy
+unfolding layoutOf bwIn bhIn inLimits le lt eq reading column judge place scan takeCell rows cells wide high TRANSFORMS scaledBy dividedBy
 layout-accepted = refl
 
 lengths-fit : lengthsFit one ≡ true
@@ -70,11 +70,11 @@ zero-cells (suc (suc (suc c))) p = omega arith
 
 -- the cut call writes the one group there is
 cut-checked : cutCheck (bwOf columns) (bhOf columns) (2 ∷ []) (1 ∷ []) 0 1 1 ≡ gives tt
-unfolding cutCheck inLimits32 lengthsFit2 wideIn highIn groupX groupY checkRun rows cells visitCell fitting clear wide high TRANSFORMS fillFrom
+unfolding cutCheck inLimits32 lengthsFit2 bwIn bhIn groupX groupY checkRun rows cells visitCell fitting clear wide high TRANSFORMS fillFrom
 cut-checked = refl
 
 cut-accepted : cutOf (bwOf columns) (bhOf columns) (2 ∷ []) (1 ∷ []) 0 (0 ∷ []) (0 ∷ []) ≡ outcome (gives (group 1 1)) (2 ∷ []) (1 ∷ [])
-unfolding wideIn highIn groupX groupY cut gridFrom rowOf
+unfolding bwIn bhIn groupX groupY cut gridFrom rowOf
 cut-accepted = cut-done (bwOf columns) (bhOf columns) (2 ∷ []) (1 ∷ []) 0 (0 ∷ []) (0 ∷ []) cut-checked
 
 pub no-bits : readPreset one ≡ Value 0 0
