@@ -8,8 +8,9 @@ use Rattle.refusal.specs.declared.Said.{Said}
 use Rattle.refusal.specs.Said.{at}
 use Rattle.filter_strength.specs.declared.Filter.{Filter}
 use Rattle.filter_strength.specs.declared.Filter.the-variants.{Off, On}
-use Rattle.column_count.specs.Count.{Counted, count, refused}
-use Rattle.hf_metadata.specs.Call.{Answer, accepted, refused as refusedWith, Outcome}
+use Rattle.refusal.specs.Answer.{Answer, answeredBy}
+use Rattle.column_count.specs.Count.{Counted}
+use Rattle.hf_metadata.specs.Call.{Outcome}
 
 -- with the filter off the multiplier is not looked at
 abbrev pub filterOf : Bool → Float → Filter
@@ -26,9 +27,8 @@ abbrev pub withCount : Said → ℕ → ℕ → CountHanded
 withCount s c b = record { said = s; count = c; bits = b }
 
 -- the count and the bits read; or the refusal, and nothing else: both keep what they held
-abbrev pub handedCount : Counted → ℕ → ℕ → CountHanded
-handedCount (count c b) keptCount keptBits = withCount (at 0 0 0) c b
-handedCount (refused s) keptCount keptBits = withCount s keptCount keptBits
+abbrev pub handedCount : Answer Counted → ℕ → ℕ → CountHanded
+handedCount a keptCount keptBits = answeredBy a (λ (s : Said). withCount s keptCount keptBits) (λ (c : Counted). withCount (at 0 0 0) (c .columns) (c .bits))
 
 -- number and position, and what the number of columns used holds then
 pub record UsedHanded : Type 0 where
@@ -39,9 +39,8 @@ abbrev pub withUsed : Said → ℕ → UsedHanded
 withUsed s u = record { said = s; used = u }
 
 -- the columns used; or the refusal, and nothing else: the number keeps what it held
-abbrev pub handedUsed : Answer → ℕ → UsedHanded
-handedUsed (accepted u) kept = withUsed (at 0 0 0) u
-handedUsed (refusedWith s) kept = withUsed s kept
+abbrev pub handedUsed : Answer ℕ → ℕ → UsedHanded
+handedUsed a kept = answeredBy a (λ (s : Said). withUsed s kept) (λ (u : ℕ). withUsed (at 0 0 0) u)
 
 -- what is handed out, where the number of columns used held kept before, and what the three lists hold then, against the call's outcome
 pub record LayoutLeaves (handed : UsedHanded) (kinds hfMul sigma : List ℕ) (kept : ℕ) (o : Outcome) : Type 0 where

@@ -4,7 +4,9 @@ use Prim.Native.Nat.{ℕ}
 use Rattle.refusal.specs.declared.Said.{Said}
 use Rattle.refusal.specs.Said.{at}
 use Rattle.dct_select.specs.Transforms.{wide, high, orderOf, turns}
-use Rattle.dct_select.specs.LookUp.{Answer, finds, refuses, numberOf}
+use Rattle.refusal.specs.Answer.{Answer, answeredBy}
+use Rattle.dct_select.specs.declared.TransformType.{TransformType}
+use Rattle.dct_select.specs.LookUp.{numberOf}
 
 -- the results: size in blocks, order number and turn
 pub record Results : Type 0 where
@@ -25,6 +27,7 @@ abbrev pub with : Said → Results → Handed
 with s r = record { said = s; results = r }
 
 -- the transform's size, order number and turn; or the refusal, and nothing else: the results keep what they held
-abbrev pub handed : Answer → Results → Handed
-handed (finds t) kept = with (at 0 0 0) (results (wide (numberOf t)) (high (numberOf t)) (orderOf (numberOf t)) (turns (numberOf t)))
-handed (refuses s) kept = with s kept
+abbrev pub handed : Answer TransformType → Results → Handed
+handed a kept =
+    answeredBy a (λ (s : Said). with s kept)
+    (λ (t : TransformType). with (at 0 0 0) (results (wide (numberOf t)) (high (numberOf t)) (orderOf (numberOf t)) (turns (numberOf t))))

@@ -7,6 +7,7 @@ use native.Mathlib.Nat.{mul-le-mul, mod-lt}
 use native.Mathlib.Omega.{arith}
 use lib.Pow.{pow-mono, pow-pos}
 use Rattle.refusal.specs.Said.{at}
+use Rattle.refusal.specs.Answer.{refuses}
 use Rattle.bits.specs.declared.Got.{Got}
 use Rattle.bits.specs.declared.Got.the-variants as got
 use Rattle.bit_place.specs.declared.Place.{Place}
@@ -20,14 +21,14 @@ use Rattle.bits.specs.laws.Laws.{read-whole, was-value, was-end, value-at, ende
 use Rattle.coded_numbers.specs.laws.Exponent.{exponent-least}
 use Rattle.lf_group.specs.Blocks.{sizeFits, modesFit, bwIn, bhIn}
 use Rattle.lf_group.specs.laws.Bounds.{bw-most, bh-most}
-use Rattle.column_count.specs.Count.{count, refused, plusOne, fieldBits, countOf}
+use Rattle.column_count.specs.Count.{count, plusOne, fieldBits, countOf}
 
 module _ (width height : ℕ) (modes bytes : List ℕ) where
-  pub count-size : sizeFits width height ≡ false → refused (at 2 0 0) ≡ countOf width height modes bytes
+  pub count-size : sizeFits width height ≡ false → refuses (at 2 0 0) ≡ countOf width height modes bytes
   unfolding countOf
   count-size a = rw a
 
-  pub count-modes : sizeFits width height ≡ true → modesFit modes ≡ false → refused (at 11 0 0) ≡ countOf width height modes bytes
+  pub count-modes : sizeFits width height ≡ true → modesFit modes ≡ false → refuses (at 11 0 0) ≡ countOf width height modes bytes
   unfolding countOf
   count-modes a b = rw (a, b)
 
@@ -66,8 +67,8 @@ module _ (width height : ℕ) (modes bytes : List ℕ) where
           let m : number bytes / 2 ^ 0 % 2 ^ n < 2 ^ n = mod-lt (number bytes / 2 ^ 0) (pow-pos n) in
           omega arith
 
-      pub count-end : (k : ℕ) → g ≡ got.End k → refused (at 3 0 0) ≡ countOf width height modes bytes
+      pub count-end : (k : ℕ) → g ≡ got.End k → refuses (at 3 0 0) ≡ countOf width height modes bytes
       count-end k f =
           let w = was-end 0 (readBits bytes 0 n) k (sym whole ∙ f) in
           let l : 0 ≡ w .at = sym (ended-at bytes 0 n (w .at) (w .is)) in
-          ap (λ (i : ℕ). refused (at 3 i 0)) l ∙ sym (read ∙ ap plusOne (w .is))
+          ap (λ (i : ℕ). refuses (at 3 i 0)) l ∙ sym (read ∙ ap plusOne (w .is))

@@ -1,4 +1,5 @@
-use Rattle.layout_column.specs.laws.Judged.{known-is, unknown-is, sized, judged-unknown, judged-zero, judged-negative, judged-wide, judged-high, judged-asks}
+use Rattle.dct_select.specs.laws.LookUp.{known-is, unknown-is, sized}
+use Rattle.layout_column.specs.laws.Judged.{judged-unknown, judged-zero, judged-negative, judged-wide, judged-high, judged-asks}
 use Rattle.layout_column.specs.Columns.{lowEight, hfMulOf}
 use borrow.Author.Needs.{needs}
 use native.Mathlib.Omega.{arith}

@@ -1,5 +1,6 @@
 use Rattle.refusal.specs.Said.{said}
-use Rattle.dct_select.specs.LookUp.{finds, refuses, answered, lookUp}
+use Rattle.refusal.specs.Answer.{gives, refuses}
+use Rattle.dct_select.specs.LookUp.{answered, lookUp}
 use borrow.Author.Needs.{needs}
 use mathlib.Core.Path.{_≡_, _∙_, ap, sym}
 use Rattle.netbuff_transform.proofs.netbuff_transform.Statement.{statement}
@@ -29,7 +30,7 @@ numbers-requires c κs = search needs
 returns : tie.Need-returns
 returns c =
     let t = c .before .before .before .before .t .given in
-    let e : lookUp (c .before .before .before .before .before .before .before .args .number) ≡ finds (t .0 .0) =
+    let e : lookUp (c .before .before .before .before .before .before .before .args .number) ≡ gives (t .0 .0) =
     sym (c .before .before .before .before .before .before .from-number .ensures) ∙ ap answered (t .1) in
     rw (e, c .before .before .dct-select-size .ensures, c .before .order-id .ensures, c .need-transpose .ensures)
 

@@ -27,8 +27,9 @@ use Rattle.filter_strength.specs.declared.Filter.the-variants.{Off}
 use Rattle.filter_strength.specs.Strength.{zero32, scaledBy, dividedBy}
 use Rattle.filter_strength.specs.Limits.{inLimits}
 use Rattle.layout_reading.specs.Scan.{takeCell, scan}
-use Rattle.layout_reading.specs.Reading.{place, judge, column, reading}
-use Rattle.hf_metadata.specs.Call.{Inputs, inputs, layoutOf, accepted}
+use Rattle.layout_reading.specs.Reading.{place, column, reading}
+use Rattle.refusal.specs.Answer as answer
+use Rattle.hf_metadata.specs.Call.{Inputs, inputs, layoutOf}
 use Rattle.hf_pass_store.specs.Store.{PLACES, stored, stretch}
 use Rattle.hf_pass.specs.declared.OrdersAnswer.the-variants as orderAnswer
 use Rattle.hf_pass.specs.Reading.{Given as GivenLists, digits, oneList, orders}
@@ -45,7 +46,7 @@ use Rattle.block_check.specs.Calls.{gives}
 use Rattle.block_sides.specs.Limits.{inLimits as inLimits32, lengthsFit as lengthsFit2}
 use Rattle.block_record.specs.Calls.{group, outcome, cutCheck, cutOf}
 use Rattle.block_record.specs.laws.CutSteps.{cut-done}
-use Rattle.accepted_layout.specs.Theorems.{bwOf, bhOf}
+use Rattle.accepted_layout.specs.Outcome.{bwOf, bhOf}
 use Rattle.one_to_one.specs.Filling.{cell, isLow, wanted, Fixed, Filling, Fills, Given}
 use Rattle.one_to_one.specs.Symbols.{symbol, pack}
 use Rattle.one_to_one.specs.Sequence.{differing, coeffs, sequence, theSequence}
@@ -88,8 +89,8 @@ columns = inputs 16 16 (0 ∷ 0 ∷ 0 ∷ []) (6 ∷ 0 ∷ 0 ∷ []) (4 ∷ 0 �
 abbrev four : List ℕ
 four = replicate 4 0
 
-layout-accepted : layoutOf columns four four four ≡ record { answer = accepted 3; kinds = kinds; hfMul = muls; sigma = four }
-unfolding layoutOf bwIn bhIn inLimits le lt eq reading column judge place scan takeCell rows cells wide high TRANSFORMS scaledBy dividedBy
+layout-accepted : layoutOf columns four four four ≡ record { answer = answer.gives 3; kinds = kinds; hfMul = muls; sigma = four }
+unfolding layoutOf bwIn bhIn inLimits le lt eq reading column place scan takeCell rows cells wide high TRANSFORMS scaledBy dividedBy
 layout-accepted = refl
 
 cut-checked : cutCheck (bwOf columns) (bhOf columns) kinds muls 0 4 4 ≡ gives tt

@@ -22,8 +22,9 @@ use Rattle.filter_strength.specs.declared.Filter.the-variants.{Off}
 use Rattle.filter_strength.specs.Strength.{zero32, scaledBy, dividedBy}
 use Rattle.filter_strength.specs.Limits.{inLimits}
 use Rattle.layout_reading.specs.Scan.{takeCell, scan}
-use Rattle.layout_reading.specs.Reading.{place, judge, column, reading}
-use Rattle.hf_metadata.specs.Call.{Inputs, inputs, layoutOf, accepted}
+use Rattle.layout_reading.specs.Reading.{place, column, reading}
+use Rattle.refusal.specs.Answer as answer
+use Rattle.hf_metadata.specs.Call.{Inputs, inputs, layoutOf}
 use Rattle.hf_pass_store.specs.Store.{PLACES}
 use Rattle.hf_block_context.specs.Call.{stored as contextsOf}
 use Rattle.natural_order.specs.Places.{paired}
@@ -34,7 +35,7 @@ use Rattle.block_check.specs.Calls.{gives}
 use Rattle.block_sides.specs.Limits.{inLimits as inLimits32, lengthsFit as lengthsFit2}
 use Rattle.block_record.specs.Calls.{group, outcome, cutCheck, cutOf}
 use Rattle.block_record.specs.laws.CutSteps.{cut-done}
-use Rattle.accepted_layout.specs.Theorems.{bwOf, bhOf}
+use Rattle.accepted_layout.specs.Outcome.{bwOf, bhOf}
 use Rattle.one_to_one.specs.Filling.{cell, InV, Low, LowKept, Fixed, Filling, Fills, Given}
 use Rattle.one_to_one.specs.Symbols.{symbol, pack}
 use Rattle.one_to_one.specs.Sequence.{differing, coeffs, sequence, theSequence}
@@ -49,8 +50,8 @@ use Rattle.one_to_one.specs.Witness.{one, wanted, zeros}
 abbrev pub columns : Inputs
 columns = inputs 8 8 (0 ∷ 0 ∷ 0 ∷ []) (0 ∷ []) (0 ∷ []) (0 ∷ []) Off (replicate 8 zero32) 1
 
-layout-accepted : layoutOf columns (0 ∷ []) (0 ∷ []) (0 ∷ []) ≡ record { answer = accepted 1; kinds = 2 ∷ []; hfMul = 1 ∷ []; sigma = 0 ∷ [] }
-unfolding layoutOf bwIn bhIn inLimits le lt eq reading column judge place scan takeCell rows cells wide high TRANSFORMS scaledBy dividedBy
+layout-accepted : layoutOf columns (0 ∷ []) (0 ∷ []) (0 ∷ []) ≡ record { answer = answer.gives 1; kinds = 2 ∷ []; hfMul = 1 ∷ []; sigma = 0 ∷ [] }
+unfolding layoutOf bwIn bhIn inLimits le lt eq reading column place scan takeCell rows cells wide high TRANSFORMS scaledBy dividedBy
 layout-accepted = refl
 
 lengths-fit : lengthsFit one ≡ true

@@ -1,6 +1,6 @@
 use Rattle.layout_reading.specs.laws.Places.{stop-stays}
 use Rattle.layout_reading.specs.Reading.{jobWith}
-use Rattle.layout_reading.specs.laws.Reading.{stateOf, stepped}
+use Rattle.layout_reading.specs.laws.Outcome.{stateOf, stepped}
 use Rattle.layout.specs.laws.Loops.{rowsLeft, cellsLeft, loop-start, loop-enter, loop-next, loop-stop, loop-leave, loop-finish}
 use Rattle.layout_reading.specs.Reading.{Going, visit}
 use Rattle.layout_reading.specs.declared.column.Step.{Step}
@@ -60,7 +60,7 @@ returns c =
     let o = c .before .before .before .before .before .before .before .before .before .before .before .before .before .before .before .loop in
     let l = c .before .before .before .before .before .before .before .before .before .before .before .before .before .loop2 in
     let v = c .before .before .before .before .before .before .before .before .visit in
-    sym (loop-start (visit (jobWith (a .bw) (a .bh) (a .types .now) (a .muls .now) (a .sharpness .now) (a .filter) (a .lookups .now))) (a .bw) (a .bh) (Going (stateOf 0 (a .kinds .now) (a .hf-mul .now) (a .sigma .now))) ∙ o .inv .4 ∙ loop-enter (visit (jobWith (a .bw) (a .bh) (a .types .now) (a .muls .now) (a .sharpness .now) (a .filter) (a .lookups .now))) (a .bw) (a .bh) (o .y) (Going (stateOf (o .used) (o .kinds) (o .hf-mul) (o .sigma))) (omega arith) ∙ l .inv .4 ∙ loop-stop (visit (jobWith (a .bw) (a .bh) (a .types .now) (a .muls .now) (a .sharpness .now) (a .filter) (a .lookups .now))) (a .bw) (a .bh) (o .y) (l .x) (Going (stateOf (l .used) (l .kinds) (l .hf-mul) (l .sigma))) (stepped (v .result) (v .last .0) (v .last .1 .0) (v .last .1 .1 .0)) (stop-stays (jobWith (a .bw) (a .bh) (a .types .now) (a .muls .now) (a .sharpness .now) (a .filter) (a .lookups .now)) (v .result) _ (v .last .0) (v .last .1 .0) (v .last .1 .1 .0) (c .enum-told .given .1)) (omega arith) (v .ensures))
+    sym (loop-start (visit (jobWith (a .bw) (a .bh) (a .types .now) (a .muls .now) (a .sharpness .now) (a .filter) (a .lookups .now))) (a .bw) (a .bh) (Going (stateOf 0 (a .kinds .now) (a .hf-mul .now) (a .sigma .now))) ∙ o .inv .4 ∙ loop-enter (visit (jobWith (a .bw) (a .bh) (a .types .now) (a .muls .now) (a .sharpness .now) (a .filter) (a .lookups .now))) (a .bw) (a .bh) (o .y) (Going (stateOf (o .used) (o .kinds) (o .hf-mul) (o .sigma))) (omega arith) ∙ l .inv .4 ∙ loop-stop (visit (jobWith (a .bw) (a .bh) (a .types .now) (a .muls .now) (a .sharpness .now) (a .filter) (a .lookups .now))) (a .bw) (a .bh) (o .y) (l .x) (Going (stateOf (l .used) (l .kinds) (l .hf-mul) (l .sigma))) (stepped (v .result) (v .last .0) (v .last .1 .0) (v .last .1 .1 .0)) (stop-stays (jobWith (a .bw) (a .bh) (a .types .now) (a .muls .now) (a .sharpness .now) (a .filter) (a .lookups .now)) (v .result) _ _ (v .last .0) (v .last .1 .0) (v .last .1 .1 .0) (c .enum-told .given .1)) (omega arith) (v .ensures))
 
 add-x : tie.Need-add-x Inv-loop2 μ-loop2 Inv-loop μ-loop
 add-x c = search needs

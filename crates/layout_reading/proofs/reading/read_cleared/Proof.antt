@@ -75,7 +75,7 @@ returns-2 c =
     let fk = c .before .before .before .before .before .before .before .before .before .before .before .before .before .before .before .before .before .before .before .before .kinds2 .given ∙ c .before .before .before .before .before .before .before .before .before .before .before .before .before .before .before .before .before .before .before .before .before .before .before .before .before .before .before .before .before .before .before .before .before .before .kinds .given ∙ ek in
     let fm = c .before .before .before .before .before .before .before .before .before .before .before .before .before .before .before .before .before .before .hf-mul2 .given ∙ c .before .before .before .before .before .before .before .before .before .before .before .before .before .before .before .before .before .before .before .before .before .before .before .before .before .before .before .before .before .before .hf-mul .given ∙ em in
     let fs = c .before .before .before .before .before .before .before .before .before .before .before .before .before .before .before .before .sigma2 .given ∙ c .before .before .before .before .before .before .before .before .before .before .before .before .before .before .before .before .before .before .before .before .before .before .before .before .before .before .sigma .given ∙ es in
-    read-refuses (jobWith (a .bw) (a .bh) (a .types .now) (a .muls .now) (a .sharpness .now) (a .filter) (a .lookups .now)) (v .result) _ _ (v .last .0) (v .last .1 .0) _ (v .last .1 .1 .0) (c .before .before .before .before .before .before .before .before .before .before .before .before .before .before .before .before .before .before .before .before .before .before .before .before .before .before .before .before .before .before .before .before .before .before .before .clear-u8 .ensures ∙ ap (λ (n : ℕ). replicate {A = ℕ} n 0) (ek)) (c .before .before .before .before .before .before .before .before .before .before .before .before .before .before .before .before .before .before .before .before .before .before .before .before .before .before .before .before .before .before .before .clear-u32 .ensures ∙ ap (λ (n : ℕ). replicate {A = ℕ} n 0) (em)) (c .before .before .before .before .before .before .before .before .before .before .before .before .before .before .before .before .before .before .before .before .before .before .before .before .before .before .before .clear-u322 .ensures ∙ ap (λ (n : ℕ). replicate {A = ℕ} n 0) (es)) (v .ensures) _ _ _ _ (c .before .before .before .before .before .before .before .before .before .before .before .before .before .step .given .1) (c .before .before .before .before .before .before .before .before .before .before .clear-u82 .ensures ∙ ap (λ (n : ℕ). replicate {A = ℕ} n 0) (fk)) (c .before .before .before .before .before .before .clear-u323 .ensures ∙ ap (λ (n : ℕ). replicate {A = ℕ} n 0) (fm)) (c .before .before .clear-u324 .ensures ∙ ap (λ (n : ℕ). replicate {A = ℕ} n 0) (fs))
+    read-refuses (jobWith (a .bw) (a .bh) (a .types .now) (a .muls .now) (a .sharpness .now) (a .filter) (a .lookups .now)) (v .result) _ _ (v .last .0) (v .last .1 .0) _ (v .last .1 .1 .0) (c .before .before .before .before .before .before .before .before .before .before .before .before .before .before .before .before .before .before .before .before .before .before .before .before .before .before .before .before .before .before .before .before .before .before .before .clear-u8 .ensures ∙ ap (λ (n : ℕ). replicate {A = ℕ} n 0) (ek)) (c .before .before .before .before .before .before .before .before .before .before .before .before .before .before .before .before .before .before .before .before .before .before .before .before .before .before .before .before .before .before .before .clear-u32 .ensures ∙ ap (λ (n : ℕ). replicate {A = ℕ} n 0) (em)) (c .before .before .before .before .before .before .before .before .before .before .before .before .before .before .before .before .before .before .before .before .before .before .before .before .before .before .before .clear-u322 .ensures ∙ ap (λ (n : ℕ). replicate {A = ℕ} n 0) (es)) (v .ensures) _ _ _ _ _ (c .before .before .before .before .before .before .before .before .before .before .before .before .before .step .given .1) (c .before .before .before .before .before .before .before .before .before .before .clear-u82 .ensures ∙ ap (λ (n : ℕ). replicate {A = ℕ} n 0) (fk)) (c .before .before .before .before .before .before .clear-u323 .ensures ∙ ap (λ (n : ℕ). replicate {A = ℕ} n 0) (fm)) (c .before .before .clear-u324 .ensures ∙ ap (λ (n : ℕ). replicate {A = ℕ} n 0) (fs))
 
 pub read-cleared-spec : {M : Type 1} → statement M
 read-cleared-spec =
