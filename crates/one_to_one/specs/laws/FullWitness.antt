@@ -47,7 +47,7 @@ use Rattle.block_record.specs.Calls.{group, outcome, cutCheck, cutOf}
 use Rattle.block_record.specs.laws.CutSteps.{cut-done}
 use Rattle.accepted_layout.specs.Theorems.{bwOf, bhOf}
 use Rattle.one_to_one.specs.Filling.{cell, isLow, wanted, Fixed, Filling, Fills, Given}
-use Rattle.one_to_one.specs.Symbols.{symbol, pack}
+use Rattle.coded_numbers.specs.Signed.{symbol, pack}
 use Rattle.one_to_one.specs.Sequence.{differing, coeffs, sequence, theSequence}
 use Rattle.one_to_one.specs.laws.Demand3.{one-sequence}
 use Rattle.one_to_one.specs.laws.Wanted.{wanted-filling}
