@@ -1,5 +1,5 @@
 // C interface: reads of the bit reader, one at a time.
-use bit_place::Place;
+use bits::Place;
 use bits::Got;
 use bits::U32Specifier;
 use refusal::Refusal;
