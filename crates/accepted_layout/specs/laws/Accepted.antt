@@ -241,7 +241,7 @@ module _ (J : Job) where
 
   -- what holds before anything is placed, and is kept by each column placed, holds of what was read
   module _ (Q : Placed → Type 0) (begin : Q (start J))
-      (keep : (x y : ℕ) (p p′ : Placed) → x < J .bw → y < J .bh → p .used < length (J .types) → Sofar x y p
+      (keep : (x y : ℕ) (p p′ : Placed) → x < J .bw → y < J .bh → p .used < length (J .types) → Sofar J x y p
       → Column J x y p p′ (lowEight (getD (J .types) (p .used) 0)) (hfMulOf (getD (J .muls) (p .used) 0)) → Q p → Q p′) where
     Along : ℕ → ℕ → Reading → Type 0
     Along x y (Going p) = Sofar J x y p × Q p

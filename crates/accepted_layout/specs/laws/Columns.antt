@@ -249,7 +249,7 @@ module _ (J : Job) (n : ℕ) (types muls : List ℕ) (long : n ≤ length types)
   reads-same p e l = (rw e at (beside (visit J) (visit other) (J .bw) (J .bh) Beside step turn (Going (start J)) (Going (start J)) (begun J, λ l. refl))) .1 l
 
 module _ (i : Inputs) (kinds hfMul sigma : List ℕ) where
-  module _ (n : ℕ) (e : outcome .answer ≡ accepted n) where
+  module _ (n : ℕ) (e : outcome i kinds hfMul sigma .answer ≡ accepted n) where
     read : Read i kinds hfMul sigma n
     read = accepted-read i kinds hfMul sigma n e
 

@@ -310,7 +310,7 @@ scaled-on Off scale m e = absurd (let z : _≡_ {A = ℕ} 0 1 = cc in omega arit
 scaled-on (On a) scale m e = refl
 
 module _ (i : Inputs) (kinds hfMul sigma : List ℕ) where
-  module _ (n : ℕ) (e : outcome .answer ≡ accepted n) where
+  module _ (n : ℕ) (e : outcome i kinds hfMul sigma .answer ≡ accepted n) where
     read : Read i kinds hfMul sigma n
     read = accepted-read i kinds hfMul sigma n e
 

@@ -81,7 +81,7 @@ module _ (i : Inputs) (kinds hfMul sigma : List ℕ) where
   pub accepted-read : (n : ℕ) → outcome i kinds hfMul sigma .answer ≡ accepted n → Read n
   accepted-read n e = by-tests n (sizeFits (i .width) (i .height)) (parametersFit i) (lengthsFit i kinds hfMul sigma) refl refl refl e
 
-  module _ (n : ℕ) (e : outcome .answer ≡ accepted n) where
+  module _ (n : ℕ) (e : outcome i kinds hfMul sigma .answer ≡ accepted n) where
     -- what an accepted call wrote is a layout
     pub accepted-layout : Layout (bwOf i) (bhOf i) (outcome i kinds hfMul sigma .kinds) (outcome i kinds hfMul sigma .hfMul)
     accepted-layout =

@@ -54,6 +54,7 @@ row10 map symbols log g0 g1 g2 r = (reads-two-bits map symbols log g0 g1 g2 r, r
 row11 : M11
 row11 = six-symbols
 
+infixr 5 _and_
 abbrev _and_ : {A B : Type 0} → A → B → A × B
 a and b = (a, b)
 
