@@ -17,7 +17,7 @@ use Rattle.bytes_below.specs.Below.{bytesBelow}
 use Rattle.block_context.specs.laws.Bounds.{fit-last}
 use Rattle.thresholds.specs.Thresholds.{Lists, listsOf, lfValue, qfValue, readList, readLists, pad}
 use Rattle.thresholds.specs.laws.Lists.{lf-near, qf-near, list-near}
-use Rattle.hf_block_context.specs.Call.{Outcome, lengthsOf, stored, noLists, DEFAULT-MAP, accepted, refused, judged, judgedLists, orEnded, byFirst, parsed}
+use Rattle.hf_block_context.specs.Call.{Outcome, lengthsOf, contextsOf, noLists, DEFAULT-MAP, accepted, refused, judged, judgedLists, orEnded, byFirst, parsed}
 use Rattle.hf_block_context.specs.laws.CallLaws.{judged-passed}
 
 -- four lists that keep to the limits of a record
@@ -55,8 +55,8 @@ true-of : (b : Bool) → T b → b ≡ true
 true-of true t = refl
 
 stored-fit : (count : ℕ) (map : List ℕ) (l : Lists) → Kept l → bsizeOf (lengthsOf l) ≤ 64 → length map ≡ 39 * bsizeOf (lengthsOf l)
-    → 1 ≤ count → count ≤ 16 → bytesBelow count map ≡ true → fit (stored count l map) ≡ true
-unfolding stored
+    → 1 ≤ count → count ≤ 16 → bytesBelow count map ≡ true → fit (contextsOf count l map) ≡ true
+unfolding contextsOf
 stored-fit count map l k size e some few below =
     let used : take (length (l .qf)) (pad 15 (l .qf)) ≡ l .qf = take-append-seam (l .qf) (replicate (15 - length (l .qf)) 0) in
     let bytes : take (39 * bsizeOf (lengthsOf l)) (pad 2496 map) ≡ map =
@@ -67,8 +67,8 @@ stored-fit count map l k size e some few below =
     ∙ ap (bytesBelow count) bytes
     ∙ below
 
-default-fit : fit (stored 15 noLists DEFAULT-MAP) ≡ true
-unfolding stored fitOf bsizeOf
+default-fit : fit (contextsOf 15 noLists DEFAULT-MAP) ≡ true
+unfolding contextsOf fitOf bsizeOf
 default-fit = refl
 
 -- what is accepted is fit
@@ -76,13 +76,13 @@ abbrev pub Fits : Outcome → Type 0
 Fits o = (t : ℕ) → o .answer ≡ gives t → fit (o .contexts) ≡ true
 
 ended-fit : {A : Type 0} (r : Read A) (k : A → ℕ → Outcome) → ((l : A) (at : ℕ) → r ≡ Value l at → Fits (k l at)) → Fits (orEnded r k)
-ended-fit (Value l at) k f = f l at refl
+ended-fit (Value l at) k f t e = f l at refl t e
 ended-fit (Ended at) k f t e = absurd (let z : _≡_ {A = ℕ} 0 1 = cc in omega arith)
 
 judged-fit : (count : ℕ) (map : List ℕ) (l : Lists) (at : ℕ) → Kept l → Fits (judgedLists count map l at)
 judged-fit count map l at k = go (judged count map (lengthsOf l)) refl
   where
-    go : (a : Answer Unit) → judged count map (lengthsOf l) ≡ a → Fits (answeredBy a refused (λ (u : Unit). accepted at (stored count l map)))
+    go : (a : Answer Unit) → judged count map (lengthsOf l) ≡ a → Fits (answeredBy a refused (λ (u : Unit). accepted at (contextsOf count l map)))
     go (refuses s) j t e = absurd (let z : _≡_ {A = ℕ} 0 1 = cc in omega arith)
     go (gives u) j t e = let p = judged-passed count map (lengthsOf l) u j in stored-fit count map l k (p .0) (p .1) (p .2) (p .3) (p .4)
 
@@ -91,6 +91,6 @@ pub accepted-fit : (s : List ℕ) → Bytes s → (count : ℕ) (map : List ℕ)
 unfolding parsed
 accepted-fit s h count map = ended-fit (readBits s 0 1) (byFirst s count map) (λ first at i. go (eqb first 1) at)
   where
-    go : (b : Bool) (at : ℕ) → Fits (cond b (accepted at (stored 15 noLists DEFAULT-MAP)) (orEnded (readLists s at) (judgedLists count map)))
+    go : (b : Bool) (at : ℕ) → Fits (cond b (accepted at (contextsOf 15 noLists DEFAULT-MAP)) (orEnded (readLists s at) (judgedLists count map)))
     go true at t e = default-fit
-    go false at = ended-fit (readLists s at) (judgedLists count map) (λ l q i. judged-fit count map l q (lists-near s h at .value l q i .0))
+    go false at t e = ended-fit (readLists s at) (judgedLists count map) (λ l q i. judged-fit count map l q (lists-near s h at .value l q i .0)) t e

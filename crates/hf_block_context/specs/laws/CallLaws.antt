@@ -16,7 +16,6 @@ use Rattle.bits.specs.Bits.{Bytes, Read, Value, Ended, then, readBits}
 use Rattle.bits.specs.Reads.{placeAt, bitsBefore}
 use Rattle.bits.specs.laws.Laws.{before-at}
 use Rattle.bits.specs.laws.Near.{Near}
-use Rattle.block_context.specs.declared.HfBlockContext.{HfBlockContext}
 use Rattle.block_context.specs.Record.{bsizeOf}
 use Rattle.bytes_below.specs.Below.{bytesBelow}
 use Rattle.thresholds.specs.declared.ListStep.the-variants as listStep
@@ -24,7 +23,7 @@ use Rattle.thresholds.specs.declared.Thresholds.{Thresholds}
 use Rattle.thresholds.specs.Thresholds.{listsOf, lfValue, qfValue, readList, readLists, pad}
 use Rattle.thresholds.specs.laws.Steps.{thresholdsOf}
 use Rattle.thresholds.specs.laws.Lists.{list-near}
-use Rattle.hf_block_context.specs.Call.{Outcome, recordOf, stored, accepted, refused, judged, judgedAs, judgedLists, orEnded, noLists, DEFAULT-MAP, parsed}
+use Rattle.hf_block_context.specs.Call.{Outcome, recordOf, contextsOf, accepted, refused, judged, judgedAs, judgedLists, orEnded, noLists, DEFAULT-MAP, parsed}
 
 -- The tests behind the bits.
 module _ (count : ℕ) (map lengths : List ℕ) where
@@ -155,7 +154,7 @@ module _ (count : ℕ) (map : List ℕ) where
   pub behind-lf : (a b c v0 v1 v2 lf : List ℕ) (n0 n1 n2 : ℕ) → length a ≡ n0 → length b ≡ n1 → length c ≡ n2
       → v0 ≡ pad 15 a → v1 ≡ pad 15 b → v2 ≡ pad 15 c → lf ≡ v0 ++ (v1 ++ v2)
       → (r : Read (List ℕ)) → orEnded r (judgedQf count map n0 n1 n2 lf) ≡ orEnded (then r (λ d at. Value (listsOf a b c d) at)) (judgedLists count map)
-  unfolding stored
+  unfolding contextsOf
   behind-lf a b c v0 v1 v2 lf n0 n1 n2 h0 h1 h2 e0 e1 e2 f (Value d at) = rw (← h0, ← h1, ← h2, f, e0, e1, e2)
   behind-lf a b c v0 v1 v2 lf n0 n1 n2 h0 h1 h2 e0 e1 e2 f (Ended at) = refl
 
@@ -172,7 +171,7 @@ module _ (s : List ℕ) (count : ℕ) (map : List ℕ) where
   parsed-ended at e = rw e
 
   module _ (v at : ℕ) (e : readBits s 0 1 ≡ Value v at) where
-    pub parsed-default : v ≡ 1 → accepted at (stored 15 noLists DEFAULT-MAP) ≡ parsed s count map
+    pub parsed-default : v ≡ 1 → accepted at (contextsOf 15 noLists DEFAULT-MAP) ≡ parsed s count map
     unfolding parsed
     parsed-default h = rw (e, eq-eqb v 1 h)
 

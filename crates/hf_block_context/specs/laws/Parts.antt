@@ -16,7 +16,7 @@ use Rattle.thresholds.specs.Thresholds.{readLists}
 use Rattle.hf_block_context.specs.declared.ContextAnswer.{ContextAnswer}
 use Rattle.hf_block_context.specs.declared.ContextAnswer.the-variants.{Accepted, Refused}
 use Rattle.hf_block_context.specs.declared.ContextParts.{ContextParts}
-use Rattle.hf_block_context.specs.Call.{Outcome, answered, stored, accepted, refused, judged, judgedLists, orEnded, byFirst, noLists, DEFAULT-MAP, parsed}
+use Rattle.hf_block_context.specs.Call.{Outcome, answered, contextsOf, accepted, refused, judged, judgedLists, orEnded, byFirst, noLists, DEFAULT-MAP, parsed}
 use Rattle.hf_block_context.specs.Parts.{keptBy, orKept, withLists}
 
 pub kept-same : (lf qf map : List ℕ) (o p : Outcome) → o ≡ p → orKept o lf qf map ≡ orKept p lf qf map
@@ -50,7 +50,7 @@ abbrev Plain : Outcome → Type 0
 Plain o = orKept o (replicate 45 0) (replicate 15 0) (replicate 2496 0) ≡ o
 
 plain-refused : (s : Said) → Plain (refused s)
-unfolding stored
+unfolding contextsOf
 plain-refused s = refl
 
 plain-ended : {A : Type 0} (r : Read A) (k : A → ℕ → Outcome) → ((l : A) (at : ℕ) → Plain (k l at)) → Plain (orEnded r k)
@@ -61,7 +61,7 @@ plain-judged : (a : Answer Unit) (at : ℕ) (c : HfBlockContext) → Plain (answ
 plain-judged (gives u) at c = refl
 plain-judged (refuses s) at c = plain-refused s
 
-plain-first : (b : Bool) (bytes : List ℕ) (count : ℕ) (map : List ℕ) (at : ℕ) → Plain (cond b (accepted at (stored 15 noLists DEFAULT-MAP)) (orEnded (readLists bytes at) (judgedLists count map)))
+plain-first : (b : Bool) (bytes : List ℕ) (count : ℕ) (map : List ℕ) (at : ℕ) → Plain (cond b (accepted at (contextsOf 15 noLists DEFAULT-MAP)) (orEnded (readLists bytes at) (judgedLists count map)))
 plain-first true bytes count map at = refl
 plain-first false bytes count map at = plain-ended (readLists bytes at) (judgedLists count map) (λ l p. plain-judged (judged count map _) p _)
 
