@@ -101,7 +101,7 @@ unfolding bwIn bhIn groupX groupY cut gridFrom rowOf
 cut-accepted = cut-done (bwOf columns) (bhOf columns) kinds muls 0 four four cut-checked
 
 lengths-fit : lengthsFit full ≡ true
-unfolding context.stored
+unfolding context.contextsOf
 lengths-fit = rw (eq-eqb (length store) (2 * PLACES) store-long)
 
 two-bits : readPreset full ≡ Value 2 2

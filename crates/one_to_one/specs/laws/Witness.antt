@@ -26,7 +26,7 @@ use Rattle.layout_reading.specs.Scan.{takeCell, scan}
 use Rattle.layout_reading.specs.Reading.{place, judge, column, reading}
 use Rattle.hf_metadata.specs.Call.{Inputs, inputs, layoutOf, accepted}
 use Rattle.hf_pass_store.specs.Store.{PLACES}
-use Rattle.hf_block_context.specs.Call.{stored as contextsOf}
+use Rattle.hf_block_context.specs.Call.{contextsOf}
 use Rattle.natural_order.specs.Places.{paired}
 use Rattle.hf_coeff_walk.specs.Places.{placesOf}
 use Rattle.hf_coeff_group.specs.Pass.{varblocks, itemOf, itemsOf}
