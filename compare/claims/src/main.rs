@@ -1,26 +1,32 @@
-//! Holds docs/CLAIMS.md against the repository (the folder above `compare/`): every line of its
-//! tables has four cells, every must-fail edit that it names exists and every edit that exists is
-//! named, every name in backquotes behind a crate's name is defined in that crate, and every
-//! compared call is one. And what the page says of all public functions: each has a contract, and
-//! asks nothing of its caller. And the reading list of docs/ARCHITECTURE.md: it has every definition
-//! that a promise rests on. Ends with 1 where one does not.
+//! Holds docs/CLAIMS.md against the repository (the folder that is named, or the one above
+//! `compare/`): every line of its tables has four cells, every must-fail edit that it names exists
+//! and every edit that exists is named, every name in backquotes behind a crate's name is defined in
+//! that crate, and every compared call is one. And what the page says of all public functions: each
+//! has a contract, and asks nothing of its caller. And what a reader believes, the definitions that
+//! the calls and the named theorems rest on: they stand apart from laws, and the reading list of
+//! docs/ARCHITECTURE.md has their crates. Ends with 1 where one does not.
 
 mod contracts;
 mod definitions;
+mod library;
 mod reading;
 mod repository;
 mod rows;
 mod specs;
 mod words;
 
-use std::path::Path;
+use std::collections::BTreeMap;
+use std::path::{Path, PathBuf};
 
+use reading::Why;
 use repository::Repository;
-use rows::{edits, names, Row};
+use rows::{calls, edits, names, Row};
 
 fn main() -> std::process::ExitCode {
-    let root = Path::new(env!("CARGO_MANIFEST_DIR")).join("../..");
-    let page = std::fs::read_to_string(root.join("docs/CLAIMS.md")).expect("docs/CLAIMS.md");
+    let named = std::env::args().nth(1).map(PathBuf::from);
+    let root = named.unwrap_or(Path::new(env!("CARGO_MANIFEST_DIR")).join("../.."));
+    let text = |file: &str| std::fs::read_to_string(root.join(file)).expect(file);
+    let (page, list) = (text("docs/CLAIMS.md"), text("docs/ARCHITECTURE.md"));
     let repository = Repository::read(&root);
     let (rows, others) = Row::read_all(&page);
     let mut problems = problems(&repository, &rows);
@@ -32,31 +38,67 @@ fn main() -> std::process::ExitCode {
     for fault in repository.faults() {
         println!("crates/{fault}");
     }
-    let unread = unread(&root, &repository, &rows);
+    let unread = unread(&repository, &page, &rows, &list);
     for fault in &unread {
-        println!("docs/ARCHITECTURE.md: {fault}");
+        println!("{fault}");
     }
     let wrong = problems.len() + repository.faults().len() + unread.len();
     println!("claims: {} rows, {wrong} wrong", rows.len());
     u8::from(wrong > 0).into()
 }
 
-/// What the reading list lacks.
-fn unread(root: &Path, repository: &Repository, rows: &[Row]) -> Vec<String> {
-    let page = std::fs::read_to_string(root.join("docs/ARCHITECTURE.md")).expect("ARCHITECTURE.md");
-    let (list, mut faults) = reading::read_list(&page);
-    let promises = rows
-        .iter()
-        .flat_map(|row| names(row.promise, |word| repository.has_crate(word)));
-    let promises: Vec<_> = promises.collect();
+/// What is wrong with what a reader believes; prints how much that is.
+fn unread(repository: &Repository, page: &str, rows: &[Row], list: &str) -> Vec<String> {
+    let is_crate = |word: &str| repository.has_crate(word);
+    let promises = rows.iter().flat_map(|row| names(row.promise, is_crate));
+    let (named, calls): (Vec<_>, _) = (promises.collect(), calls(page, is_crate));
+    let list = reading::read_list(list);
     let library = repository.library();
-    faults.extend(library.misses(&list));
-    faults.extend(library.lacks(&list, &promises));
-    let (definitions, lines) = library.size(&promises);
+    let (believed, faults) = library.believed(&calls, &named, |_| true);
+    let mut faults: Vec<_> = faults.into_iter().collect();
+    for call in calls.iter().filter(|call| !library.has_call(call)) {
+        faults.push(format!(
+            "docs/CLAIMS.md: no function {} of {}",
+            call.1, call.0
+        ));
+    }
+    let unlisted = reading::unlisted(&list, &believed).into_iter();
+    faults.extend(unlisted.map(|fault| format!("docs/ARCHITECTURE.md: {fault}")));
+
+    let misplaced = reading::misplaced(library, &believed);
+    let mut by_crate: BTreeMap<_, [usize; 3]> = BTreeMap::new();
+    for found in &misplaced {
+        by_crate.entry(found.in_crate()).or_default()[found.why as usize] += 1;
+    }
+    for (name, count) in by_crate {
+        println!(
+            "apart: {name}: {} laws and {} definitions that no promise rests on in specs/, {} believed in specs/laws/",
+            count[Why::Law as usize], count[Why::Unbelieved as usize], count[Why::Believed as usize]
+        );
+    }
+    for found in &misplaced {
+        println!("{found}");
+    }
+    // Until laws stand apart at all.
+    if library.files.keys().any(reading::of_laws) {
+        faults.push(format!("{} stand in the wrong file", misplaced.len()));
+    }
+
+    for (subject, crates) in &list {
+        let places = believed.keys();
+        let of_subject = places.filter(|place| crates.contains(&place.file.0.as_str()));
+        println!("to read, {subject}: {}", reading::size(library, of_subject));
+    }
+    let beside = |name: &str| {
+        let mut subjects = list.iter().filter(|(_, crates)| crates.contains(&name));
+        subjects.any(|(subject, _)| reading::BESIDE.contains(subject))
+    };
+    let (core, _) = library.believed(&calls, &named, |name| !beside(name));
     println!(
-        "reading list: {} files, {definitions} definitions, {lines} lines",
-        list.len()
+        "to read, calls and demand 3: {}",
+        reading::size(library, core.keys())
     );
+    println!("to read, all: {}", reading::size(library, believed.keys()));
     faults
 }
 

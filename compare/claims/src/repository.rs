@@ -2,7 +2,7 @@ use std::collections::{BTreeMap, BTreeSet};
 use std::fs;
 use std::path::Path;
 
-use crate::reading::Library;
+use crate::library::Library;
 use crate::{contracts, definitions};
 
 /// The crates of the repository, with what the page may name of them.
@@ -46,8 +46,9 @@ impl Repository {
             });
             each_file(&folder.join("specs"), &mut |path| {
                 let text = fs::read_to_string(path).expect("text");
-                let file = path.file_stem().expect("a name").to_string_lossy();
-                library.add_definitions(name, &file, &text);
+                let file = path.strip_prefix(folder.join("specs")).expect("below");
+                let file = file.with_extension("");
+                library.add_definitions(name, &file.to_string_lossy(), &text);
             });
         }
         Self {

@@ -43,6 +43,14 @@ fn cells(line: &str) -> Option<[&str; 4]> {
     cells.try_into().ok()
 }
 
+/// The calls that the page lists, crate and function: the lines of its part "The calls".
+pub fn calls(page: &str, opens: impl Fn(&str) -> bool) -> Vec<(&str, &str)> {
+    let part = page.lines().skip_while(|line| *line != "## The calls");
+    let part = part.skip(1).take_while(|line| !line.starts_with("## "));
+    let listed = part.filter(|line| line.starts_with("- "));
+    listed.flat_map(|line| names(line, &opens)).collect()
+}
+
 /// Edits with their crate, as `a, b (crate), c (other)`.
 pub fn edits(cell: &str) -> impl Iterator<Item = (&str, &str)> {
     let parts = cell.split(')').filter(|part| !part.trim().is_empty());
@@ -77,6 +85,13 @@ fn is_name(word: &str) -> bool {
 #[cfg(test)]
 mod tests {
     use super::*;
+
+    #[test]
+    fn calls_are_listed() {
+        let page = "a `b`\n## The calls\ntext `c`\n- d: e `f`, `g`; h `i`\n\n## More\n- e `j`\n";
+        let found = calls(page, |word| word == "e" || word == "h");
+        assert_eq!(found, [("e", "f"), ("e", "g"), ("h", "i")]);
+    }
 
     #[test]
     fn rows_are_read_and_heads_are_not() {
