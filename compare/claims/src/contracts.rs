@@ -73,7 +73,7 @@ pub fn faults(source: &str) -> Vec<String> {
 }
 
 /// The function whose heading begins here, and whether it is public.
-fn begins(line: &str) -> Option<(&str, bool)> {
+pub fn begins(line: &str) -> Option<(&str, bool)> {
     let public = line.strip_prefix("pub ");
     let rest = public.or(line.strip_prefix("pub(crate) ")).unwrap_or(line);
     let rest = rest.strip_prefix("extern \"C\" ").unwrap_or(rest);

@@ -1,13 +1,19 @@
 //! Holds docs/CLAIMS.md against the repository (the folder that is named, or the one above
-//! `compare/`): every line of its tables has four cells, every must-fail edit that it names exists
-//! and every edit that exists is named, every name in backquotes behind a crate's name is defined in
-//! that crate, and every compared call is one. And what the page says of all public functions: each
-//! has a contract, and asks nothing of its caller. And what a reader believes, the definitions that
-//! the calls and the named theorems rest on: they stand apart from laws, and the reading list of
-//! docs/ARCHITECTURE.md has their crates. Ends with 1 where one does not.
+//! `compare/`), and docs/ARCHITECTURE.md where it says what is to be read:
+//!
+//! - every line of a table has four cells, and each row a name of its own; every name in backquotes
+//!   behind a crate's name is defined in that crate; every compared call is one;
+//! - every must-fail edit cites rows that there are, and can be made; every row that promises
+//!   something is cited by one; every public function is tried by two;
+//! - every public function has a contract and asks nothing of its caller;
+//! - what a reader believes, the definitions that the calls and the named theorems rest on, stands
+//!   apart from laws, and the reading list has its crates.
+//!
+//! Ends with 1 where one does not hold.
 
 mod contracts;
 mod definitions;
+mod edits;
 mod library;
 mod reading;
 mod repository;
@@ -15,12 +21,12 @@ mod rows;
 mod specs;
 mod words;
 
-use std::collections::BTreeMap;
+use std::collections::{BTreeMap, BTreeSet};
 use std::path::{Path, PathBuf};
 
 use reading::Why;
 use repository::Repository;
-use rows::{calls, edits, names, Row};
+use rows::{calls, names, Row};
 
 fn main() -> std::process::ExitCode {
     let named = std::env::args().nth(1).map(PathBuf::from);
@@ -29,22 +35,17 @@ fn main() -> std::process::ExitCode {
     let (page, list) = (text("docs/CLAIMS.md"), text("docs/ARCHITECTURE.md"));
     let repository = Repository::read(&root);
     let (rows, others) = Row::read_all(&page);
-    let mut problems = problems(&repository, &rows);
+    let mut wrong = problems(&repository, &rows);
     let others = others.into_iter();
-    problems.extend(others.map(|line| format!("line {line} has not four cells")));
-    for problem in &problems {
-        println!("docs/CLAIMS.md: {problem}");
-    }
-    for fault in repository.faults() {
-        println!("crates/{fault}");
-    }
-    let unread = unread(&repository, &page, &rows, &list);
-    for fault in &unread {
+    wrong.extend(others.map(|line| format!("docs/CLAIMS.md: line {line} has not four cells")));
+    wrong.extend(untried(&repository, &rows));
+    wrong.extend(repository.faults());
+    wrong.extend(unread(&repository, &page, &rows, &list));
+    for fault in &wrong {
         println!("{fault}");
     }
-    let wrong = problems.len() + repository.faults().len() + unread.len();
-    println!("claims: {} rows, {wrong} wrong", rows.len());
-    u8::from(wrong > 0).into()
+    println!("claims: {} rows, {} wrong", rows.len(), wrong.len());
+    u8::from(!wrong.is_empty()).into()
 }
 
 /// What is wrong with what a reader believes; prints how much that is.
@@ -53,7 +54,7 @@ fn unread(repository: &Repository, page: &str, rows: &[Row], list: &str) -> Vec<
     let promises = rows.iter().flat_map(|row| names(row.promise, is_crate));
     let (named, calls): (Vec<_>, _) = (promises.collect(), calls(page, is_crate));
     let list = reading::read_list(list);
-    let library = repository.library();
+    let library = &repository.library();
     let (believed, faults) = library.believed(&calls, &named, |_| true);
     let mut faults: Vec<_> = faults.into_iter().collect();
     for call in calls.iter().filter(|call| !library.has_call(call)) {
@@ -102,16 +103,13 @@ fn unread(repository: &Repository, page: &str, rows: &[Row], list: &str) -> Vec<
     faults
 }
 
+/// What the page names that is not there.
 fn problems(repository: &Repository, rows: &[Row]) -> Vec<String> {
     let mut problems = Vec::new();
-    let mut named = Vec::new();
+    let mut rows_seen = BTreeSet::new();
     for row in rows {
-        for (name, label) in edits(row.edits) {
-            if repository.has_edit(name, label) {
-                named.push((name, label));
-            } else {
-                problems.push(format!("no edit {label} of {name}"));
-            }
+        if !rows_seen.insert(row.name) {
+            problems.push(format!("two rows are called {}", row.name));
         }
         for (name, word) in names(row.promise, |word| repository.has_crate(word)) {
             if !repository.defines(name, word) {
@@ -124,7 +122,35 @@ fn problems(repository: &Repository, rows: &[Row]) -> Vec<String> {
             }
         }
     }
-    let unnamed = repository.edits().filter(|edit| !named.contains(edit));
-    problems.extend(unnamed.map(|(name, label)| format!("{label} of {name} is not named")));
-    problems
+    let told = |problem| format!("docs/CLAIMS.md: {problem}");
+    problems.into_iter().map(told).collect()
+}
+
+/// What is wrong with the edits and with the rows that they cite; prints how many there are.
+fn untried(repository: &Repository, rows: &[Row]) -> Vec<String> {
+    let mut faults = Vec::new();
+    let mut cited = BTreeSet::new();
+    for (name, label, edit, fault) in repository.edits() {
+        let told = |fault| format!("crates/{name}/must-fail/{label}.edit: {fault}");
+        faults.extend(fault.map(told));
+        if edit.rows.is_empty() {
+            faults.push(told("its first line is no `claims: ROW, ..`".to_string()));
+        }
+        for row in &edit.rows {
+            if !rows.iter().any(|known| known.name == row) {
+                faults.push(told(format!("docs/CLAIMS.md has no row {row}")));
+            }
+            cited.insert(row.as_str());
+        }
+    }
+    let promising: Vec<_> = rows.iter().filter(|row| row.promises()).collect();
+    let uncited = promising.iter().filter(|row| !cited.contains(row.name));
+    faults.extend(uncited.map(|row| format!("docs/CLAIMS.md: no edit cites {}", row.name)));
+    println!(
+        "edits: {}, of {} rows that promise and {} public functions",
+        repository.edits().count(),
+        promising.len(),
+        repository.public_functions()
+    );
+    faults
 }
