@@ -7,7 +7,9 @@
 //!   something is cited by one; every public function is tried by two;
 //! - every public function has a contract and asks nothing of its caller;
 //! - what a reader believes, the definitions that the calls and the named theorems rest on, stands
-//!   apart from laws, and the reading list has its crates.
+//!   apart from laws, and the reading list has its crates;
+//! - crates.txt and docs/ARCHITECTURE.md have the same crates under the same headings, and nothing
+//!   points upwards.
 //!
 //! Ends with 1 where one does not hold.
 
@@ -19,6 +21,7 @@ mod reading;
 mod repository;
 mod rows;
 mod specs;
+mod subjects;
 mod words;
 
 use std::collections::{BTreeMap, BTreeSet};
@@ -32,7 +35,7 @@ fn main() -> std::process::ExitCode {
     let named = std::env::args().nth(1).map(PathBuf::from);
     let root = named.unwrap_or(Path::new(env!("CARGO_MANIFEST_DIR")).join("../.."));
     let text = |file: &str| std::fs::read_to_string(root.join(file)).expect(file);
-    let (page, list) = (text("docs/CLAIMS.md"), text("docs/ARCHITECTURE.md"));
+    let (page, house) = (text("docs/CLAIMS.md"), text("docs/ARCHITECTURE.md"));
     let repository = Repository::read(&root);
     let (rows, others) = Row::read_all(&page);
     let mut wrong = problems(&repository, &rows);
@@ -40,7 +43,8 @@ fn main() -> std::process::ExitCode {
     wrong.extend(others.map(|line| format!("docs/CLAIMS.md: line {line} has not four cells")));
     wrong.extend(untried(&repository, &rows));
     wrong.extend(repository.faults());
-    wrong.extend(unread(&repository, &page, &rows, &list));
+    wrong.extend(unread(&repository, &page, &rows, &house));
+    wrong.extend(subjects::faults(&text("crates.txt"), &house));
     for fault in &wrong {
         println!("{fault}");
     }
@@ -49,11 +53,11 @@ fn main() -> std::process::ExitCode {
 }
 
 /// What is wrong with what a reader believes; prints how much that is.
-fn unread(repository: &Repository, page: &str, rows: &[Row], list: &str) -> Vec<String> {
+fn unread(repository: &Repository, page: &str, rows: &[Row], house: &str) -> Vec<String> {
     let is_crate = |word: &str| repository.has_crate(word);
     let promises = rows.iter().flat_map(|row| names(row.promise, is_crate));
     let (named, calls): (Vec<_>, _) = (promises.collect(), calls(page, is_crate));
-    let list = reading::read_list(list);
+    let list = reading::read_list(house);
     let library = &repository.library();
     let (believed, faults) = library.believed(&calls, &named, |_| true);
     let mut faults: Vec<_> = faults.into_iter().collect();

@@ -4,6 +4,7 @@
 use std::collections::{BTreeMap, BTreeSet};
 
 use crate::definitions::without;
+use crate::subjects::KIT;
 use crate::words::{bound, cited, words};
 
 /// A file of definitions: its crate and its name.
@@ -330,7 +331,7 @@ fn module_of(path: &str) -> Module {
     let (in_crate, file) = path.split_once(".specs.")?;
     let in_crate = in_crate.strip_suffix("·specs").unwrap_or(in_crate);
     let of_code = file.starts_with("declared.");
-    let of_kit = ["check", "libc", "io", "os", "bytes"].contains(&in_crate);
+    let of_kit = KIT.contains(&in_crate);
     (!of_code && !of_kit).then(|| (in_crate.to_string(), file.replace('.', "/")))
 }
 
