@@ -8,7 +8,7 @@ use borrow.Author.Tests.{ltb-true, leb-true, eqb-true, lt-ltb, le-leb, eq-eqb}
 use lib.Dec.{ltb, leb, eqb}
 use lib.ListN.{length, getD, drop}
 use lib.Pow.{pow-pos}
-use Rattle.laws.specs.Cases.{and-true}
+use Rattle.laws.specs.laws.Cases.{and-true}
 use Rattle.refusal.specs.declared.Refusal.the-variants.{Length}
 use Rattle.block_sizes.specs.BlockSizes.{widthOf, heightOf}
 use Rattle.hf_pass_store.specs.declared.Stretch.{Stretch}

@@ -3,7 +3,8 @@ use dct_select::Looked;
 use dct_select::TransformType;
 use refusal::Refusal;
 ghost use mathlib.Core.Path.{_≡_};
-ghost use Rattle.layout_column.specs.Columns.{lowEight, hfMulOf, saidJudged, judgedOf};
+ghost use Rattle.layout_column.specs.Columns.{lowEight, hfMulOf};
+ghost use Rattle.layout_column.specs.laws.Columns.{saidJudged, judgedOf};
 
 // What a column asks for: the kind of its corner, hf_mul, and the blocks across and down.
 pub struct Varblock {

@@ -1,36 +1,27 @@
 -- Document 01's marked examples, as rows of one list under one theorem.
-use mathlib.Core.Path.{_≡_, refl}
+use mathlib.Core.Path.{_≡_}
 use mathlib.Core.Bool.{false}
 use mathlib.Core.List.{List, [], _∷_, _++_}
 use Prim.Native.Nat.{ℕ, _*_, _%_, _^_, _-_, _<_}
 use lib.IntN.{pos, negsuc}
 use lib.ListN.{length, getD, take, drop, replicate}
-use lib.Ieee.{Float, fin, le, lt, eq, mul, div, ofInt, toBits, round, size, span, climb, units, odd}
-use lib.Count.{trailingZeros}
+use lib.Ieee.{Float, fin, mul}
 use Rattle.refusal.specs.declared.Refusal.the-variants.{Preset}
 use Rattle.refusal.specs.Said.{at}
 use Rattle.bits.specs.Bits.{Value}
-use Rattle.dct_select.specs.Transforms.{TRANSFORMS, wide, high}
 use Rattle.natural_order.specs.Natural.{natural}
-use Rattle.layout.specs.Walk.{cells, rows}
 use Rattle.layout.specs.Varblocks.{varblock, varblocksOf, area}
-use Rattle.lf_group.specs.Blocks.{wideIn, highIn}
 use Rattle.filter_strength.specs.declared.Filter.the-variants.{On}
-use Rattle.filter_strength.specs.Strength.{nearest, scaledBy, dividedBy, m8}
-use Rattle.filter_strength.specs.Limits.{inLimits}
-use Rattle.layout_reading.specs.Scan.{takeCell, scan}
-use Rattle.layout_reading.specs.Reading.{place, judge, column, reading}
+use Rattle.filter_strength.specs.Strength.{nearest}
 use Rattle.hf_metadata.specs.Call.{Outcome, accepted, refused, inputs, layoutOf}
-use Rattle.accepted_layout.specs.Marked.{off, m4, m4-varblocks, m4-area, m5, m5-refused, m6, m6-refused}
+use Rattle.accepted_layout.specs.Marked.{off}
 use Rattle.hf_pass_store.specs.Store.{PLACES, stretch}
 use Rattle.hf_pass.specs.Call.{parsed}
-use Rattle.hf_pass.specs.Marked.{m1, m2}
 use Rattle.hf_coeff.specs.declared.CoeffAnswer.the-variants.{Accepted}
 use Rattle.hf_coeff.specs.Call.{reads, refuses, leaves, outcome, refuse, readPreset, call, reading as readingWith}
 use Rattle.lister.specs.Listing.{textOf}
-use Rattle.marked.specs.Lines.{job, lines, five-lines}
-use Rattle.marked.specs.Orders.{one-digit}
-use Rattle.marked.specs.Coefficients.{gains, dct8, dct16, Room, passes-252, refuses-253, reads-two-bits, refuses-3, takes-others, six-symbols}
+use Rattle.marked.specs.Lines.{job, lines}
+use Rattle.marked.specs.Coefficients.{gains, dct8, dct16, Room}
 
 -- M1 natural 8 × 8 starts (0,0) (1,0) (0,1) (0,2) (1,1) (2,0)
 abbrev pub M1 : Type 0
@@ -123,46 +114,3 @@ MARKED = m 1 M1 ∷ m 2 M2 ∷ m 3 M3 ∷ m 4 M4 ∷ m 5 M5 ∷ m 6 M6 ∷ m 7 M
 abbrev pub Each : List Row → Type 0
 Each [] = Unit
 Each (r ∷ rs) = r .says × Each rs
-
-row1 : M1
-row1 = m1
-
-row2 : M2
-row2 = m2
-
-row3 : M3
-row3 = one-digit
-
-row4 : M4
-row4 = (m4, m4-varblocks, m4-area, five-lines)
-
-row5 : M5
-row5 = (m5, m5-refused)
-
-row6 : M6
-row6 = (m6, m6-refused)
-
-row7 : M7
-unfolding layoutOf wideIn highIn inLimits le lt eq reading column judge place scan takeCell rows cells wide high TRANSFORMS scaledBy dividedBy mul div ofInt toBits round size span climb units odd trailingZeros
-row7 = refl
-
-row8 : M8
-unfolding layoutOf wideIn highIn inLimits le lt eq reading column judge place scan takeCell rows cells wide high TRANSFORMS scaledBy dividedBy mul div ofInt toBits round size span climb units odd trailingZeros
-row8 = (m8, refl, refl)
-
-row9 : M9
-row9 map log g0 g1 g2 r = (passes-252 map log g0 g1 g2 r, refuses-253 map log g0 g1 g2 r)
-
-row10 : M10
-row10 map symbols log g0 g1 g2 r = (reads-two-bits map symbols log g0 g1 g2 r, refuses-3 map symbols log g0 g1 g2 r, takes-others map symbols log g0 g1 g2 r)
-
-row11 : M11
-row11 = six-symbols
-
-infixr 5 _and_
-abbrev _and_ : {A B : Type 0} → A → B → A × B
-a and b = (a, b)
-
-pub marked : Each MARKED
-unfolding MARKED
-marked = row1 and row2 and row3 and row4 and row5 and row6 and row7 and row8 and row9 and row10 and row11 and tt

@@ -1,0 +1,46 @@
+-- Demand 3 (document 00): one symbol sequence and only one, over the coefficient call. Filling has the words of the statements.
+use mathlib.Core.Path.{_≡_}
+use mathlib.Core.Logic.{_↔_}
+use mathlib.Core.List.{List}
+use Prim.Native.Nat.{ℕ, _*_}
+use Rattle.layout.specs.laws.Theorems.{layout-area}
+use Rattle.layout.specs.Varblocks.{area}
+use Rattle.hf_coeff_group.specs.Pass.{varblocks, itemsOf}
+use Rattle.hf_coeff_group.specs.Group.{Grids}
+use Rattle.hf_coeff.specs.Call.{Lent, clustersOf, rowsOf, presetMap}
+use Rattle.one_to_one.specs.Filling.{Words, Disjoint, Fixed, Filling, Fills, Fails}
+use Rattle.one_to_one.specs.Sequence.{theSequence}
+use Rattle.one_to_one.specs.laws.Existence.{sequence-words}
+use Rattle.one_to_one.specs.laws.Rectangles.{varblocks-disjoint}
+use Rattle.one_to_one.specs.laws.OneToOne as over
+use Rattle.one_to_one.specs.laws.OverCall.{group, same, fills-not, not-fills}
+
+module _ (L : Lent) (fixed : Fixed L) where
+  module _ (W : Grids) (filling : Filling L W) where
+    -- these 32-bit symbols fill the cells so, and no other symbols do
+    pub one-sequence : Words (theSequence L W) × ((s : List ℕ) → Words s → Fills L s W ↔ (s ≡ theSequence L W))
+    unfolding theSequence
+    one-sequence =
+        let P = L .pass in
+        let items = itemsOf P (varblocks P) in
+        let G = group L fixed W filling in (
+          sequence-words items (L .grids) W (G .fit),
+          λ s h.
+              let o = over.one-to-one (clustersOf P) (presetMap L (fixed .rest .preset)) items (L .grids) W G (L .log) (rowsOf P) s h in
+              let f = same L fixed W filling s in
+              ((λ x. o .0 (f .0 x)), (λ x. f .1 (o .1 x))),
+        )
+
+    -- every other sequence fails, and that one does not
+    pub every-other : (s : List ℕ) → Words s → Fails L s W ↔ (s ≡ theSequence L W → ⊥)
+    every-other s h =
+        let o = one-sequence .1 s h in
+        ((λ f e. fills-not L s W (o .1 e) f), (λ n. not-fills L s W (λ f. n (o .0 f))))
+
+  -- the varblocks are disjoint
+  pub apart : Disjoint (varblocks (L .pass))
+  apart = varblocks-disjoint (L .pass) (fixed .layout)
+
+  -- their areas sum to the group's blocks
+  pub areas : area (varblocks (L .pass)) ≡ L .pass .width * L .pass .height
+  areas = layout-area (L .pass .width) (L .pass .height) (L .pass .kinds) (L .pass .muls) (fixed .layout)
