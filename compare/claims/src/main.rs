@@ -9,7 +9,8 @@
 //! - what a reader believes, the definitions that the calls and the named theorems rest on, stands
 //!   apart from laws, and the reading list has its crates;
 //! - crates.txt and docs/ARCHITECTURE.md have the same crates under the same headings, and nothing
-//!   points upwards.
+//!   points upwards;
+//! - every file that a document names is there, and every name of docs/ONE-TO-ONE.md is defined.
 //!
 //! Ends with 1 where one does not hold.
 
@@ -17,6 +18,7 @@ mod contracts;
 mod definitions;
 mod edits;
 mod library;
+mod pages;
 mod reading;
 mod repository;
 mod rows;
@@ -29,7 +31,7 @@ use std::path::{Path, PathBuf};
 
 use reading::Why;
 use repository::Repository;
-use rows::{calls, names, Row};
+use rows::{calls, is_name, names, Row};
 
 fn main() -> std::process::ExitCode {
     let named = std::env::args().nth(1).map(PathBuf::from);
@@ -45,6 +47,7 @@ fn main() -> std::process::ExitCode {
     wrong.extend(repository.faults());
     wrong.extend(unread(&repository, &page, &rows, &house));
     wrong.extend(subjects::faults(&text("crates.txt"), &house));
+    wrong.extend(unnamed(&root, &repository));
     for fault in &wrong {
         println!("{fault}");
     }
@@ -104,6 +107,38 @@ fn unread(repository: &Repository, page: &str, rows: &[Row], house: &str) -> Vec
         reading::size(library, core.keys())
     );
     println!("to read, all: {}", reading::size(library, believed.keys()));
+    faults
+}
+
+/// The crate of demand 3, and the page about it.
+const DEMAND_3: (&str, &str) = ("one_to_one", "docs/ONE-TO-ONE.md");
+
+/// What the documents name that is not there.
+fn unnamed(root: &Path, repository: &Repository) -> Vec<String> {
+    let mut faults = Vec::new();
+    let docs = std::fs::read_dir(root.join("docs")).expect("docs/");
+    let docs = docs.map(|entry| {
+        format!(
+            "docs/{}",
+            entry.expect("an entry").file_name().to_string_lossy()
+        )
+    });
+    let pages = docs.chain(["README.md", "CONTRIBUTING.md"].map(String::from));
+    for page in pages.filter(|page| page.ends_with(".md")) {
+        let text = std::fs::read_to_string(root.join(&page)).expect(&page);
+        let mut missing: BTreeSet<_> = pages::missing(root, &text, DEMAND_3.0)
+            .into_iter()
+            .collect();
+        if page == DEMAND_3.1 {
+            let names = pages::quoted(&text).filter(|word| is_name(word));
+            missing.extend(names.filter(|word| !repository.defines_anywhere(word)));
+        }
+        faults.extend(
+            missing
+                .iter()
+                .map(|name| format!("{page}: {name} is not there")),
+        );
+    }
     faults
 }
 

@@ -87,6 +87,10 @@ impl Repository {
         code.chain(specs).any(|defined| defined == word)
     }
 
+    pub fn defines_anywhere(&self, word: &str) -> bool {
+        self.crates.keys().any(|name| self.defines(name, word))
+    }
+
     pub fn compares(&self, call: &str) -> bool {
         self.calls.contains(call)
     }

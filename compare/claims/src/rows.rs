@@ -74,7 +74,7 @@ pub fn names(cell: &str, opens: impl Fn(&str) -> bool) -> Vec<(&str, &str)> {
     found
 }
 
-fn is_name(word: &str) -> bool {
+pub fn is_name(word: &str) -> bool {
     word.chars().all(part_of_name)
 }
 
