@@ -26,10 +26,9 @@ mod specs;
 mod subjects;
 mod words;
 
-use std::collections::{BTreeMap, BTreeSet};
+use std::collections::BTreeSet;
 use std::path::{Path, PathBuf};
 
-use reading::Why;
 use repository::Repository;
 use rows::{calls, is_name, names, Row};
 
@@ -64,54 +63,55 @@ fn unread(repository: &Repository, page: &str, rows: &[Row], house: &str) -> Vec
     let library = &repository.library();
     let (believed, faults) = library.believed(&calls, &named, |_| true);
     let mut faults: Vec<_> = faults.into_iter().collect();
-    for call in calls.iter().filter(|call| !library.has_call(call)) {
-        faults.push(format!(
-            "docs/CLAIMS.md: no function {} of {}",
-            call.1, call.0
-        ));
+    for (name, call) in calls.iter().filter(|call| !library.has_call(call)) {
+        faults.push(format!("docs/CLAIMS.md: no function {call} of {name}"));
     }
     let unlisted = reading::unlisted(&list, &believed).into_iter();
     faults.extend(unlisted.map(|fault| format!("docs/ARCHITECTURE.md: {fault}")));
-
     let misplaced = reading::misplaced(library, &believed);
-    let mut by_crate: BTreeMap<_, [usize; 3]> = BTreeMap::new();
-    for found in &misplaced {
-        by_crate.entry(found.in_crate()).or_default()[found.why as usize] += 1;
+    for line in reading::by_crate(&misplaced) {
+        println!("{line}");
     }
-    for (name, count) in by_crate {
-        println!(
-            "apart: {name}: {} laws and {} definitions that no promise rests on in specs/, {} believed in specs/laws/",
-            count[Why::Law as usize], count[Why::Unbelieved as usize], count[Why::Believed as usize]
-        );
-    }
-    for found in &misplaced {
-        println!("{found}");
-    }
-    // Until laws stand apart at all.
-    if library.files.keys().any(reading::of_laws) {
-        faults.push(format!("{} stand in the wrong file", misplaced.len()));
-    }
+    faults.extend(misplaced.iter().map(|found| found.to_string()));
 
     for (subject, crates) in &list {
         let places = believed.keys();
         let of_subject = places.filter(|place| crates.contains(&place.file.0.as_str()));
         println!("to read, {subject}: {}", reading::size(library, of_subject));
     }
-    let beside = |name: &str| {
-        let mut subjects = list.iter().filter(|(_, crates)| crates.contains(&name));
-        subjects.any(|(subject, _)| reading::BESIDE.contains(subject))
-    };
-    let (core, _) = library.believed(&calls, &named, |name| !beside(name));
-    println!(
-        "to read, calls and demand 3: {}",
-        reading::size(library, core.keys())
-    );
-    println!("to read, all: {}", reading::size(library, believed.keys()));
+    let asked = |name: &str| !reading::beside(&list, name);
+    let of_demand = rows
+        .iter()
+        .filter(|row| row.name.starts_with(DEMAND_3.rows));
+    let of_demand = of_demand.flat_map(|row| names(row.promise, is_crate));
+    let of_demand: Vec<_> = of_demand.collect();
+    let calls_alone = library.believed(&calls, &[], asked).0;
+    let demanded = library.believed(&calls, &of_demand, asked).0;
+    let theorems = library.believed(&calls, &named, asked).0;
+    for (what, read) in [
+        ("calls", calls_alone),
+        ("calls and demand 3", demanded),
+        ("calls and all theorems on them", theorems),
+        ("all, with what stands beside the calls", believed),
+    ] {
+        println!("to read, {what}: {}", reading::size(library, read.keys()));
+    }
     faults
 }
 
-/// The crate of demand 3, and the page about it.
-const DEMAND_3: (&str, &str) = ("one_to_one", "docs/ONE-TO-ONE.md");
+/// Where demand 3 stands.
+struct Demand {
+    /// How the names of its rows begin.
+    rows: &'static str,
+    page: &'static str,
+    in_crate: &'static str,
+}
+
+const DEMAND_3: Demand = Demand {
+    rows: "00-demand-3-",
+    page: "docs/ONE-TO-ONE.md",
+    in_crate: "one_to_one",
+};
 
 /// What the documents name that is not there.
 fn unnamed(root: &Path, repository: &Repository) -> Vec<String> {
@@ -126,10 +126,10 @@ fn unnamed(root: &Path, repository: &Repository) -> Vec<String> {
     let pages = docs.chain(["README.md", "CONTRIBUTING.md"].map(String::from));
     for page in pages.filter(|page| page.ends_with(".md")) {
         let text = std::fs::read_to_string(root.join(&page)).expect(&page);
-        let mut missing: BTreeSet<_> = pages::missing(root, &text, DEMAND_3.0)
+        let mut missing: BTreeSet<_> = pages::missing(root, &text, DEMAND_3.in_crate)
             .into_iter()
             .collect();
-        if page == DEMAND_3.1 {
+        if page == DEMAND_3.page {
             let names = pages::quoted(&text).filter(|word| is_name(word));
             missing.extend(names.filter(|word| !repository.defines_anywhere(word)));
         }

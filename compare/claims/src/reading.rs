@@ -10,8 +10,8 @@ use crate::specs::{Named, Place};
 /// The list: subjects with their crates.
 pub type List<'a> = Vec<(&'a str, Vec<&'a str>)>;
 
-/// Subjects beside the calls and demand 3.
-pub const BESIDE: [&str; 4] = [
+/// Subjects beside the calls and the theorems on them.
+const BESIDE: [&str; 4] = [
     "marked examples",
     "lister",
     "C interface",
@@ -32,6 +32,12 @@ fn row(line: &str) -> Option<(&str, Vec<&str>)> {
     let names = crates.trim_end().strip_suffix('|')?.split(',');
     let names = names.map(|name| name.trim().trim_matches('`'));
     Some((subject.trim(), names.collect()))
+}
+
+/// Whether a crate is one of a subject beside the calls.
+pub fn beside(list: &List, name: &str) -> bool {
+    let mut subjects = list.iter().filter(|(_, crates)| crates.contains(&name));
+    subjects.any(|(subject, _)| BESIDE.contains(subject))
 }
 
 /// How much there is to read.
@@ -100,11 +106,11 @@ pub fn unlisted(list: &List, believed: &Believed) -> Vec<String> {
 /// A declaration that stands in the wrong file, and why.
 pub struct Misplaced {
     place: Place,
-    pub why: Why,
+    why: Why,
 }
 
-#[derive(Clone, Copy, Debug, PartialEq, Eq, PartialOrd, Ord)]
-pub enum Why {
+#[derive(Clone, Copy, PartialEq)]
+enum Why {
     Law,
     Unbelieved,
     Believed,
@@ -121,10 +127,19 @@ impl std::fmt::Display for Misplaced {
     }
 }
 
-impl Misplaced {
-    pub fn in_crate(&self) -> &str {
-        &self.place.file.0
+/// How many stand in the wrong file, crate by crate.
+pub fn by_crate(misplaced: &[Misplaced]) -> Vec<String> {
+    let mut crates: BTreeMap<&str, [usize; 3]> = BTreeMap::new();
+    for found in misplaced {
+        crates.entry(&found.place.file.0).or_default()[found.why as usize] += 1;
     }
+    let told = |(name, [laws, unbelieved, believed]): (&str, [usize; 3])| {
+        format!(
+            "apart: {name}: {laws} laws and {unbelieved} definitions that no promise rests on in \
+             specs/, {believed} believed in specs/laws/"
+        )
+    };
+    crates.into_iter().map(told).collect()
 }
 
 /// Every declaration that stands in the wrong file.
@@ -150,7 +165,7 @@ pub fn misplaced(library: &Library, believed: &Believed) -> Vec<Misplaced> {
     found
 }
 
-pub fn of_laws((_, file): &Named) -> bool {
+fn of_laws((_, file): &Named) -> bool {
     file.contains('/')
 }
 
