@@ -80,12 +80,12 @@ module _ (bw bh : ℕ) (kinds muls : List ℕ) (g : ℕ) (outKinds outMuls : Lis
 
   -- the group's cells are in the layout, and the buffers are as long as it has cells
   pub record Ready (gx gy : ℕ) (r : Group) : Type 0 where
-    pub fitsX : 32 * gx + r .wide ≤ bw
-    pub fitsY : 32 * gy + r .high ≤ 256
-    pub fits : (32 * gy + r .high) * bw ≤ length kinds
+    pub fitsX : 32 * gx + r .bw ≤ bw
+    pub fitsY : 32 * gy + r .bh ≤ 256
+    pub fits : (32 * gy + r .bh) * bw ≤ length kinds
     pub same : length muls ≡ length kinds
-    pub outKindsFit : length outKinds ≡ r .high * r .wide
-    pub outMulsFit : length outMuls ≡ r .high * r .wide
+    pub outKindsFit : length outKinds ≡ r .bh * r .bw
+    pub outMulsFit : length outMuls ≡ r .bh * r .bw
 
   pub ready : (gx gy : ℕ) (r : Group) → Passed bw bh kinds muls g (length outKinds) (length outMuls) → gx ≡ groupX bw g → gy ≡ groupY bw g → r ≡ group (groupBw bw g) (groupBh bw bh g) → Ready gx gy r
   ready gx gy r p ex ey er = rw (ex, ey, er) here
@@ -102,7 +102,7 @@ module _ (bw bh : ℕ) (kinds muls : List ℕ) (g : ℕ) (outKinds outMuls : Lis
           record { fitsX = omega arith; fitsY = omega arith; fits = omega arith; same = omega arith; outKindsFit = b .0; outMulsFit = b .1 }
 
   pub copied : (l : List ℕ) (gx gy : ℕ) (r : Group) → gx ≡ groupX bw g → gy ≡ groupY bw g → r ≡ group (groupBw bw g) (groupBh bw bh g)
-      → gridOf (λ x y. cellAt l bw (32 * gx + x) (32 * gy + y)) (r .wide) (r .high) ≡ cut bw bh g l
+      → gridOf (λ x y. cellAt l bw (32 * gx + x) (32 * gy + y)) (r .bw) (r .bh) ≡ cut bw bh g l
   unfolding cut
   copied l gx gy r ex ey er = rw (ex, ey, er)
 

@@ -43,7 +43,7 @@ module _ (bw bh : ℕ) (kinds muls : List ℕ) (g : ℕ) (outKinds outMuls : Lis
 
   -- what an accepted cut wrote is a group that the check passes
   pub cut-checks : (r : Group) → (cutOf bw bh kinds muls g outKinds outMuls) .answer ≡ gives r
-      → checkOf 32 (r .wide) (r .high) ((cutOf bw bh kinds muls g outKinds outMuls) .kinds) ((cutOf bw bh kinds muls g outKinds outMuls) .muls) ≡ gives tt
+      → checkOf 32 (r .bw) (r .bh) ((cutOf bw bh kinds muls g outKinds outMuls) .kinds) ((cutOf bw bh kinds muls g outKinds outMuls) .muls) ≡ gives tt
   cut-checks r e = go (cutCheck bw bh kinds muls g (length outKinds) (length outMuls)) refl
     where
       O : Outcome
@@ -58,7 +58,7 @@ module _ (bw bh : ℕ) (kinds muls : List ℕ) (g : ℕ) (outKinds outMuls : Lis
           checks 32 (groupBw bw g) (groupBh bw bh g) (cut bw bh g kinds) (cut bw bh g muls)
           (record { wideFrom = omega arith; wideTo = omega arith; highFrom = omega arith; highTo = omega arith }) (cut-layout bw bh g kinds muls ok)
 
-      go : (a : Answer Unit) → cutCheck bw bh kinds muls g (length outKinds) (length outMuls) ≡ a → checkOf 32 (r .wide) (r .high) (O .kinds) (O .muls) ≡ gives tt
+      go : (a : Answer Unit) → cutCheck bw bh kinds muls g (length outKinds) (length outMuls) ≡ a → checkOf 32 (r .bw) (r .bh) (O .kinds) (O .muls) ≡ gives tt
       go (refuses s) c = absurd (let d : refuses s ≡ gives r = ap (λ (o : Outcome). o .answer) (sym (cut-refused bw bh kinds muls g outKinds outMuls s c)) ∙ e in let z : _≡_ {A = ℕ} 0 1 = cc in omega arith)
       go (gives t) c =
           let d = cut-done bw bh kinds muls g outKinds outMuls c in

@@ -7,21 +7,18 @@ use native.Mathlib.Nat.{mul-le-mul, mod-lt}
 use native.Mathlib.Omega.{arith}
 use lib.Pow.{pow-mono, pow-pos}
 use Rattle.refusal.specs.Said.{at}
-use Rattle.refusal.specs.Answer.{refuses}
+use Rattle.refusal.specs.Answer.{gives, refuses}
 use Rattle.bits.specs.declared.Got.{Got}
 use Rattle.bits.specs.declared.Got.the-variants as got
-use Rattle.bit_place.specs.declared.Place.{Place}
-use Rattle.bits.specs.Bits.{Value, readBits}
-use Rattle.bits.specs.Numbers.{Bytes}
+use Rattle.bits.specs.declared.Place.{Place}
+use Rattle.bits.specs.Bits.{Value, readBits, Bytes}
 use Rattle.bits.specs.laws.Numbers.{number}
-use Rattle.bits.specs.Reads.{gotOf}
-use Rattle.bit_place.specs.Place.{placeAt}
-use Rattle.bit_place.specs.laws.Place.{passed}
+use Rattle.bits.specs.Reads.{gotOf, placeAt, bitsBefore}
 use Rattle.bits.specs.laws.Laws.{read-whole, was-value, was-end, value-at, ended-at}
 use Rattle.coded_numbers.specs.laws.Exponent.{exponent-least}
 use Rattle.lf_group.specs.Blocks.{sizeFits, modesFit, bwIn, bhIn}
 use Rattle.lf_group.specs.laws.Bounds.{bw-most, bh-most}
-use Rattle.column_count.specs.Count.{count, plusOne, fieldBits, countOf}
+use Rattle.column_count.specs.Count.{counts, plusOne, fieldBits, countOf}
 
 module _ (width height : ℕ) (modes bytes : List ℕ) where
   pub count-size : sizeFits width height ≡ false → refuses (at 2 0 0) ≡ countOf width height modes bytes
@@ -40,7 +37,7 @@ module _ (width height : ℕ) (modes bytes : List ℕ) where
     few-bits = exponent-least (bhIn height modes * bwIn width modes) 16 most-blocks
 
     -- the field was read from the first bit on
-    module _ (n : ℕ) (p : Place) (g : Got) (c : n ≡ fieldBits width height modes) (d : p ≡ placeAt 0) (e : g ≡ gotOf (passed p) (readBits bytes (passed p) (min n 32))) where
+    module _ (n : ℕ) (p : Place) (g : Got) (c : n ≡ fieldBits width height modes) (d : p ≡ placeAt 0) (e : g ≡ gotOf (bitsBefore p) (readBits bytes (bitsBefore p) (min n 32))) where
       whole : g ≡ gotOf 0 (readBits bytes 0 n)
       whole = let f = few-bits in let m : min n 32 ≡ n = omega arith in e ∙ rw (d, m)
 
@@ -48,12 +45,12 @@ module _ (width height : ℕ) (modes bytes : List ℕ) where
       unfolding countOf
       read = rw (a, b, c)
 
-      pub count-value : (v : ℕ) (q : Place) → g ≡ got.Value v q → count (1 + v) n ≡ countOf width height modes bytes
+      pub count-value : (v : ℕ) (q : Place) → g ≡ got.Value v q → gives (counts (1 + v) n) ≡ countOf width height modes bytes
       count-value v q f =
           let w = was-value 0 (readBits bytes 0 n) v q (sym whole ∙ f) in
           let l = value-at bytes 0 n v (w .at) (w .is) in
           let k : n ≡ w .at = omega arith in
-          ap (λ (i : ℕ). count (1 + v) i) k ∙ sym (read ∙ ap plusOne (w .is))
+          ap (λ (i : ℕ). gives (counts (1 + v) i)) k ∙ sym (read ∙ ap plusOne (w .is))
 
       -- the number fits in 16 bits
       pub count-small : (v : ℕ) (q : Place) → Bytes bytes → g ≡ got.Value v q → v < 65536

@@ -16,10 +16,10 @@ numbers-requires : tie.Need-numbers-requires
 numbers-requires c κs = search needs
 
 returns : tie.Need-returns
-returns c = count-handed _ (c .before .before .before .column-count .result) _ _ _ (c .before .before .before .column-count .ensures) (rw (c .before .columns .given .1))
+returns c = count-handed _ (c .before .before .before .column-count .result) _ _ (c .before .before .before .column-count .ensures) (rw (c .before .columns .given .1))
 
 returns-2 : tie.Need-returns-2
-returns-2 c = count-handed _ (c .before .before .before .before .column-count .result) _ _ _ (c .before .before .before .before .column-count .ensures) (rw (c .before .before .refusal .given .1, c .numbers .ensures))
+returns-2 c = count-handed _ (c .before .before .before .before .column-count .result) _ _ (c .before .before .before .before .column-count .ensures) (rw (c .before .before .refusal .given .1, c .numbers .ensures))
 
 pub netbuff-column-count-spec : {M : Type 1} → statement M
 netbuff-column-count-spec =

@@ -48,7 +48,7 @@ use Rattle.block_record.specs.Calls.{group, outcome, cutCheck, cutOf}
 use Rattle.block_record.specs.laws.CutSteps.{cut-done}
 use Rattle.accepted_layout.specs.Outcome.{bwOf, bhOf}
 use Rattle.one_to_one.specs.Filling.{cell, isLow, wanted, Fixed, Filling, Fills, Given}
-use Rattle.one_to_one.specs.Symbols.{symbol, pack}
+use Rattle.coded_numbers.specs.Signed.{symbol, pack}
 use Rattle.one_to_one.specs.Sequence.{differing, coeffs, sequence, theSequence}
 use Rattle.one_to_one.specs.laws.Demand3.{one-sequence}
 use Rattle.one_to_one.specs.laws.Wanted.{wanted-filling}
@@ -102,7 +102,7 @@ unfolding bwIn bhIn groupX groupY cut gridFrom rowOf
 cut-accepted = cut-done (bwOf columns) (bhOf columns) kinds muls 0 four four cut-checked
 
 lengths-fit : lengthsFit full ≡ true
-unfolding context.stored
+unfolding context.contextsOf
 lengths-fit = rw (eq-eqb (length store) (2 * PLACES) store-long)
 
 two-bits : readPreset full ≡ Value 2 2

@@ -14,6 +14,7 @@ use Rattle.dct_select.specs.Transforms.{TRANSFORMS, wide, high, orderOf, turns}
 use Rattle.natural_order.specs.Natural.{natural}
 use Rattle.layout.specs.Walk.{cells, rows}
 use Rattle.layout.specs.Varblocks.{Varblock, cornersRow, cornersFrom}
+use Rattle.layout.specs.Listed.{Among, first, later}
 use Rattle.layout.specs.Grid.{rowOf, gridFrom, fillFrom}
 use Rattle.layout.specs.Cut.{cut, groupX, groupY}
 use Rattle.layout.specs.Check.{clear, fitting, visitCell, checkRun}
@@ -26,7 +27,7 @@ use Rattle.layout_reading.specs.Reading.{place, column, reading}
 use Rattle.refusal.specs.Answer as answer
 use Rattle.hf_metadata.specs.Call.{Inputs, inputs, layoutOf}
 use Rattle.hf_pass_store.specs.Store.{PLACES}
-use Rattle.hf_block_context.specs.Call.{stored as contextsOf}
+use Rattle.hf_block_context.specs.Call.{contextsOf}
 use Rattle.natural_order.specs.Places.{paired}
 use Rattle.hf_coeff_walk.specs.Places.{placesOf}
 use Rattle.hf_coeff_group.specs.Pass.{varblocks, itemOf, itemsOf}
@@ -36,8 +37,8 @@ use Rattle.block_sides.specs.Limits.{inLimits as inLimits32, lengthsFit as leng
 use Rattle.block_record.specs.Calls.{group, outcome, cutCheck, cutOf}
 use Rattle.block_record.specs.laws.CutSteps.{cut-done}
 use Rattle.accepted_layout.specs.Outcome.{bwOf, bhOf}
-use Rattle.one_to_one.specs.Filling.{cell, InV, Low, LowKept, Fixed, Filling, Fills, Given}
-use Rattle.one_to_one.specs.Symbols.{symbol, pack}
+use Rattle.one_to_one.specs.Filling.{cell, Low, LowKept, Fixed, Filling, Fills, Given}
+use Rattle.coded_numbers.specs.Signed.{symbol, pack}
 use Rattle.one_to_one.specs.Sequence.{differing, coeffs, sequence, theSequence}
 use Rattle.one_to_one.specs.laws.Premises.{set-below}
 use Rattle.one_to_one.specs.laws.Demand3.{one-sequence}
@@ -128,14 +129,14 @@ corner-cell : (p : ℕ) → Low (one .pass) p → p ≡ 0
 unfolding cornersRow cornersFrom wide high TRANSFORMS
 corner-cell p l = go (l .of) (l .there) (l .right) (l .bottom)
   where
-    go : (v : Varblock) → InV v (varblocks (one .pass)) → p % 8 < 8 * v .x + wide (v .type) → p / 8 < 8 * v .y + high (v .type) → p ≡ 0
-    go v (inl e) a b =
+    go : (v : Varblock) → Among v (varblocks (one .pass)) → p % 8 < 8 * v .x + wide (v .type) → p / 8 < 8 * v .y + high (v .type) → p ≡ 0
+    go v (first e₀) a b =
+        let e = sym e₀ in
         let x : v .x ≡ 0 = ap (λ (u : Varblock). u .x) e in
         let y : v .y ≡ 0 = ap (λ (u : Varblock). u .y) e in
         let w : wide (v .type) ≡ 1 = ap (λ (u : Varblock). wide (u .type)) e in
         let h : high (v .type) ≡ 1 = ap (λ (u : Varblock). high (u .type)) e in
         omega arith
-    go v (inr e) a b = absurd e
 
 pub filling : Filling one wanted
 filling = record { sized = record { three = refl; cells = sizes }; words = words; low = low }
