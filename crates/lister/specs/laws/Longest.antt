@@ -116,7 +116,7 @@ refused-most r =
 layout-most : (w h : ℕ) (ts ms : List ℕ) → w ≤ 512 → h ≤ 512 → length (layoutText w h ts ms) ≤ 90000
 layout-most w h ts ms a b = go (outcome w h ts ms .answer) refl
   where
-    go : (r : Answer) → outcome w h ts ms .answer ≡ r → length (textBy (bwOf w) (bhOf h) (outcome w h ts ms) r) ≤ 90000
+    go : (r : Answer ℕ) → outcome w h ts ms .answer ≡ r → length (textBy (bwOf w) (bhOf h) (outcome w h ts ms) r) ≤ 90000
     go (refuses r) e = refused-most r
     go (gives used) e =
         accepted-most (bwOf w) (bhOf h) (outcome w h ts ms .kinds) (outcome w h ts ms .hfMul)

@@ -6,27 +6,6 @@ use mathlib.Core.Path.{_≡_, _∙_, ap, sym}
 use Rattle.netbuff_transform.proofs.netbuff_transform.Statement.{statement}
 use Rattle.netbuff_transform.proofs.netbuff_transform.Tie as tie
 
-from-number-requires : tie.Need-from-number-requires
-from-number-requires c κs = search needs
-
-enum-known-t : tie.Need-enum-known-t
-enum-known-t c = search needs
-
-dct-select-size-requires : tie.Need-dct-select-size-requires
-dct-select-size-requires c κs = search needs
-
-order-id-requires : tie.Need-order-id-requires
-order-id-requires c κs = search needs
-
-need-transpose-requires : tie.Need-need-transpose-requires
-need-transpose-requires c κs = search needs
-
-enum-known-refusal : tie.Need-enum-known-refusal
-enum-known-refusal c = search needs
-
-numbers-requires : tie.Need-numbers-requires
-numbers-requires c κs = search needs
-
 returns : tie.Need-returns
 returns c =
     let t = c .before .before .before .before .t .given in
@@ -45,12 +24,12 @@ pub netbuff-transform-spec : {M : Type 1} → statement M
 netbuff-transform-spec =
     tie.close
     (tie.spec
-    from-number-requires
-    enum-known-t
-    dct-select-size-requires
-    order-id-requires
-    need-transpose-requires
-    enum-known-refusal
-    numbers-requires
+    (λ c κs. search needs)
+    (λ c. search needs)
+    (λ c κs. search needs)
+    (λ c κs. search needs)
+    (λ c κs. search needs)
+    (λ c. search needs)
+    (λ c κs. search needs)
     returns
     returns-2)
