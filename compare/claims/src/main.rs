@@ -10,7 +10,8 @@
 //!   apart from laws, and the reading list has its crates;
 //! - crates.txt and docs/ARCHITECTURE.md have the same crates under the same headings, and nothing
 //!   points upwards;
-//! - every file that a document names is there, and every name of docs/ONE-TO-ONE.md is defined.
+//! - every file that a document names is there, every name of docs/ONE-TO-ONE.md is defined, and the
+//!   words of the glossary are those of the crates.
 //!
 //! Ends with 1 where one does not hold.
 
@@ -47,6 +48,8 @@ fn main() -> std::process::ExitCode {
     wrong.extend(unread(&repository, &page, &rows, &house));
     wrong.extend(subjects::faults(&text("crates.txt"), &house));
     wrong.extend(unnamed(&root, &repository));
+    let words = pages::glossary(&house).filter(|word| !repository.speaks(word));
+    wrong.extend(words.map(|word| format!("docs/ARCHITECTURE.md: no crate says {word}")));
     for fault in &wrong {
         println!("{fault}");
     }
