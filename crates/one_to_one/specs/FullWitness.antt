@@ -34,7 +34,7 @@ abbrev pub map : List ℕ
 map = pairs 312
 
 abbrev pub contexts : HfBlockContext
-contexts = context.stored 2 (listsOf (0 ∷ []) (4294967294 ∷ []) (2 ∷ []) (2 ∷ [])) map
+contexts = context.contextsOf 2 (listsOf (0 ∷ []) (4294967294 ∷ []) (2 ∷ []) (2 ∷ [])) map
 
 abbrev pub kinds : List ℕ
 kinds = 8 ∷ 2 ∷ 1 ∷ 2 ∷ []

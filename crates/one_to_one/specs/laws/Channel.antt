@@ -13,12 +13,12 @@ use Rattle.refusal.specs.declared.Refusal.{Refusal}
 use Rattle.refusal.specs.declared.Refusal.the-variants.{SymbolsEnd, TooManyZeros}
 use Rattle.coded_numbers.specs.Signed.{unpackSigned}
 use Rattle.one_to_one.specs.Filling.{Words, Fills}
-use Rattle.one_to_one.specs.Symbols.{symbol}
-use Rattle.one_to_one.specs.laws.Symbols.{unpack-lt, symbol-same, symbol-zero, symbol-adds, symbol-of, symbol-lt}
+use Rattle.coded_numbers.specs.Signed.{symbol}
+use Rattle.coded_numbers.specs.laws.Signed.{unpack-lt, symbol-same, symbol-zero, symbol-adds, symbol-of, symbol-lt}
 use Rattle.hf_coeff_walk.specs.Walk.{Walked, ended, stopped, walk, coeffContext, flag, less, gain}
 use Rattle.hf_coeff_walk.specs.Kept.{length-gain}
 use Rattle.one_to_one.specs.Sequence.{differing, coeffs}
-use Rattle.one_to_one.specs.laws.Contexts.{context-below}
+use Rattle.hf_coeff_walk.specs.laws.Contexts.{context-below}
 use Rattle.one_to_one.specs.Places.{In}
 use Rattle.one_to_one.specs.laws.Places.{Distinct, Same, Cells, same-differing, same-coeffs, same-set, differing-le, differing-self, fill, fill-none}
 

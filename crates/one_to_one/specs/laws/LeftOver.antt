@@ -9,7 +9,7 @@ use Rattle.natural_order.specs.Natural.{natural}
 use Rattle.layout.specs.Varblocks.{cornersRow, cornersFrom}
 use Rattle.layout.specs.laws.Theorems.{layout-check}
 use Rattle.block_context_index.specs.Contexts.{sizeOf, above, lfIndexIn, placeOf}
-use Rattle.hf_block_context.specs.Call.{stored as contextsOf}
+use Rattle.hf_block_context.specs.Call.{contextsOf}
 use Rattle.hf_coeff_walk.specs.Walk.{walk, coeffContext, FREQ, NUM-NONZERO}
 use Rattle.hf_coeff_walk.specs.Places.{placesOf}
 use Rattle.hf_coeff_walk.specs.Item.{counted}
