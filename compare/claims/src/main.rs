@@ -64,8 +64,8 @@ fn unread(repository: &Repository, page: &str, rows: &[Row], house: &str) -> Vec
     let (named, calls): (Vec<_>, _) = (promises.collect(), calls(page, is_crate));
     let list = reading::read_list(house);
     let library = &repository.library();
-    let (believed, faults) = library.believed(&calls, &named, |_| true);
-    let mut faults: Vec<_> = faults.into_iter().collect();
+    let believed = library.believed(&calls, &named, |_| true);
+    let mut faults: Vec<_> = believed.faults.iter().cloned().collect();
     for (name, call) in calls.iter().filter(|call| !library.has_call(call)) {
         faults.push(format!("docs/CLAIMS.md: no function {call} of {name}"));
     }
@@ -78,7 +78,7 @@ fn unread(repository: &Repository, page: &str, rows: &[Row], house: &str) -> Vec
     faults.extend(misplaced.iter().map(|found| found.to_string()));
 
     for (subject, crates) in &list {
-        let places = believed.keys();
+        let places = believed.definitions.keys();
         let of_subject = places.filter(|place| crates.contains(&place.file.0.as_str()));
         println!("to read, {subject}: {}", reading::size(library, of_subject));
     }
@@ -88,16 +88,20 @@ fn unread(repository: &Repository, page: &str, rows: &[Row], house: &str) -> Vec
         .filter(|row| row.name.starts_with(DEMAND_3.rows));
     let of_demand = of_demand.flat_map(|row| names(row.promise, is_crate));
     let of_demand: Vec<_> = of_demand.collect();
-    let calls_alone = library.believed(&calls, &[], asked).0;
-    let demanded = library.believed(&calls, &of_demand, asked).0;
-    let theorems = library.believed(&calls, &named, asked).0;
+    let calls_alone = library.believed(&calls, &[], asked);
+    let demanded = library.believed(&calls, &of_demand, asked);
+    let theorems = library.believed(&calls, &named, asked);
     for (what, read) in [
         ("calls", calls_alone),
         ("calls and demand 3", demanded),
         ("calls and all theorems on them", theorems),
         ("all, with what stands beside the calls", believed),
     ] {
-        println!("to read, {what}: {}", reading::size(library, read.keys()));
+        let (size, types) = (
+            reading::size(library, read.definitions.keys()),
+            read.types.len(),
+        );
+        println!("to read, {what}: {size}; {types} types of the code");
     }
     faults
 }

@@ -82,7 +82,7 @@ pub fn size<'a>(library: &Library, believed: impl Iterator<Item = &'a Place>) ->
 /// What the list lacks, what it has that is not to be read, and what it has twice.
 pub fn unlisted(list: &List, believed: &Believed) -> Vec<String> {
     let mut read: BTreeMap<&str, (&Place, &str)> = BTreeMap::new();
-    for (place, by) in believed {
+    for (place, by) in &believed.definitions {
         read.entry(&place.file.0).or_insert((place, by));
     }
     let mut faults = Vec::new();
@@ -149,7 +149,7 @@ pub fn misplaced(library: &Library, believed: &Believed) -> Vec<Misplaced> {
         for (name, declared) in &read.declared {
             let (file, name) = (file.clone(), name.clone());
             let place = Place { file, name };
-            let why = match (declared.defines, believed.contains_key(&place)) {
+            let why = match (declared.defines, believed.definitions.contains_key(&place)) {
                 // A constructor goes with its data.
                 _ if declared.lines == 0 => None,
                 (_, true) => of_laws(&place.file).then_some(Why::Believed),
@@ -207,10 +207,10 @@ mod tests {
 
     fn told(calls: &[Name], named: &[Name]) -> Vec<String> {
         let library = library();
-        let (believed, faults) = library.believed(calls, named, |_| true);
+        let believed = library.believed(calls, named, |_| true);
         let found = misplaced(&library, &believed);
         let mut told: Vec<_> = found.iter().map(Misplaced::to_string).collect();
-        told.extend(faults);
+        told.extend(believed.faults);
         told
     }
 
@@ -248,7 +248,7 @@ mod tests {
 
     #[test]
     fn what_is_cited_is_there() {
-        let faults = |calls: &[Name]| library().believed(calls, &[], |_| true).1;
+        let faults = |calls: &[Name]| library().believed(calls, &[], |_| true).faults;
         assert!(faults(&[READ]).is_empty());
         let gone = "crates/call: the contract of `inner` cites `gone`, which is nowhere declared";
         assert_eq!(faults(&[("call", "inner")]).first().unwrap(), gone);
@@ -266,11 +266,11 @@ mod tests {
         let data = "pub data Answer : Type 0 where\n  yes : Answer\nabbrev pub f : ℕ\nf = yes\n\
              pub law : f ≡ yes\nlaw = refl\nuse a.B.{ℕ, _≡_}\n";
         library.add_definitions("call", "laws/Call", data);
-        let (believed, faults) = library.believed(&[], &[("call", "law")], |_| true);
-        assert!(faults.is_empty(), "{faults:?}");
-        assert_eq!(believed.len(), 3);
+        let believed = library.believed(&[], &[("call", "law")], |_| true);
+        assert!(believed.faults.is_empty());
+        assert_eq!(believed.definitions.len(), 3);
         assert_eq!(misplaced(&library, &believed).len(), 2);
-        let read = size(&library, believed.keys());
+        let read = size(&library, believed.definitions.keys());
         let expected = Size {
             crates: 1,
             files: 1,
@@ -285,7 +285,7 @@ mod tests {
     fn the_list_has_the_crates_that_are_read() {
         let faults = |crates: &str| {
             let page = format!("To believe the calls\n\n| A | B |\n|--|--|\n| all | {crates} |\n");
-            let (believed, _) = library().believed(&[READ], &[], |_| true);
+            let believed = library().believed(&[READ], &[], |_| true);
             unlisted(&read_list(&page), &believed)
         };
         assert!(faults("grid, `call`").is_empty());
