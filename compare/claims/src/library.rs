@@ -160,6 +160,12 @@ impl Library {
         found
     }
 
+    /// Crates with exported functions.
+    pub fn exporting(&self) -> BTreeSet<&str> {
+        let exported = self.contracts.iter().filter(|it| it.exported);
+        exported.map(|it| it.in_crate.as_str()).collect()
+    }
+
     /// Whether a call is a function.
     pub fn has_call(&self, call: &Name) -> bool {
         let name = |it: &Contract| (it.in_crate.as_str(), it.name.as_str()) == *call;

@@ -76,6 +76,9 @@ fn unread(repository: &Repository, page: &str, rows: &[Row], house: &str) -> Vec
         println!("{line}");
     }
     faults.extend(misplaced.iter().map(|found| found.to_string()));
+    for line in reading::homonyms(library) {
+        println!("one name in two files, {line}");
+    }
 
     for (subject, crates) in &list {
         let places = believed.definitions.keys();

@@ -5,7 +5,7 @@
 use std::collections::{BTreeMap, BTreeSet};
 
 use crate::library::{Believed, Library};
-use crate::specs::{Named, Place};
+use crate::specs::{path_of, Named, Place};
 
 /// The list: subjects with their crates.
 pub type List<'a> = Vec<(&'a str, Vec<&'a str>)>;
@@ -125,6 +125,24 @@ impl std::fmt::Display for Misplaced {
         };
         write!(to, "{} {why}", self.place)
     }
+}
+
+/// Names that two files declare among what one crate's exported functions rest on, with the files.
+pub fn homonyms(library: &Library) -> BTreeSet<String> {
+    let mut found = BTreeSet::new();
+    for exporting in library.exporting() {
+        let believed = library.believed(&[], &[], |name| name == exporting);
+        let mut files: BTreeMap<&str, Vec<String>> = BTreeMap::new();
+        for place in believed.definitions.keys() {
+            files
+                .entry(&place.name)
+                .or_default()
+                .push(path_of(&place.file));
+        }
+        let twice = files.into_iter().filter(|(_, files)| files.len() > 1);
+        found.extend(twice.map(|(name, files)| format!("`{name}`: {}", files.join(", "))));
+    }
+    found
 }
 
 /// How many stand in the wrong file, crate by crate.
@@ -279,6 +297,27 @@ mod tests {
             whole: 7,
         };
         assert_eq!(read, expected);
+    }
+
+    #[test]
+    fn a_name_of_two_files_is_told() {
+        let mut library = library();
+        library.add_definitions(
+            "two",
+            "Walk",
+            "use a.B.{ℕ}\nabbrev pub rows : ℕ\nrows = 1\n",
+        );
+        let code = |file: &str| {
+            format!(
+                "ghost use Rattle.grid.specs.Walk.{{rows}};\nghost use Rattle.{file}.{{rows as more}};\n\
+                 pub extern \"C\" fn f()\n    ensures {{ λ r. ⌜ rows more ⌝ }}\n{{\n}}\n"
+            )
+        };
+        library.add_code("one", &code("grid.specs.Walk"));
+        assert!(homonyms(&library).is_empty());
+        library.add_code("one", &code("two.specs.Walk"));
+        let told = "`rows`: crates/grid/specs/Walk.antt, crates/two/specs/Walk.antt";
+        assert_eq!(homonyms(&library).first().unwrap(), told);
     }
 
     #[test]
