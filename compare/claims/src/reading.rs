@@ -50,23 +50,34 @@ pub struct Size {
     lines: usize,
     /// Lines of their files, comments and imports too.
     whole: usize,
+    /// Types of the code.
+    types: usize,
 }
 
 impl std::fmt::Display for Size {
     fn fmt(&self, to: &mut std::fmt::Formatter) -> std::fmt::Result {
         write!(
             to,
-            "{} crates, {} files, {} definitions, {} lines of them, {} lines of the files whole",
-            self.crates, self.files, self.definitions, self.lines, self.whole
+            "{} crates, {} files, {} definitions, {} lines of them, {} lines of the files whole, \
+             {} types of the code",
+            self.crates, self.files, self.definitions, self.lines, self.whole, self.types
         )
     }
 }
 
 /// The size of what is believed.
-pub fn size<'a>(library: &Library, believed: impl Iterator<Item = &'a Place>) -> Size {
+pub fn size(library: &Library, believed: &Believed) -> Size {
+    size_in(library, believed, |_| true)
+}
+
+fn size_in(library: &Library, believed: &Believed, in_crate: impl Fn(&str) -> bool) -> Size {
     let mut size = Size::default();
     let (mut crates, mut files) = (BTreeSet::new(), BTreeSet::new());
-    for place in believed {
+    for place in believed
+        .definitions
+        .keys()
+        .filter(|it| in_crate(&it.file.0))
+    {
         let lines = library.declaration(place).lines;
         size.definitions += usize::from(lines > 0);
         size.lines += lines;
@@ -76,7 +87,17 @@ pub fn size<'a>(library: &Library, believed: impl Iterator<Item = &'a Place>) ->
     size.crates = crates.len();
     size.files = files.len();
     size.whole = files.iter().map(|file| library.files[*file].lines).sum();
+    size.types = believed.types.iter().filter(|it| in_crate(&it.0)).count();
     size
+}
+
+/// The size of each subject.
+pub fn by_subject(library: &Library, list: &List, believed: &Believed) -> Vec<String> {
+    let told = |(subject, crates): &(&str, Vec<&str>)| {
+        let size = size_in(library, believed, |name| crates.contains(&name));
+        format!("{subject}: {size}")
+    };
+    list.iter().map(told).collect()
 }
 
 /// What the list lacks, what it has that is not to be read, and what it has twice.
@@ -288,13 +309,14 @@ mod tests {
         assert!(believed.faults.is_empty());
         assert_eq!(believed.definitions.len(), 3);
         assert_eq!(misplaced(&library, &believed).len(), 2);
-        let read = size(&library, believed.definitions.keys());
+        let read = size(&library, &believed);
         let expected = Size {
             crates: 1,
             files: 1,
             definitions: 2,
             lines: 4,
             whole: 7,
+            types: 0,
         };
         assert_eq!(read, expected);
     }
