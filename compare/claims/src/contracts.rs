@@ -81,8 +81,9 @@ pub fn begins(line: &str) -> Option<(&str, bool)> {
     Some((name, public.is_some()))
 }
 
+/// A clause that goes on over lines opens no body.
 fn opens_body(line: &str) -> bool {
-    line.ends_with('{')
+    line.ends_with('{') && !line.starts_with("requires") && !line.starts_with("ensures")
 }
 
 #[cfg(test)]
@@ -111,5 +112,7 @@ mod tests {
         let found = functions(source);
         assert_eq!((found[0].name, found[0].public), ("f", false));
         assert_eq!(found[0].cites(), ["≡", "Put"]);
+        let lines = "fn f()\n    ensures {\n        ⌜ A ⌝\n    }\n{\n    B\n}\n";
+        assert_eq!(functions(lines)[0].cites(), ["A"]);
     }
 }

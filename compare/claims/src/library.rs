@@ -1,6 +1,5 @@
 //! What the promises rest on: the crates' definitions, the contracts of the calls, the theorems.
 
-use std::collections::btree_map::Entry;
 use std::collections::{BTreeMap, BTreeSet};
 
 use crate::contracts::functions;
@@ -10,11 +9,12 @@ use crate::specs::{Declaration, File, Imports, Named, Place, Source};
 /// A crate, and the name of a function, theorem or definition of it.
 pub type Name<'a> = (&'a str, &'a str);
 
-/// The crates' definitions and the contracts of their functions.
+/// The crates' definitions, the contracts of their functions, and the types of their code.
 #[derive(Default)]
 pub struct Library {
     pub files: BTreeMap<Named, File>,
     contracts: Vec<Contract>,
+    types: BTreeSet<Named>,
 }
 
 struct Contract {
@@ -25,14 +25,17 @@ struct Contract {
     cites: Vec<(String, Option<Source>)>,
 }
 
-/// Definitions, each with what rests on it.
-pub type Believed = BTreeMap<Place, String>;
-
-/// What is cited: names of files of definitions; and faults, of words that are nowhere declared.
+/// What the promises rest on.
 #[derive(Default)]
-struct Cited {
-    places: Vec<(Place, String)>,
-    faults: BTreeSet<String>,
+pub struct Believed {
+    /// Definitions, each with what cites it.
+    pub definitions: BTreeMap<Place, String>,
+    /// Types that the code declares.
+    pub types: BTreeSet<Named>,
+    /// What is cited and is nowhere declared, or is a law.
+    pub faults: BTreeSet<String>,
+    /// What is cited and was not looked at yet.
+    open: Vec<(Place, String)>,
 }
 
 impl Library {
@@ -46,12 +49,14 @@ impl Library {
         for line in source.lines().filter(|line| line.starts_with("ghost ")) {
             imports.take(line);
         }
-        // A contract may name what its own file declares.
+        let of_crate = |name: &str| (in_crate.to_string(), name.to_string());
         let own = of_code(source);
+        self.types.extend(own.iter().map(|name| of_crate(name)));
         for function in functions(source) {
             let cites = function.cites().into_iter().map(|word| {
-                let of_code = own.contains(&word).then_some(Source::Outside);
-                (word.to_string(), imports.source(word).or(of_code))
+                // A contract may name what its own file declares.
+                let of_file = own.contains(&word).then(|| Source::Type(of_crate(word)));
+                (word.to_string(), imports.source(word).or(of_file))
             });
             self.contracts.push(Contract {
                 in_crate: in_crate.to_string(),
@@ -77,28 +82,29 @@ impl Library {
         };
         let word = place.name.as_str();
         let of_type = || own(word.split_once('.')?.0);
-        match own(word)
-            .or_else(|| file.imports.source(word))
-            .or_else(of_type)?
-        {
+        let found = own(word).or_else(|| file.imports.source(word));
+        match found.or_else(of_type)? {
             Source::Definitions(found) if found != *place => self.source(&found),
             found => Some(found),
         }
     }
 
-    fn take(&self, to: &mut Cited, by: &str, word: &str, source: Option<Source>) {
+    fn take(&self, to: &mut Believed, by: &str, word: &str, source: Option<Source>) {
         match source {
-            Some(Source::Definitions(place)) => to.places.push((place, by.to_string())),
-            Some(Source::Outside) => (),
-            None => {
-                to.faults
-                    .insert(format!("{by} cites `{word}`, which is nowhere declared"));
+            Some(Source::Definitions(place)) => to.open.push((place, by.to_string())),
+            Some(Source::Type(of_code)) if self.types.contains(&of_code) => {
+                to.types.insert(of_code);
+            }
+            Some(Source::Kit) => (),
+            _ => {
+                let told = format!("{by} cites `{word}`, which is nowhere declared");
+                to.faults.insert(told);
             }
         }
     }
 
     /// What a declaration cites.
-    fn take_cites(&self, to: &mut Cited, place: &Place) {
+    fn take_cites(&self, to: &mut Believed, place: &Place) {
         for word in &self.declaration(place).cites {
             let (file, name) = (place.file.clone(), word.clone());
             let source = self.source(&Place { file, name });
@@ -108,8 +114,8 @@ impl Library {
 
     /// What the contracts of these calls and of the exported functions cite, and the statements of
     /// these theorems; of the crates that are asked for.
-    fn promised(&self, calls: &[Name], named: &[Name], asked: impl Fn(&str) -> bool) -> Cited {
-        let mut found = Cited::default();
+    fn promised(&self, calls: &[Name], named: &[Name], asked: impl Fn(&str) -> bool) -> Believed {
+        let mut found = Believed::default();
         for contract in self.contracts.iter().filter(|it| asked(&it.in_crate)) {
             let name = (contract.in_crate.as_str(), contract.name.as_str());
             if contract.exported || calls.contains(&name) {
@@ -134,26 +140,30 @@ impl Library {
         found
     }
 
-    /// Every definition that the promises rest on: cited by a promise, or by a definition that is
-    /// among them. And faults: what is cited and is nowhere declared, or no definition.
+    /// What these promises rest on: what a promise cites, or a definition that is among it.
     pub fn believed(
         &self,
         calls: &[Name],
         named: &[Name],
         asked: impl Fn(&str) -> bool,
-    ) -> (Believed, BTreeSet<String>) {
-        let mut open = self.promised(calls, named, asked);
-        let mut believed = Believed::new();
-        while let Some((place, by)) = open.places.pop() {
+    ) -> Believed {
+        let mut found = self.promised(calls, named, asked);
+        while let Some((place, by)) = found.open.pop() {
             if !self.declaration(&place).defines {
                 let told = format!("{by} cites {place}, which is a law");
-                open.faults.insert(told);
-            } else if let Entry::Vacant(new) = believed.entry(place) {
-                self.take_cites(&mut open, new.key());
-                new.insert(by);
+                found.faults.insert(told);
+            } else if !found.definitions.contains_key(&place) {
+                self.take_cites(&mut found, &place);
+                found.definitions.insert(place, by);
             }
         }
-        (believed, open.faults)
+        found
+    }
+
+    /// Crates with exported functions.
+    pub fn exporting(&self) -> BTreeSet<&str> {
+        let exported = self.contracts.iter().filter(|it| it.exported);
+        exported.map(|it| it.in_crate.as_str()).collect()
     }
 
     /// Whether a call is a function.

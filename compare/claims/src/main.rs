@@ -10,7 +10,8 @@
 //!   apart from laws, and the reading list has its crates;
 //! - crates.txt and docs/ARCHITECTURE.md have the same crates under the same headings, and nothing
 //!   points upwards;
-//! - every file that a document names is there, and every name of docs/ONE-TO-ONE.md is defined.
+//! - every file that a document names is there, every name of docs/ONE-TO-ONE.md is defined, and the
+//!   words of the glossary are those of the crates.
 //!
 //! Ends with 1 where one does not hold.
 
@@ -47,6 +48,8 @@ fn main() -> std::process::ExitCode {
     wrong.extend(unread(&repository, &page, &rows, &house));
     wrong.extend(subjects::faults(&text("crates.txt"), &house));
     wrong.extend(unnamed(&root, &repository));
+    let words = pages::glossary(&house).filter(|word| !repository.speaks(word));
+    wrong.extend(words.map(|word| format!("docs/ARCHITECTURE.md: no crate says {word}")));
     for fault in &wrong {
         println!("{fault}");
     }
@@ -57,44 +60,46 @@ fn main() -> std::process::ExitCode {
 /// What is wrong with what a reader believes; prints how much that is.
 fn unread(repository: &Repository, page: &str, rows: &[Row], house: &str) -> Vec<String> {
     let is_crate = |word: &str| repository.has_crate(word);
-    let promises = rows.iter().flat_map(|row| names(row.promise, is_crate));
-    let (named, calls): (Vec<_>, _) = (promises.collect(), calls(page, is_crate));
+    let named = |asked: &str| -> Vec<_> {
+        let rows = rows.iter().filter(|row| row.name.starts_with(asked));
+        rows.flat_map(|row| names(row.promise, is_crate)).collect()
+    };
+    let (all, of_demand) = (named(""), named(DEMAND_3.rows));
+    let calls = calls(page, is_crate);
     let list = reading::read_list(house);
     let library = &repository.library();
-    let (believed, faults) = library.believed(&calls, &named, |_| true);
-    let mut faults: Vec<_> = faults.into_iter().collect();
+    let believed = library.believed(&calls, &all, |_| true);
+    let mut faults: Vec<_> = believed.faults.iter().cloned().collect();
     for (name, call) in calls.iter().filter(|call| !library.has_call(call)) {
         faults.push(format!("docs/CLAIMS.md: no function {call} of {name}"));
     }
     let unlisted = reading::unlisted(&list, &believed).into_iter();
     faults.extend(unlisted.map(|fault| format!("docs/ARCHITECTURE.md: {fault}")));
     let misplaced = reading::misplaced(library, &believed);
+    faults.extend(misplaced.iter().map(|found| found.to_string()));
     for line in reading::by_crate(&misplaced) {
         println!("{line}");
     }
-    faults.extend(misplaced.iter().map(|found| found.to_string()));
-
-    for (subject, crates) in &list {
-        let places = believed.keys();
-        let of_subject = places.filter(|place| crates.contains(&place.file.0.as_str()));
-        println!("to read, {subject}: {}", reading::size(library, of_subject));
+    for line in reading::homonyms(library) {
+        println!("one name in two files, {line}");
+    }
+    for line in reading::by_subject(library, &list, &believed) {
+        println!("to read, {line}");
     }
     let asked = |name: &str| !reading::beside(&list, name);
-    let of_demand = rows
-        .iter()
-        .filter(|row| row.name.starts_with(DEMAND_3.rows));
-    let of_demand = of_demand.flat_map(|row| names(row.promise, is_crate));
-    let of_demand: Vec<_> = of_demand.collect();
-    let calls_alone = library.believed(&calls, &[], asked).0;
-    let demanded = library.believed(&calls, &of_demand, asked).0;
-    let theorems = library.believed(&calls, &named, asked).0;
     for (what, read) in [
-        ("calls", calls_alone),
-        ("calls and demand 3", demanded),
-        ("calls and all theorems on them", theorems),
+        ("calls", library.believed(&calls, &[], asked)),
+        (
+            "calls and demand 3",
+            library.believed(&calls, &of_demand, asked),
+        ),
+        (
+            "calls and all theorems on them",
+            library.believed(&calls, &all, asked),
+        ),
         ("all, with what stands beside the calls", believed),
     ] {
-        println!("to read, {what}: {}", reading::size(library, read.keys()));
+        println!("to read, {what}: {}", reading::size(library, &read));
     }
     faults
 }

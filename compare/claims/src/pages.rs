@@ -19,6 +19,14 @@ pub fn quoted(page: &str) -> impl Iterator<Item = &str> {
     page.split('`').skip(1).step_by(2)
 }
 
+/// The words of the glossary's first column that stand in backquotes.
+pub fn glossary(page: &str) -> impl Iterator<Item = &str> {
+    let part = page.lines().skip_while(|line| *line != "## Glossary");
+    let part = part.skip(1).take_while(|line| !line.starts_with("## "));
+    let rows = part.filter_map(|line| line.strip_prefix('|')?.split('|').next());
+    rows.flat_map(quoted)
+}
+
 /// The files that a page names and that are not there. A file of `specs/` is one of this crate.
 pub fn missing<'a>(root: &Path, page: &'a str, in_crate: &str) -> Vec<&'a str> {
     let there = |named: &str| match named.strip_prefix("specs/") {
@@ -39,6 +47,12 @@ fn names_file(text: &str) -> bool {
 #[cfg(test)]
 mod tests {
     use super::*;
+
+    #[test]
+    fn a_glossary_has_words() {
+        let page = "`a`\n## Glossary\n| Word |\n| b, `c`: `d` | `e` |\n## More\n| `f` |\n";
+        assert_eq!(glossary(page).collect::<Vec<_>>(), ["c", "d"]);
+    }
 
     #[test]
     fn files_that_are_named_are_there() {

@@ -5,7 +5,7 @@
 use std::collections::{BTreeMap, BTreeSet};
 
 use crate::library::{Believed, Library};
-use crate::specs::{Named, Place};
+use crate::specs::{path_of, Named, Place};
 
 /// The list: subjects with their crates.
 pub type List<'a> = Vec<(&'a str, Vec<&'a str>)>;
@@ -50,23 +50,34 @@ pub struct Size {
     lines: usize,
     /// Lines of their files, comments and imports too.
     whole: usize,
+    /// Types of the code.
+    types: usize,
 }
 
 impl std::fmt::Display for Size {
     fn fmt(&self, to: &mut std::fmt::Formatter) -> std::fmt::Result {
         write!(
             to,
-            "{} crates, {} files, {} definitions, {} lines of them, {} lines of the files whole",
-            self.crates, self.files, self.definitions, self.lines, self.whole
+            "{} crates, {} files, {} definitions, {} lines of them, {} lines of the files whole, \
+             {} types of the code",
+            self.crates, self.files, self.definitions, self.lines, self.whole, self.types
         )
     }
 }
 
 /// The size of what is believed.
-pub fn size<'a>(library: &Library, believed: impl Iterator<Item = &'a Place>) -> Size {
+pub fn size(library: &Library, believed: &Believed) -> Size {
+    size_in(library, believed, |_| true)
+}
+
+fn size_in(library: &Library, believed: &Believed, in_crate: impl Fn(&str) -> bool) -> Size {
     let mut size = Size::default();
     let (mut crates, mut files) = (BTreeSet::new(), BTreeSet::new());
-    for place in believed {
+    for place in believed
+        .definitions
+        .keys()
+        .filter(|it| in_crate(&it.file.0))
+    {
         let lines = library.declaration(place).lines;
         size.definitions += usize::from(lines > 0);
         size.lines += lines;
@@ -76,13 +87,23 @@ pub fn size<'a>(library: &Library, believed: impl Iterator<Item = &'a Place>) ->
     size.crates = crates.len();
     size.files = files.len();
     size.whole = files.iter().map(|file| library.files[*file].lines).sum();
+    size.types = believed.types.iter().filter(|it| in_crate(&it.0)).count();
     size
+}
+
+/// The size of each subject.
+pub fn by_subject(library: &Library, list: &List, believed: &Believed) -> Vec<String> {
+    let told = |(subject, crates): &(&str, Vec<&str>)| {
+        let size = size_in(library, believed, |name| crates.contains(&name));
+        format!("{subject}: {size}")
+    };
+    list.iter().map(told).collect()
 }
 
 /// What the list lacks, what it has that is not to be read, and what it has twice.
 pub fn unlisted(list: &List, believed: &Believed) -> Vec<String> {
     let mut read: BTreeMap<&str, (&Place, &str)> = BTreeMap::new();
-    for (place, by) in believed {
+    for (place, by) in &believed.definitions {
         read.entry(&place.file.0).or_insert((place, by));
     }
     let mut faults = Vec::new();
@@ -127,6 +148,24 @@ impl std::fmt::Display for Misplaced {
     }
 }
 
+/// Names that two files declare among what one crate's exported functions rest on, with the files.
+pub fn homonyms(library: &Library) -> BTreeSet<String> {
+    let mut found = BTreeSet::new();
+    for exporting in library.exporting() {
+        let believed = library.believed(&[], &[], |name| name == exporting);
+        let mut files: BTreeMap<&str, Vec<String>> = BTreeMap::new();
+        for place in believed.definitions.keys() {
+            files
+                .entry(&place.name)
+                .or_default()
+                .push(path_of(&place.file));
+        }
+        let twice = files.into_iter().filter(|(_, files)| files.len() > 1);
+        found.extend(twice.map(|(name, files)| format!("`{name}`: {}", files.join(", "))));
+    }
+    found
+}
+
 /// How many stand in the wrong file, crate by crate.
 pub fn by_crate(misplaced: &[Misplaced]) -> Vec<String> {
     let mut crates: BTreeMap<&str, [usize; 3]> = BTreeMap::new();
@@ -149,7 +188,7 @@ pub fn misplaced(library: &Library, believed: &Believed) -> Vec<Misplaced> {
         for (name, declared) in &read.declared {
             let (file, name) = (file.clone(), name.clone());
             let place = Place { file, name };
-            let why = match (declared.defines, believed.contains_key(&place)) {
+            let why = match (declared.defines, believed.definitions.contains_key(&place)) {
                 // A constructor goes with its data.
                 _ if declared.lines == 0 => None,
                 (_, true) => of_laws(&place.file).then_some(Why::Believed),
@@ -207,10 +246,10 @@ mod tests {
 
     fn told(calls: &[Name], named: &[Name]) -> Vec<String> {
         let library = library();
-        let (believed, faults) = library.believed(calls, named, |_| true);
+        let believed = library.believed(calls, named, |_| true);
         let found = misplaced(&library, &believed);
         let mut told: Vec<_> = found.iter().map(Misplaced::to_string).collect();
-        told.extend(faults);
+        told.extend(believed.faults);
         told
     }
 
@@ -248,7 +287,7 @@ mod tests {
 
     #[test]
     fn what_is_cited_is_there() {
-        let faults = |calls: &[Name]| library().believed(calls, &[], |_| true).1;
+        let faults = |calls: &[Name]| library().believed(calls, &[], |_| true).faults;
         assert!(faults(&[READ]).is_empty());
         let gone = "crates/call: the contract of `inner` cites `gone`, which is nowhere declared";
         assert_eq!(faults(&[("call", "inner")]).first().unwrap(), gone);
@@ -266,26 +305,48 @@ mod tests {
         let data = "pub data Answer : Type 0 where\n  yes : Answer\nabbrev pub f : ℕ\nf = yes\n\
              pub law : f ≡ yes\nlaw = refl\nuse a.B.{ℕ, _≡_}\n";
         library.add_definitions("call", "laws/Call", data);
-        let (believed, faults) = library.believed(&[], &[("call", "law")], |_| true);
-        assert!(faults.is_empty(), "{faults:?}");
-        assert_eq!(believed.len(), 3);
+        let believed = library.believed(&[], &[("call", "law")], |_| true);
+        assert!(believed.faults.is_empty());
+        assert_eq!(believed.definitions.len(), 3);
         assert_eq!(misplaced(&library, &believed).len(), 2);
-        let read = size(&library, believed.keys());
+        let read = size(&library, &believed);
         let expected = Size {
             crates: 1,
             files: 1,
             definitions: 2,
             lines: 4,
             whole: 7,
+            types: 0,
         };
         assert_eq!(read, expected);
+    }
+
+    #[test]
+    fn a_name_of_two_files_is_told() {
+        let mut library = library();
+        library.add_definitions(
+            "two",
+            "Walk",
+            "use a.B.{ℕ}\nabbrev pub rows : ℕ\nrows = 1\n",
+        );
+        let code = |file: &str| {
+            format!(
+                "ghost use Rattle.grid.specs.Walk.{{rows}};\nghost use Rattle.{file}.{{rows as more}};\n\
+                 pub extern \"C\" fn f()\n    ensures {{ λ r. ⌜ rows more ⌝ }}\n{{\n}}\n"
+            )
+        };
+        library.add_code("one", &code("grid.specs.Walk"));
+        assert!(homonyms(&library).is_empty());
+        library.add_code("one", &code("two.specs.Walk"));
+        let told = "`rows`: crates/grid/specs/Walk.antt, crates/two/specs/Walk.antt";
+        assert_eq!(homonyms(&library).first().unwrap(), told);
     }
 
     #[test]
     fn the_list_has_the_crates_that_are_read() {
         let faults = |crates: &str| {
             let page = format!("To believe the calls\n\n| A | B |\n|--|--|\n| all | {crates} |\n");
-            let (believed, _) = library().believed(&[READ], &[], |_| true);
+            let believed = library().believed(&[READ], &[], |_| true);
             unlisted(&read_list(&page), &believed)
         };
         assert!(faults("grid, `call`").is_empty());

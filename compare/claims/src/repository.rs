@@ -91,6 +91,15 @@ impl Repository {
         self.crates.keys().any(|name| self.defines(name, word))
     }
 
+    /// Whether a word stands in code or definitions.
+    pub fn speaks(&self, word: &str) -> bool {
+        let mut texts = self.crates.values().flat_map(|found| found.files.values());
+        texts.any(|text| {
+            text.split(|c| !definitions::part_of_name(c))
+                .any(|it| it == word)
+        })
+    }
+
     pub fn compares(&self, call: &str) -> bool {
         self.calls.contains(call)
     }

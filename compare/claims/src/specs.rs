@@ -43,17 +43,24 @@ pub struct Imports {
     modules: BTreeMap<String, Module>,
 }
 
-/// What a module is: a file of definitions, or one that is none (the kit's, or types that the code
-/// declares).
-type Module = Option<Named>;
+/// What a module is.
+#[derive(Clone)]
+enum Module {
+    /// A file of definitions.
+    File(Named),
+    /// A type that the code of a crate declares.
+    Type(Named),
+    Kit,
+}
 
 /// Where a word comes from.
 #[derive(Clone, PartialEq, Eq, Debug)]
 pub enum Source {
     /// A file of definitions.
     Definitions(Place),
-    /// The kit, or types that the code declares.
-    Outside,
+    /// A type that the code of a crate declares: the crate and its name.
+    Type(Named),
+    Kit,
 }
 
 #[derive(Default)]
@@ -302,10 +309,14 @@ impl Imports {
 }
 
 fn source_of(module: &Module, name: &str) -> Source {
-    module.as_ref().map_or(Source::Outside, |file| {
-        let (file, name) = (file.clone(), name.to_string());
-        Source::Definitions(Place { file, name })
-    })
+    match module.clone() {
+        Module::File(file) => Source::Definitions(Place {
+            file,
+            name: name.to_string(),
+        }),
+        Module::Type(of_code) => Source::Type(of_code),
+        Module::Kit => Source::Kit,
+    }
 }
 
 /// Whether a word is a whole path to a name.
@@ -323,16 +334,25 @@ pub fn spoken(name: &str) -> Vec<&str> {
     }
 }
 
-/// The file of a module of definitions, `Rattle.CRATE.specs.FILE` or, inside the crate,
-/// `Rattle.CRATE.specs.FILE`; of laws `.specs.laws.FILE`. None for the kit's modules, and for
-/// types that the code declares.
+/// `Rattle.CRATE.specs.FILE` or, inside the crate, `Rattle.CRATE.specs.FILE` is a file of
+/// definitions, `.specs.laws.FILE` one of laws, `.specs.declared.TYPE` a type of the code.
 fn module_of(path: &str) -> Module {
-    let path = path.strip_prefix("Rattle·")?;
-    let (in_crate, file) = path.split_once(".specs.")?;
+    let found = path.strip_prefix("Rattle·");
+    let Some((in_crate, file)) = found.and_then(|path| path.split_once(".specs.")) else {
+        return Module::Kit;
+    };
     let in_crate = in_crate.strip_suffix("·specs").unwrap_or(in_crate);
-    let of_code = file.starts_with("declared.");
-    let of_kit = KIT.contains(&in_crate);
-    (!of_code && !of_kit).then(|| (in_crate.to_string(), file.replace('.', "/")))
+    let of_crate = |name: &str| (in_crate.to_string(), name.replace('.', "/"));
+    if KIT.contains(&in_crate) {
+        return Module::Kit;
+    }
+    match file.strip_prefix("declared.") {
+        Some(path) => {
+            let path = path.trim_end_matches(".the-variants");
+            Module::Type(of_crate(path.rsplit('.').next().unwrap_or(path)))
+        }
+        None => Module::File(of_crate(file)),
+    }
 }
 
 fn without_comment(line: &str) -> &str {
@@ -424,7 +444,7 @@ mod tests {
         let path = "Rattle.layout.specs.Walk.rows";
         assert_eq!(told(path), "crates/layout/specs/Walk.antt: `rows`");
         assert_eq!(told("b"), "None");
-        assert_eq!(told("Said.Refused"), "Some(Outside)");
-        assert_eq!(told("&&"), "Some(Outside)");
+        assert_eq!(told("Said.Refused"), r#"Some(Type(("refusal", "Said")))"#);
+        assert_eq!(told("&&"), "Some(Kit)");
     }
 }

@@ -102,7 +102,7 @@ module _ (blocks : ℕ) (part : List ℕ) where
       (λ (q : ℕ). λ (j : In q ps). rw (o q j) (c q (inr j))) (h .1) e₁ in
       let f : getD g′ p 0 ≡ v = kept 0 blocks part ps (i + 1) 1 n us (at + 1) log₁ g₁ us′ at′ log′ g′ 0 e₁ .off p (d .0) ∙ getD-set-same g p v 0 (l p (inl refl)) in
       let b : unpackSigned (suc u) < 2 ^ 32 = unpack-lt (suc u) (h .0) in
-      let s : symbol (getD g′ p 0) (getD g p 0) ≡ suc u = symbol-of (suc u) (getD g′ p 0) (getD g p 0) (h .0) (c p (inl refl)) (f ∙ omega arith) in
+      let s : symbol (getD g′ p 0) (getD g p 0) ≡ suc u = symbol-of (getD g′ p 0) (getD g p 0) (suc u) (h .0) (c p (inl refl)) (f ∙ omega arith) in
       rw s (
         ap suc (r .0 ∙ same-differing ps g₁ g g′ g′ o (λ q j. refl)),
         ap (λ (t : List ℕ). suc u ∷ t) (r .1 ∙ ap (λ (t : List ℕ). t ++ us′) (same-coeffs ps n g₁ g g′ g′ o (λ q j. refl))),
