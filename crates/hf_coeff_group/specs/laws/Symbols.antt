@@ -6,7 +6,7 @@ use native.Mathlib.Omega.{arith}
 use native.Mathlib.Nat.{mul-comm, mul-pos}
 use lib.ListN.{length, drop, length-drop}
 use Rattle.dct_select.specs.Transforms.{wide, high, orderOf, turns}
-use Rattle.dct_select.specs.laws.Varblock.{places, wide-some, high-some}
+use Rattle.dct_select.specs.laws.Sides.{places, wide-some, high-some}
 use Rattle.block_sizes.specs.BlockSizes.{widthOf, heightOf}
 use Rattle.layout.specs.Valid.{Layout}
 use Rattle.layout.specs.Varblocks.{Varblock, area}

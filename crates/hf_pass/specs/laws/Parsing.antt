@@ -6,13 +6,11 @@ use native.Mathlib.Omega.{arith}
 use lib.ListN.{length}
 use borrow.Author.Tests.{eq-eqb, ne-eqb}
 use Rattle.refusal.specs.declared.Refusal.the-variants as refusal
-use Rattle.bit_place.specs.declared.Place.{Place}
+use Rattle.bits.specs.declared.Place.{Place}
 use Rattle.bits.specs.declared.Got.{Got}
 use Rattle.bits.specs.declared.Got.the-variants as got
 use Rattle.bits.specs.Bits.{Read, readU32}
-use Rattle.bit_place.specs.Place.{placeAt}
-use Rattle.bit_place.specs.laws.Place.{passed}
-use Rattle.bits.specs.Reads.{gotOf, choiceOf}
+use Rattle.bits.specs.Reads.{placeAt, bitsBefore, gotOf, choiceOf}
 use Rattle.bits.specs.laws.Laws.{was-value, was-end}
 use Rattle.block_sizes.specs.BlockSizes.{BLOCK-SIZES}
 use Rattle.hf_pass_store.specs.Store.{stored, PLACES}
@@ -45,7 +43,7 @@ module _ (bytes symbols store : List ℕ) where
 
     -- the bits as the code reads them from the start
     module _ (p : Place) (ep : p ≡ placeAt 0) (g : Got)
-        (eg : g ≡ gotOf (passed p) (readU32 bytes (passed p) (choiceOf (record { offset = 95; bits = 0 })) (choiceOf (record { offset = 19; bits = 0 })) (choiceOf (record { offset = 0; bits = 0 })) (choiceOf (record { offset = 0; bits = 13 })))) where
+        (eg : g ≡ gotOf (bitsBefore p) (readU32 bytes (bitsBefore p) (choiceOf (record { offset = 95; bits = 0 })) (choiceOf (record { offset = 19; bits = 0 })) (choiceOf (record { offset = 0; bits = 0 })) (choiceOf (record { offset = 0; bits = 13 })))) where
       used-by : gotOf 0 (usedOrders bytes) ≡ g
       used-by = sym (eg ∙ rw ep)
 
@@ -53,9 +51,9 @@ module _ (bytes symbols store : List ℕ) where
       bits-end taken e =
           let w = was-end 0 (usedOrders bytes) taken (used-by ∙ e) in
           let t : taken ≡ w .at = w .taken ∙ omega arith in
-          ap (λ (k : ℕ). outcome (answer.Refused (refusal.BitsEnd k)) store) t ∙ sym (read-on ∙ ap (λ (r : Read). read r symbols store) (w .is))
+          ap (λ (k : ℕ). outcome (answer.Refused (refusal.BitsEnd k)) store) t ∙ sym (read-on ∙ ap (λ (r : Read ℕ). read r symbols store) (w .is))
 
       pub lists-read : (used : ℕ) (q : Place) (o : Outcome) → g ≡ got.Value used q → o ≡ written (orders used symbols) → o ≡ parsed bytes symbols store
       lists-read used q o e f =
           let w = was-value 0 (usedOrders bytes) used q (used-by ∙ e) in
-          f ∙ sym (read-on ∙ ap (λ (r : Read). read r symbols store) (w .is))
+          f ∙ sym (read-on ∙ ap (λ (r : Read ℕ). read r symbols store) (w .is))

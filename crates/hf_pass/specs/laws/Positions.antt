@@ -32,7 +32,7 @@ module _ (symbols : List ℕ) (why : Said) (n : why .number ≡ 13) where
       let q : said w ≡ why = cc in
       subst (Reached (length symbols)) q (by-stop (length symbols) w (orders-refused used symbols w e) (ap (λ (s : Said). s .number) q ∙ n))
 
-  by-bits : (r : Read) (store : List ℕ) → read r symbols store .answer ≡ refuses why → Reached (length symbols) why
+  by-bits : (r : Read ℕ) (store : List ℕ) → read r symbols store .answer ≡ refuses why → Reached (length symbols) why
   by-bits (Value used at) store f = by-orders used (orders used symbols) refl f
   by-bits (Ended at) store f = absurd (let q : said (refusal.BitsEnd at) ≡ why = cc in let z : _≡_ {A = ℕ} 3 13 = ap (λ (s : Said). s .number) q ∙ n in omega arith)
 

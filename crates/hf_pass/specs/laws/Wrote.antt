@@ -36,7 +36,7 @@ of-written used symbols store n (Given ls vs m) e w =
     record { used = used; symbols = symbols; lists = ls; left = vs; count = m; given = e; is = sym s }
 of-written used symbols store n (Refused why) e w = absurd (let z : _≡_ {A = ℕ} 0 1 = cc (ap (λ (o : Outcome). o .answer) w) in omega arith)
 
-of-read : (b : Read) (symbols earlier store : List ℕ) (n : ℕ) → read b symbols earlier ≡ outcome (answer.Accepted n) store → Behind store
+of-read : (b : Read ℕ) (symbols earlier store : List ℕ) (n : ℕ) → read b symbols earlier ≡ outcome (answer.Accepted n) store → Behind store
 of-read (Value used at) symbols earlier store n e = of-written used symbols store n (orders used symbols) refl e
 of-read (Ended at) symbols earlier store n e = absurd (let z : _≡_ {A = ℕ} 0 1 = cc (ap (λ (o : Outcome). o .answer) e) in omega arith)
 

@@ -5,7 +5,7 @@ use Prim.Native.Nat.{ℕ, _+_, _*_, _-_, _<_, _≤_}
 use native.Mathlib.Omega.{arith}
 use native.Mathlib.Nat.{mul-le-mul}
 use Rattle.dct_select.specs.Transforms.{wide, high}
-use Rattle.dct_select.specs.laws.Varblock.{wide-most, high-most}
+use Rattle.dct_select.specs.laws.Sides.{wide-most, high-most}
 use Rattle.layout.specs.Grid.{at}
 use Rattle.layout.specs.Valid.{Covers, Layout}
 use Rattle.layout.specs.Varblocks.{Varblock, varblock, varblocksOf}
@@ -42,4 +42,4 @@ module _ {bw bh : ℕ} {kinds muls : List ℕ} (lay : Layout bw bh kinds muls) w
 
   -- a corner of the grid is the corner of one of them
   pub at-corner : (x y : ℕ) → x < bw → y < bh → 2 ≤ at kinds bw x y → Among (varblock x y (at kinds bw x y - 2) (at muls bw x y)) (varblocksOf bw bh kinds muls)
-  at-corner x y a b k = listed (lent bw bh kinds muls) (varblock x y (at kinds bw x y - 2) (at muls bw x y)) .1 (record { inX = a; inY = b; isType = omega arith; isMul = refl })
+  at-corner x y a b k = listed (lent bw bh kinds muls) (varblock x y (at kinds bw x y - 2) (at muls bw x y)) .1 (record { inX = a; inY = b; isType = omega arith; isHfMul = refl })

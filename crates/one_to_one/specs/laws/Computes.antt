@@ -19,7 +19,7 @@ use Rattle.layout.specs.Varblocks.{cornersRow, cornersFrom}
 use Rattle.layout.specs.Grid.{rowOf, gridFrom, fillFrom}
 use Rattle.layout.specs.Cut.{cut, groupX, groupY}
 use Rattle.layout.specs.Check.{clear, fitting, visitCell, checkRun}
-use Rattle.lf_group.specs.Blocks.{wideIn, highIn}
+use Rattle.lf_group.specs.Blocks.{bwIn, bhIn}
 use Rattle.filter_strength.specs.Strength.{scaledBy, dividedBy}
 use Rattle.filter_strength.specs.Limits.{inLimits}
 use Rattle.layout_reading.specs.Scan.{takeCell, scan}
@@ -28,7 +28,7 @@ use Rattle.hf_metadata.specs.Call.{layoutOf}
 use Rattle.block_sides.specs.Limits.{inLimits as inLimits32, lengthsFit as lengthsFit2}
 use Rattle.block_record.specs.Calls.{cutCheck}
 use Rattle.block_context_index.specs.Contexts.{sizeOf, above, lfIndexIn, placeOf}
-use Rattle.hf_block_context.specs.Call.{stored as contextsOf}
+use Rattle.hf_block_context.specs.Call.{contextsOf}
 use Rattle.hf_coeff_walk.specs.Walk.{walk, coeffContext, FREQ, NUM-NONZERO}
 use Rattle.hf_coeff_walk.specs.Places.{placesOf}
 use Rattle.hf_coeff_walk.specs.Item.{counted}
@@ -38,11 +38,11 @@ use Rattle.one_to_one.specs.Filling.{cell, isLow, wanted}
 use Rattle.one_to_one.specs.Sequence.{nonZeros, upTo, sent, theSequence}
 
 unfoldable pub layout-computes : Bool
-unfolding layoutOf wideIn highIn inLimits le lt eq reading column judge place scan takeCell rows cells wide high TRANSFORMS scaledBy dividedBy
+unfolding layoutOf bwIn bhIn inLimits le lt eq reading column judge place scan takeCell rows cells wide high TRANSFORMS scaledBy dividedBy
 layout-computes = true
 
 unfoldable pub cut-computes : Bool
-unfolding cutCheck inLimits32 lengthsFit2 wideIn highIn groupX groupY checkRun rows cells visitCell fitting clear wide high TRANSFORMS fillFrom cut gridFrom rowOf
+unfolding cutCheck inLimits32 lengthsFit2 bwIn bhIn groupX groupY checkRun rows cells visitCell fitting clear wide high TRANSFORMS fillFrom cut gridFrom rowOf
 cut-computes = true
 
 unfoldable pub bits-compute : Bool

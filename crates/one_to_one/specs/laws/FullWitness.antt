@@ -80,7 +80,7 @@ unfolding cut-computes
 cut-accepted = cut-done (bwOf columns) (bhOf columns) kinds muls 0 four four refl
 
 lengths-fit : lengthsFit full ≡ true
-unfolding context.stored
+unfolding context.contextsOf
 lengths-fit = rw (eq-eqb (length store) (2 * PLACES) store-long)
 
 two-bits : readPreset full ≡ Value 2 2

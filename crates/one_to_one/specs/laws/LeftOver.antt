@@ -4,7 +4,7 @@ use mathlib.Core.List.{List, [], _∷_}
 use Prim.Native.Nat.{ℕ}
 use native.Mathlib.Omega.{arith}
 use Rattle.layout.specs.laws.Theorems.{layout-check}
-use Rattle.hf_block_context.specs.Call.{stored as contextsOf}
+use Rattle.hf_block_context.specs.Call.{contextsOf}
 use Rattle.hf_coeff_group.specs.Pass.{varblocks, itemsOf}
 use Rattle.hf_coeff_group.specs.Group.{Grids, Reading, going, leftOf, read, group-items}
 use Rattle.hf_pass.specs.laws.Wrote.{wrote-fits}

@@ -90,7 +90,7 @@ module _ (P : Pass) (lay : LaidOut P) (contexts : fit (P .contexts) ≡ true) (w
       some = wide-some (v .type) (known lay v i);
       right = right lay v i;
       blocks = some-blocks v (known lay v i);
-      context = context-lt (P .contexts) n (orderOf (v .type)) (v .mul) (P .lfThere) _ _ _ contexts hn (order-lt (v .type) (known lay v i));
+      context = context-lt (P .contexts) n (orderOf (v .type)) (v .hfMul) (P .lfThere) _ _ _ contexts hn (order-lt (v .type) (known lay v i));
       size = places-many P whole v (known lay v i) c hc;
       places = cell-inside;
     }
@@ -101,7 +101,7 @@ module _ (P : Pass) (lay : LaidOut P) (contexts : fit (P .contexts) ≡ true) (w
 -- Places in the context map: a fit record's four lists, as far as they are used, have a product of at most 64.
 place-inside : (P : Pass) → fit (P .contexts) ≡ true → (v : Varblock) → orderOf (v .type) < 13 → (n : ℕ) → n < 3 → contextPlace P v n < 2496
 place-inside P e v o n h =
-    let a = block-index-lt (used (P .contexts)) n (orderOf (v .type)) (v .mul) (P .lfThere) (at (P .lf0) (P .width) (v .x) (v .y)) (at (P .lf1) (P .width) (v .x) (v .y)) (at (P .lf2) (P .width) (v .x) (v .y)) h o in
+    let a = block-index-lt (used (P .contexts)) n (orderOf (v .type)) (v .hfMul) (P .lfThere) (at (P .lf0) (P .width) (v .x) (v .y)) (at (P .lf1) (P .width) (v .x) (v .y)) (at (P .lf2) (P .width) (v .x) (v .y)) h o in
     omega (arith, used-size-le (P .contexts), is-fit (P .contexts) e .size)
 
 -- From items to the group.

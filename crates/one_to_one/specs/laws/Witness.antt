@@ -12,7 +12,7 @@ use Rattle.filter_strength.specs.declared.Filter.the-variants.{Off}
 use Rattle.filter_strength.specs.Strength.{zero32}
 use Rattle.hf_metadata.specs.Call.{Inputs, inputs, layoutOf, accepted}
 use Rattle.hf_pass_store.specs.Store.{PLACES}
-use Rattle.hf_block_context.specs.Call.{stored as contextsOf}
+use Rattle.hf_block_context.specs.Call.{contextsOf}
 use Rattle.hf_coeff.specs.Call.{lengthsFit, readPreset}
 use Rattle.block_check.specs.Calls.{gives}
 use Rattle.block_record.specs.Calls.{group, outcome, cutOf}

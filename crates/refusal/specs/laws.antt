@@ -1,2 +1,2 @@
 -- what is proved from the definitions
-pub mod Place
+pub mod Answer
