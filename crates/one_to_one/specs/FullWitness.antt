@@ -11,7 +11,7 @@ use Rattle.permutation.specs.Digits.{ordered}
 use Rattle.hf_pass_store.specs.Store.{stored}
 use Rattle.hf_pass_naturals.specs.Naturals.{naturals}
 use Rattle.block_context.specs.declared.HfBlockContext.{HfBlockContext}
-use Rattle.thresholds.specs.Reading.{listsOf}
+use Rattle.thresholds.specs.Thresholds.{listsOf}
 use Rattle.hf_block_context.specs.Call as context
 use Rattle.hf_coeff_group.specs.Pass.{Pass}
 use Rattle.hf_coeff_group.specs.Group.{Grids}

@@ -9,15 +9,15 @@ use Rattle.natural_order.specs.Order.{Order}
 use Rattle.natural_order.specs.laws.Order.{natural-order}
 use Rattle.natural_order.specs.Facts.{Facts}
 
-pub order-facts : (bw bh : ℕ) (l : List Place) → Order bw bh l → Facts bw bh l
-order-facts bw bh l o =
+pub order-facts : (width height : ℕ) (l : List Place) → Order width height l → Facts width height l
+order-facts width height l o =
     record {
-      long = listing-length bw bh l (o .cells);
-      inside = listing-inside bw bh l (o .cells);
-      distinct = listing-distinct bw bh l (o .cells);
-      found = listing-found bw bh l (o .cells);
+      long = listing-length width height l (o .cells);
+      inside = listing-inside width height l (o .cells);
+      distinct = listing-distinct width height l (o .cells);
+      found = listing-found width height l (o .cells);
       corner = o .corner;
     }
 
-pub natural-facts : (bw bh : ℕ) → Size bw bh → Facts bw bh (natural bw bh)
-natural-facts bw bh z = order-facts bw bh (natural bw bh) (natural-order bw bh z)
+pub natural-facts : (width height : ℕ) → Size width height → Facts width height (natural width height)
+natural-facts width height z = order-facts width height (natural width height) (natural-order width height z)

@@ -17,7 +17,7 @@ use Rattle.layout.specs.Grid.{at}
 use Rattle.layout.specs.Valid.{Covers}
 use Rattle.layout.specs.Varblocks.{Varblock}
 use Rattle.hf_pass_store.specs.Store.{stretch}
-use Rattle.hf_pass.specs.Wrote.{Wrote}
+use Rattle.hf_pass.specs.Call.{Wrote}
 use Rattle.hf_pass.specs.laws.Wrote.{listOf, wrote-order, wrote-stretch}
 use Rattle.hf_coeff_walk.specs.Places.{across, down, cellOf}
 use Rattle.natural_order.specs.laws.Flat.{paired-flat}

@@ -26,7 +26,7 @@ use Rattle.one_to_one.specs.Premises.{Holds}
 use Rattle.one_to_one.specs.laws.Premises.{set-below, put-here, put-there, put-shape}
 use Rattle.one_to_one.specs.laws.Channel.{gain-off}
 use Rattle.one_to_one.specs.laws.Items.{wrote-ordered, Ordered, low-or-held, low-not-held}
-use Rattle.hf_pass.specs.Wrote.{Wrote}
+use Rattle.hf_pass.specs.Call.{Wrote}
 use Rattle.one_to_one.specs.laws.Ways.{Way, before, work, way}
 use Rattle.one_to_one.specs.LowCells.{Place, put}
 

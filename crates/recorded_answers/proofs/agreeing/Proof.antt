@@ -7,7 +7,7 @@ use Prim.Native.Nat.{_≤_, _-_, _+_}
 use lib.ListN.{length, drop}
 use Rattle.recorded_answers.proofs.agreeing.Statement.{statement}
 use Rattle.recorded_answers.proofs.agreeing.Tie as tie
-use Rattle.recorded_answers.proofs.wide.Reads as wide-reads
+use Rattle.recorded_answers.proofs.to_usize.Reads as to-usize-reads
 
 abbrev Inv-loop : tie.InvT-loop
 Inv-loop theirs mine i₀ i = (i ≤ length theirs) × (i ≤ length mine) × (i + common (drop i theirs) (drop i mine) ≡ common theirs mine)
@@ -24,14 +24,14 @@ returns c =
     let a = at .before .before .before .args in
     (sym (common-short (a .theirs .now) (a .mine .now) (at .loop .i) (c .if1 .taken)) ∙ at .loop .inv .2, (omega arith, omega arith))
 
-mul-wide : tie.Need-mul-wide Inv-loop μ-loop
-mul-wide c = search needs
+mul-to-usize : tie.Need-mul-to-usize Inv-loop μ-loop
+mul-to-usize c = search needs
 
-shared-slice-read-wide : tie.Need-shared-slice-read-wide Inv-loop μ-loop
-shared-slice-read-wide c = search needs
+shared-slice-read-to-usize : tie.Need-shared-slice-read-to-usize Inv-loop μ-loop
+shared-slice-read-to-usize c = search needs
 
-wide-requires : tie.Need-wide-requires Inv-loop μ-loop
-wide-requires c κs = search needs
+to-usize-requires : tie.Need-to-usize-requires Inv-loop μ-loop
+to-usize-requires c κs = search needs
 
 mul-if2 : tie.Need-mul-if2 Inv-loop μ-loop
 mul-if2 c = search needs
@@ -43,7 +43,7 @@ returns-2 : tie.Need-returns-2 Inv-loop μ-loop
 returns-2 c =
     let at = c .before .before .before .before .before .before in
     let a = at .before .before .before .args in
-    let w = c .before .before .wide .ensures .0 in
+    let w = c .before .before .to-usize .ensures .0 in
     (sym (common-differs (a .theirs .now) (a .mine .now) (at .loop .i) (omega arith) (omega arith) (λ e. c .if2 .taken (w ∙ e))) ∙ at .loop .inv .2, (omega arith, omega arith))
 
 add-i : tie.Need-add-i Inv-loop μ-loop
@@ -56,7 +56,7 @@ loop-again : tie.Need-loop-again Inv-loop μ-loop
 loop-again c =
     let at = c .before .before .before .before .before .before in
     let a = at .before .before .before .args in
-    let w = c .before .before .wide .ensures .0 in
+    let w = c .before .before .to-usize .ensures .0 in
     (omega arith, omega arith, sym (common-step (a .theirs .now) (a .mine .now) (at .loop .i) (omega arith) (omega arith) (sym w ∙ c .if2 .left)) ∙ at .loop .inv .2)
 
 returns-3 : tie.Need-returns-3 Inv-loop μ-loop
@@ -73,9 +73,9 @@ agreeing-spec =
     μ-loop
     loop-holds
     returns
-    mul-wide
-    shared-slice-read-wide
-    wide-requires
+    mul-to-usize
+    shared-slice-read-to-usize
+    to-usize-requires
     mul-if2
     shared-slice-read-if2
     returns-2

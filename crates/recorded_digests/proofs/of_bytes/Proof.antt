@@ -17,11 +17,11 @@ abbrev μ-loop : tie.MeasureT-loop
 loop-holds : tie.Need-loop-holds Inv-loop μ-loop
 loop-holds c = search needs
 
-shared-slice-read-wide-byte : tie.Need-shared-slice-read-wide-byte Inv-loop μ-loop
-shared-slice-read-wide-byte c = search needs
+shared-slice-read-byte-to-u32 : tie.Need-shared-slice-read-byte-to-u32 Inv-loop μ-loop
+shared-slice-read-byte-to-u32 c = search needs
 
-wide-byte-requires : tie.Need-wide-byte-requires Inv-loop μ-loop
-wide-byte-requires c κs = search needs
+byte-to-u32-requires : tie.Need-byte-to-u32-requires Inv-loop μ-loop
+byte-to-u32-requires c κs = search needs
 
 with-requires : tie.Need-with-requires Inv-loop μ-loop
 with-requires c κs = search needs
@@ -35,15 +35,15 @@ loop-less c = search needs
 loop-again : tie.Need-loop-again Inv-loop μ-loop
 loop-again c =
     let at = c .before .before .before .before in
-    (omega arith, rw (c .with .ensures, c .before .wide-byte .ensures) (sym (digest-step (at .loop .h) (at .before .before .args .list .now) (at .loop .i) (omega arith)) ∙ at .loop .inv .1))
+    (omega arith, rw (c .with .ensures, c .before .byte-to-u32 .ensures) (sym (digest-step (at .loop .h) (at .before .before .args .list .now) (at .loop .i) (omega arith)) ∙ at .loop .inv .1))
 
-wide-requires : tie.Need-wide-requires Inv-loop μ-loop
-wide-requires c κs = search needs
+to-usize-requires : tie.Need-to-usize-requires Inv-loop μ-loop
+to-usize-requires c κs = search needs
 
 returns : tie.Need-returns Inv-loop μ-loop
 returns c =
     let at = c .before .before in
-    c .wide .ensures ∙ sym (digest-all (at .loop .h) (at .before .before .args .list .now) (at .loop .i) (omega arith)) ∙ at .loop .inv .1
+    c .to-usize .ensures ∙ sym (digest-all (at .loop .h) (at .before .before .args .list .now) (at .loop .i) (omega arith)) ∙ at .loop .inv .1
 
 pub of-bytes-spec : {M : Type 1} → statement M
 of-bytes-spec =
@@ -52,11 +52,11 @@ of-bytes-spec =
     Inv-loop
     μ-loop
     loop-holds
-    shared-slice-read-wide-byte
-    wide-byte-requires
+    shared-slice-read-byte-to-u32
+    byte-to-u32-requires
     with-requires
     add-i
     loop-less
     loop-again
-    wide-requires
+    to-usize-requires
     returns)

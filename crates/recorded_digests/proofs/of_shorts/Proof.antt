@@ -17,14 +17,14 @@ abbrev μ-loop : tie.MeasureT-loop
 loop-holds : tie.Need-loop-holds Inv-loop μ-loop
 loop-holds c = search needs
 
-mul-wide-short : tie.Need-mul-wide-short Inv-loop μ-loop
-mul-wide-short c = search needs
+mul-short-to-u32 : tie.Need-mul-short-to-u32 Inv-loop μ-loop
+mul-short-to-u32 c = search needs
 
-shared-slice-read-wide-short : tie.Need-shared-slice-read-wide-short Inv-loop μ-loop
-shared-slice-read-wide-short c = search needs
+shared-slice-read-short-to-u32 : tie.Need-shared-slice-read-short-to-u32 Inv-loop μ-loop
+shared-slice-read-short-to-u32 c = search needs
 
-wide-short-requires : tie.Need-wide-short-requires Inv-loop μ-loop
-wide-short-requires c κs = search needs
+short-to-u32-requires : tie.Need-short-to-u32-requires Inv-loop μ-loop
+short-to-u32-requires c κs = search needs
 
 with-requires : tie.Need-with-requires Inv-loop μ-loop
 with-requires c κs = search needs
@@ -38,15 +38,15 @@ loop-less c = search needs
 loop-again : tie.Need-loop-again Inv-loop μ-loop
 loop-again c =
     let at = c .before .before .before .before in
-    (omega arith, rw (c .with .ensures, c .before .wide-short .ensures) (sym (digest-step (at .loop .h) (at .before .before .args .list .now) (at .loop .i) (omega arith)) ∙ at .loop .inv .1))
+    (omega arith, rw (c .with .ensures, c .before .short-to-u32 .ensures) (sym (digest-step (at .loop .h) (at .before .before .args .list .now) (at .loop .i) (omega arith)) ∙ at .loop .inv .1))
 
-wide-requires : tie.Need-wide-requires Inv-loop μ-loop
-wide-requires c κs = search needs
+to-usize-requires : tie.Need-to-usize-requires Inv-loop μ-loop
+to-usize-requires c κs = search needs
 
 returns : tie.Need-returns Inv-loop μ-loop
 returns c =
     let at = c .before .before in
-    c .wide .ensures ∙ sym (digest-all (at .loop .h) (at .before .before .args .list .now) (at .loop .i) (omega arith)) ∙ at .loop .inv .1
+    c .to-usize .ensures ∙ sym (digest-all (at .loop .h) (at .before .before .args .list .now) (at .loop .i) (omega arith)) ∙ at .loop .inv .1
 
 pub of-shorts-spec : {M : Type 1} → statement M
 of-shorts-spec =
@@ -55,12 +55,12 @@ of-shorts-spec =
     Inv-loop
     μ-loop
     loop-holds
-    mul-wide-short
-    shared-slice-read-wide-short
-    wide-short-requires
+    mul-short-to-u32
+    shared-slice-read-short-to-u32
+    short-to-u32-requires
     with-requires
     add-i
     loop-less
     loop-again
-    wide-requires
+    to-usize-requires
     returns)

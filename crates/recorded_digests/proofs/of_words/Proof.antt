@@ -37,13 +37,13 @@ loop-again c =
     let at = c .before .before .before in
     (omega arith, rw (c .with .ensures) (sym (digest-step (at .loop .h) (at .before .before .args .list .now) (at .loop .i) (omega arith)) ∙ at .loop .inv .1))
 
-wide-requires : tie.Need-wide-requires Inv-loop μ-loop
-wide-requires c κs = search needs
+to-usize-requires : tie.Need-to-usize-requires Inv-loop μ-loop
+to-usize-requires c κs = search needs
 
 returns : tie.Need-returns Inv-loop μ-loop
 returns c =
     let at = c .before .before in
-    c .wide .ensures ∙ sym (digest-all (at .loop .h) (at .before .before .args .list .now) (at .loop .i) (omega arith)) ∙ at .loop .inv .1
+    c .to-usize .ensures ∙ sym (digest-all (at .loop .h) (at .before .before .args .list .now) (at .loop .i) (omega arith)) ∙ at .loop .inv .1
 
 pub of-words-spec : {M : Type 1} → statement M
 of-words-spec =
@@ -58,5 +58,5 @@ of-words-spec =
     add-i
     loop-less
     loop-again
-    wide-requires
+    to-usize-requires
     returns)

@@ -9,7 +9,7 @@ use Rattle.recorded_lists.proofs.frame.next.Statement.{statement}
 use Rattle.recorded_lists.proofs.frame.next.Tie as tie
 use Rattle.recorded_lists.proofs.list.has_room.Reads as has-room-reads
 use Rattle.recorded_lists.proofs.list.second.Reads as second-reads
-use Rattle.recorded_lists.proofs.wide.Reads as wide-reads
+use Rattle.recorded_lists.proofs.to_usize.Reads as to-usize-reads
 
 returns : tie.Need-returns
 unfolding frameOf
@@ -51,11 +51,11 @@ mul-t5 c =
 shared-slice-read-t9 : tie.Need-shared-slice-read-t9
 shared-slice-read-t9 c = omega (arith, ends (c .before))
 
-wide-requires : tie.Need-wide-requires
-wide-requires c κs = search needs
+to-usize-requires : tie.Need-to-usize-requires
+to-usize-requires c κs = search needs
 
 add-t11 : tie.Need-add-t11
-add-t11 c = omega (arith, ends (c .before .before), c .wide .ensures .0, c .before .before .before .before .second .ensures)
+add-t11 c = omega (arith, ends (c .before .before), c .to-usize .ensures .0, c .before .before .before .before .second .ensures)
 
 returns-3 : tie.Need-returns-3
 unfolding frameOf
@@ -63,7 +63,7 @@ returns-3 c =
     let a = c .before .before .before .before .before .before .before .args in
     let w = a .words .now in
     rw (
-      c .wide .ensures .0,
+      c .to-usize .ensures .0,
       c .before .before .before .before .second .ensures,
       ne-eqb (a .at) (length w) (c .before .before .before .before .before .if1 .left),
       le-leb (a .at + 2 + getD w (a .at + 1) 0) (length w) (ends (c .before .before)),
@@ -80,6 +80,6 @@ next-spec =
     add-start
     mul-t5
     shared-slice-read-t9
-    wide-requires
+    to-usize-requires
     add-t11
     returns-3)

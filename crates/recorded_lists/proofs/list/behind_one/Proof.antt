@@ -9,7 +9,7 @@ use Rattle.recorded_lists.proofs.list.behind_one.Statement.{statement}
 use Rattle.recorded_lists.proofs.list.behind_one.Tie as tie
 use Rattle.recorded_lists.proofs.list.has_room.Reads as has-room-reads
 use Rattle.recorded_lists.proofs.list.number.Reads as number-reads
-use Rattle.recorded_lists.proofs.wide.Reads as wide-reads
+use Rattle.recorded_lists.proofs.to_usize.Reads as to-usize-reads
 
 number-requires : tie.Need-number-requires
 number-requires c κs = search needs
@@ -37,17 +37,17 @@ ends c =
 add-result : tie.Need-add-result
 add-result c = omega (arith, ends c)
 
-wide-requires : tie.Need-wide-requires
-wide-requires c κs = search needs
+to-usize-requires : tie.Need-to-usize-requires
+to-usize-requires c κs = search needs
 
 add-result-2 : tie.Need-add-result-2
-add-result-2 c = omega (arith, ends (c .before), c .wide .ensures .0, c .before .before .before .number .ensures)
+add-result-2 c = omega (arith, ends (c .before), c .to-usize .ensures .0, c .before .before .before .number .ensures)
 
 returns-2 : tie.Need-returns-2
 returns-2 c =
     let a = c .before .before .before .before .before .args in
     let w = a .words .now in
-    rw (c .wide .ensures .0, c .before .before .before .number .ensures, le-leb (a .at + 2 + getD w (a .at) 0) (length w) (ends (c .before)))
+    rw (c .to-usize .ensures .0, c .before .before .before .number .ensures, le-leb (a .at + 2 + getD w (a .at) 0) (length w) (ends (c .before)))
 
 pub behind-one-spec : {M : Type 1} → statement M
 behind-one-spec =
@@ -57,6 +57,6 @@ behind-one-spec =
     has-room-requires
     returns
     add-result
-    wide-requires
+    to-usize-requires
     add-result-2
     returns-2)
