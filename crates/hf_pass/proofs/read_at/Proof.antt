@@ -1,7 +1,7 @@
 use borrow.Author.Needs.{needs}
 use native.Mathlib.Omega.{arith}
-use mathlib.Core.Path.{refl, sym, _∙_}
-use Prim.Native.Nat.{_-_, _+_, _*_, _<_, _≤_}
+use mathlib.Core.Path.{refl}
+use Prim.Native.Nat.{_-_, _+_, _*_}
 use borrow.Rule.Slice.PartMut.{putMid}
 use Rattle.hf_pass.specs.laws.Progress.{ListAt, list-at, after-list}
 use Rattle.hf_pass.proofs.read_at.Statement.{statement}

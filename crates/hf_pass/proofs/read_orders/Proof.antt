@@ -1,6 +1,5 @@
 use borrow.Author.Needs.{needs}
-use native.Mathlib.Omega.{arith}
-use mathlib.Core.Path.{_≡_, _∙_, ap}
+use mathlib.Core.Path.{_∙_, ap}
 use lib.ListN.{length}
 use Rattle.hf_pass_naturals.specs.laws.Naturals.{natural-store, whole-long}
 use Rattle.hf_pass.proofs.read_orders.Statement.{statement}

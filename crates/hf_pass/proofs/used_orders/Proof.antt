@@ -1,5 +1,4 @@
 use borrow.Author.Needs.{needs}
-use native.Mathlib.Omega.{arith}
 use mathlib.Core.Path.{_∙_}
 use Rattle.hf_pass.proofs.used_orders.Statement.{statement}
 use Rattle.hf_pass.proofs.used_orders.Tie as tie

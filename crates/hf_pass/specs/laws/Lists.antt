@@ -13,10 +13,10 @@ use borrow.Author.Tests.{lt-ltb, le-leb, lt-leb}
 use Rattle.refusal.specs.declared.Refusal.the-variants as refusal
 use Rattle.natural_order.specs.Places.{Place, flat, paired}
 use Rattle.natural_order.specs.Natural.{natural}
-use Rattle.natural_order.specs.Sizes.{Size}
+use Rattle.natural_order.specs.Order.{Size}
 use Rattle.natural_order.specs.laws.Sizes.{not-higher}
 use Rattle.natural_order.specs.laws.Turns.{natural-numbers}
-use Rattle.natural_order.specs.laws.Facts.{natural-facts}
+use Rattle.natural_order.specs.laws.Order.{natural-facts}
 use Rattle.permutation.specs.Digits.{ordered}
 use Rattle.permutation_digits.specs.laws.Leading.{leading, leading-most}
 use Rattle.permutation.specs.laws.Permuted.{allBelow, permuted}

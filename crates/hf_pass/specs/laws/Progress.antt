@@ -18,8 +18,7 @@ use Rattle.natural_order.specs.laws.Sizes.{size-of}
 use Rattle.natural_order.specs.laws.Turns.{flat-length, natural-numbers}
 use Rattle.natural_order.specs.laws.Listing.{listing-length}
 use Rattle.natural_order.specs.laws.Filling.{Sided, sided}
-use Rattle.hf_pass_store.specs.Store.{stored, PLACES}
-use Rattle.hf_pass_store.specs.Offsets.{from}
+use Rattle.hf_pass_store.specs.Store.{stored, PLACES, from}
 use Rattle.hf_pass_store.specs.laws.Offsets.{from-start, from-step, from-most, from-end, sizes-13, third, places-by}
 use Rattle.hf_pass_naturals.specs.Naturals.{naturals}
 use Rattle.hf_pass_naturals.specs.laws.Naturals.{whole-long}

@@ -12,10 +12,9 @@ use Rattle.refusal.specs.declared.Refusal.{Refusal}
 use Rattle.refusal.specs.declared.Refusal.the-variants as refusal
 use Rattle.natural_order.specs.Places.{Place}
 use Rattle.natural_order.specs.Natural.{natural}
-use Rattle.natural_order.specs.Sizes.{Size}
+use Rattle.natural_order.specs.Order.{Size, Order}
 use Rattle.permutation.specs.Digits.{Below, ordered}
 use Rattle.hf_pass.specs.Orders.{FromSymbols, Given, Refused, then, check, digits, oneList, Entry, entryList, lists, Stops}
-use Rattle.natural_order.specs.Order.{Order}
 use Rattle.natural_order.specs.laws.Order.{natural-order}
 use Rattle.permutation.specs.laws.Chosen.{ordered-order}
 

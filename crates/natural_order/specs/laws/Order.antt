@@ -4,10 +4,12 @@ use Prim.Native.Nat.{ℕ, _*_, _-_, _/_}
 use native.Mathlib.Nat.{mul-div-cancel, mul-assoc}
 use native.Mathlib.Omega.{arith}
 use Rattle.natural_order.specs.Natural.{natural}
-use Rattle.natural_order.specs.Sizes.{Size}
+use Rattle.natural_order.specs.Order.{Size, Order, Facts}
 use Rattle.natural_order.specs.laws.Sizes.{width-eights, height-by}
 use Rattle.natural_order.specs.laws.Whole.{natural-lists, natural-corner}
-use Rattle.natural_order.specs.Order.{Order}
+use mathlib.Core.List.{List}
+use Rattle.natural_order.specs.Places.{Place}
+use Rattle.natural_order.specs.laws.Listing.{listing-length, listing-inside, listing-distinct, listing-found}
 
 swap : (w k : ℕ) → w * 8 * (k * 8) ≡ w * k * 64
 swap w k =
@@ -22,3 +24,16 @@ skip-by width height z =
 
 pub natural-order : (width height : ℕ) → Size width height → Order width height (natural width height)
 natural-order width height z = record { cells = natural-lists width height z; corner = rw (skip-by width height z) (natural-corner width height) }
+
+pub order-facts : (width height : ℕ) (l : List Place) → Order width height l → Facts width height l
+order-facts width height l o =
+    record {
+      long = listing-length width height l (o .cells);
+      inside = listing-inside width height l (o .cells);
+      distinct = listing-distinct width height l (o .cells);
+      found = listing-found width height l (o .cells);
+      corner = o .corner;
+    }
+
+pub natural-facts : (width height : ℕ) → Size width height → Facts width height (natural width height)
+natural-facts width height z = order-facts width height (natural width height) (natural-order width height z)

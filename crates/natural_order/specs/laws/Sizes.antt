@@ -11,7 +11,7 @@ use Rattle.laws.specs.Tables.{every}
 use Rattle.laws.specs.laws.Tables.{at-each}
 use Rattle.block_sizes.specs.BlockSizes.{BLOCK-SIZES, widthOf, heightOf}
 use Rattle.natural_order.specs.Places.{Place}
-use Rattle.natural_order.specs.Sizes.{Size}
+use Rattle.natural_order.specs.Order.{Size}
 
 abbrev pub right : Place → Bool
 right s = eqb (s .1 % 8) 0 && (eqb (s .0 % s .1) 0 && (leb 1 (s .1) && leb 1 (s .0)))

@@ -10,8 +10,8 @@ use lib.Seq.{sets, sets-eq}
 use Rattle.laws.specs.laws.Lists.{sets-append}
 use Rattle.natural_order.specs.Places.{Place, run, joins, flat}
 use Rattle.natural_order.specs.Natural.{spot, diagonal, square, listed, keep, rows, natural}
-use Rattle.natural_order.specs.Sizes.{Size}
-use Rattle.natural_order.specs.laws.Facts.{natural-facts}
+use Rattle.natural_order.specs.Order.{Size}
+use Rattle.natural_order.specs.laws.Order.{natural-facts}
 
 -- runs and joined lists from o to e
 pub run-from : (f : ℕ → Place) (o e : ℕ) → o < e → run f (e - o) o ≡ f o ∷ run f (e - (o + 1)) (o + 1)

@@ -16,7 +16,7 @@ use Rattle.natural_order.specs.laws.Rows.{by-inside, inside-yes, inside-
 use Rattle.natural_order.specs.laws.Square.{square-lists}
 use Rattle.natural_order.specs.laws.Keep.{counted, keep-count}
 use Rattle.natural_order.specs.laws.Bools.{and-false}
-use Rattle.natural_order.specs.Sizes.{Size}
+use Rattle.natural_order.specs.Order.{Size}
 use Rattle.natural_order.specs.laws.Sizes.{s-some, row-in, row-out, corner-in, corner-out, width-eights, height-by}
 
 counted-none : (b : Bool) (n : ℕ) → n ≡ 0 → counted b n ≡ 0

@@ -17,11 +17,10 @@ use Rattle.dct_select.specs.laws.Rules.{below-27}
 use Rattle.laws.specs.Tables.{each}
 use Rattle.natural_order.specs.Places.{Place, is, tally, count}
 use Rattle.natural_order.specs.laws.Bools.{tally-one}
-use Rattle.natural_order.specs.Sizes.{Size}
+use Rattle.natural_order.specs.Order.{Size, Order}
 use Rattle.natural_order.specs.laws.Sizes.{size-of, width-eights, height-by}
 use Rattle.natural_order.specs.laws.Counts.{is-hit}
 use Rattle.natural_order.specs.laws.Listing.{hit-of, listing-length, self, inside-of}
-use Rattle.natural_order.specs.Order.{Order}
 use Rattle.natural_order.specs.laws.Order.{skip-by}
 use Rattle.natural_order.specs.laws.Beyond.{beyond-count, corner-none, other-once}
 use Rattle.hf_coeff_walk.specs.Places.{across, down, cellOf, placesOf}

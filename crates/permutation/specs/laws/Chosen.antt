@@ -7,10 +7,9 @@ use native.Mathlib.Omega.{arith}
 use lib.ListN.{length, getD, take, drop, take-append-drop, length-drop}
 use lib.Seq.{take-at, length-take-le}
 use Rattle.natural_order.specs.Places.{Place, is, tally, count}
-use Rattle.natural_order.specs.Sizes.{Size}
+use Rattle.natural_order.specs.Order.{Size, Order}
 use Rattle.natural_order.specs.laws.Counts.{count-append}
 use Rattle.natural_order.specs.laws.Listing.{listing-length}
-use Rattle.natural_order.specs.Order.{Order}
 use Rattle.permutation.specs.Digits.{without, chosen, ordered, Below}
 
 module _ {A : Type 0} where

@@ -15,29 +15,11 @@ Inv-loop theirs mine i₀ i = (i ≤ length theirs) × (i ≤ length mine) × (i
 abbrev μ-loop : tie.MeasureT-loop
 μ-loop theirs mine i₀ i = length mine - i
 
-loop-holds : tie.Need-loop-holds Inv-loop μ-loop
-loop-holds c = search needs
-
 returns : tie.Need-returns Inv-loop μ-loop
 returns c =
     let at = c .before .before in
     let a = at .before .before .before .args in
     (sym (common-short (a .theirs .now) (a .mine .now) (at .loop .i) (c .if1 .taken)) ∙ at .loop .inv .2, (omega arith, omega arith))
-
-mul-to-usize : tie.Need-mul-to-usize Inv-loop μ-loop
-mul-to-usize c = search needs
-
-shared-slice-read-to-usize : tie.Need-shared-slice-read-to-usize Inv-loop μ-loop
-shared-slice-read-to-usize c = search needs
-
-to-usize-requires : tie.Need-to-usize-requires Inv-loop μ-loop
-to-usize-requires c κs = search needs
-
-mul-if2 : tie.Need-mul-if2 Inv-loop μ-loop
-mul-if2 c = search needs
-
-shared-slice-read-if2 : tie.Need-shared-slice-read-if2 Inv-loop μ-loop
-shared-slice-read-if2 c = search needs
 
 returns-2 : tie.Need-returns-2 Inv-loop μ-loop
 returns-2 c =
@@ -45,12 +27,6 @@ returns-2 c =
     let a = at .before .before .before .args in
     let w = c .before .before .to-usize .ensures .0 in
     (sym (common-differs (a .theirs .now) (a .mine .now) (at .loop .i) (omega arith) (omega arith) (λ e. c .if2 .taken (w ∙ e))) ∙ at .loop .inv .2, (omega arith, omega arith))
-
-add-i : tie.Need-add-i Inv-loop μ-loop
-add-i c = search needs
-
-loop-less : tie.Need-loop-less Inv-loop μ-loop
-loop-less c = search needs
 
 loop-again : tie.Need-loop-again Inv-loop μ-loop
 loop-again c =
@@ -67,19 +43,6 @@ returns-3 c =
 
 pub agreeing-spec : {M : Type 1} → statement M
 agreeing-spec =
-    tie.close
-    (tie.spec
-    Inv-loop
-    μ-loop
-    loop-holds
-    returns
-    mul-to-usize
-    shared-slice-read-to-usize
-    to-usize-requires
-    mul-if2
-    shared-slice-read-if2
-    returns-2
-    add-i
-    loop-less
-    loop-again
-    returns-3)
+    tie.close (tie.spec Inv-loop μ-loop (λ c. search needs) returns (λ c. search needs) (λ c. search needs)
+    (λ c κs. search needs) (λ c. search needs) (λ c. search needs) returns-2 (λ c. search needs)
+    (λ c. search needs) loop-again returns-3)

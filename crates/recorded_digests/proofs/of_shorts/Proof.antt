@@ -14,34 +14,10 @@ Inv-loop list h₀ i₀ h i = (i ≤ length list) × (digest h (drop i list) ≡
 abbrev μ-loop : tie.MeasureT-loop
 μ-loop list h₀ i₀ h i = length list - i
 
-loop-holds : tie.Need-loop-holds Inv-loop μ-loop
-loop-holds c = search needs
-
-mul-short-to-u32 : tie.Need-mul-short-to-u32 Inv-loop μ-loop
-mul-short-to-u32 c = search needs
-
-shared-slice-read-short-to-u32 : tie.Need-shared-slice-read-short-to-u32 Inv-loop μ-loop
-shared-slice-read-short-to-u32 c = search needs
-
-short-to-u32-requires : tie.Need-short-to-u32-requires Inv-loop μ-loop
-short-to-u32-requires c κs = search needs
-
-with-requires : tie.Need-with-requires Inv-loop μ-loop
-with-requires c κs = search needs
-
-add-i : tie.Need-add-i Inv-loop μ-loop
-add-i c = search needs
-
-loop-less : tie.Need-loop-less Inv-loop μ-loop
-loop-less c = search needs
-
 loop-again : tie.Need-loop-again Inv-loop μ-loop
 loop-again c =
     let at = c .before .before .before .before in
     (omega arith, rw (c .with .ensures, c .before .short-to-u32 .ensures) (sym (digest-step (at .loop .h) (at .before .before .args .list .now) (at .loop .i) (omega arith)) ∙ at .loop .inv .1))
-
-to-usize-requires : tie.Need-to-usize-requires Inv-loop μ-loop
-to-usize-requires c κs = search needs
 
 returns : tie.Need-returns Inv-loop μ-loop
 returns c =
@@ -50,17 +26,6 @@ returns c =
 
 pub of-shorts-spec : {M : Type 1} → statement M
 of-shorts-spec =
-    tie.close
-    (tie.spec
-    Inv-loop
-    μ-loop
-    loop-holds
-    mul-short-to-u32
-    shared-slice-read-short-to-u32
-    short-to-u32-requires
-    with-requires
-    add-i
-    loop-less
-    loop-again
-    to-usize-requires
+    tie.close (tie.spec Inv-loop μ-loop (λ c. search needs) (λ c. search needs) (λ c. search needs) (λ c κs. search needs)
+    (λ c κs. search needs) (λ c. search needs) (λ c. search needs) loop-again (λ c κs. search needs)
     returns)

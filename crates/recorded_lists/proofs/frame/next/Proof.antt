@@ -15,12 +15,6 @@ returns : tie.Need-returns
 unfolding frameOf
 returns c = let a = c .before .before .args in rw (eq-eqb (a .at) (length (a .words .now)) (c .if1 .taken))
 
-second-requires : tie.Need-second-requires
-second-requires c κs = search needs
-
-has-room-requires : tie.Need-has-room-requires
-has-room-requires c κs = search needs
-
 returns-2 : tie.Need-returns-2
 unfolding frameOf
 returns-2 c =
@@ -51,9 +45,6 @@ mul-t5 c =
 shared-slice-read-t9 : tie.Need-shared-slice-read-t9
 shared-slice-read-t9 c = omega (arith, ends (c .before))
 
-to-usize-requires : tie.Need-to-usize-requires
-to-usize-requires c κs = search needs
-
 add-t11 : tie.Need-add-t11
 add-t11 c = omega (arith, ends (c .before .before), c .to-usize .ensures .0, c .before .before .before .before .second .ensures)
 
@@ -71,15 +62,5 @@ returns-3 c =
 
 pub next-spec : {M : Type 1} → statement M
 next-spec =
-    tie.close
-    (tie.spec
-    returns
-    second-requires
-    has-room-requires
-    returns-2
-    add-start
-    mul-t5
-    shared-slice-read-t9
-    to-usize-requires
-    add-t11
-    returns-3)
+    tie.close (tie.spec returns (λ c κs. search needs) (λ c κs. search needs) returns-2 add-start mul-t5
+    shared-slice-read-t9 (λ c κs. search needs) add-t11 returns-3)

@@ -11,9 +11,6 @@ use Rattle.recorded_lists.proofs.list.has_room.Reads as has-room-reads
 use Rattle.recorded_lists.proofs.list.second.Reads as second-reads
 use Rattle.recorded_lists.proofs.to_usize.Reads as to-usize-reads
 
-has-room-requires : tie.Need-has-room-requires
-has-room-requires c κs = search needs
-
 returns : tie.Need-returns
 returns c =
     let a = c .before .before .before .args in
@@ -28,12 +25,6 @@ head c =
     let f = c .before .has-room in
     let l = in-room (f .result) (a .at) 0 0 (a .bytes / 4) (f .ensures) refl (c .if1 .left) in
     omega (arith, l)
-
-second-requires : tie.Need-second-requires
-second-requires c κs = search needs
-
-to-usize-requires : tie.Need-to-usize-requires
-to-usize-requires c κs = search needs
 
 add-start : tie.Need-add-start
 add-start c = omega (arith, head (c .before .before))
@@ -61,15 +52,5 @@ returns-3 c =
 
 pub byte-span-spec : {M : Type 1} → statement M
 byte-span-spec =
-    tie.close
-    (tie.spec
-    has-room-requires
-    returns
-    second-requires
-    to-usize-requires
-    add-start
-    mul-start
-    sub-if2
-    returns-2
-    add-t7
-    returns-3)
+    tie.close (tie.spec (λ c κs. search needs) returns (λ c κs. search needs) (λ c κs. search needs) add-start mul-start
+    sub-if2 returns-2 add-t7 returns-3)

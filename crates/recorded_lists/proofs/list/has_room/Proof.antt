@@ -7,12 +7,6 @@ use Rattle.recorded_lists.proofs.list.has_room.Statement.{statement}
 use Rattle.recorded_lists.proofs.list.has_room.Tie as tie
 use Rattle.recorded_lists.proofs.to_usize.Reads as to-usize-reads
 
-to-usize-requires : tie.Need-to-usize-requires
-to-usize-requires c κs = search needs
-
-add-size : tie.Need-add-size
-add-size c = search needs
-
 returns : tie.Need-returns
 returns c =
     let a = c .before .before .args in rw (lt-leb (a .at + 2 + a .n) (a .most) (omega (arith, c .before .to-usize .ensures .0)))
@@ -24,4 +18,5 @@ returns-2 c =
     rw w (room (a .at) (a .n) (a .most) (omega (arith, w)))
 
 pub has-room-spec : {M : Type 1} → statement M
-has-room-spec = tie.close (tie.spec to-usize-requires add-size returns returns-2)
+has-room-spec =
+    tie.close (tie.spec (λ c κs. search needs) (λ c. search needs) returns returns-2)
