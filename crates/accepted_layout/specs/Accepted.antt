@@ -18,7 +18,7 @@ module _ (J : Job) where
   -- at (x, y): the blocks before it are taken, and corners are before it
   pub record Sofar (x y : ℕ) (p : Placed) : Type 0 where
     pub lengthK : length (p .kinds) ≡ J .bh * J .bw
-    pub lengthM : length (p .muls) ≡ J .bh * J .bw
-    pub part : Part (J .bw) (J .bh) (at (p .kinds) (J .bw)) (at (p .muls) (J .bw))
+    pub lengthM : length (p .hfMul) ≡ J .bh * J .bw
+    pub part : Part (J .bw) (J .bh) (at (p .kinds) (J .bw)) (at (p .hfMul) (J .bw))
     pub done : (a b : ℕ) → a < J .bw → b < J .bh → Before a b x y → 0 < at (p .kinds) (J .bw) a b
     pub behind : (a b : ℕ) → a < J .bw → b < J .bh → 2 ≤ at (p .kinds) (J .bw) a b → Before a b x y

@@ -20,5 +20,5 @@ outcome answer kinds hfMul sigma = record { answer = answer; kinds = kinds; hfMu
 
 -- 4 to 10 leave layout and sigma all zero
 abbrev pub outcomeOf : (J : Job) → Reading → Outcome
-outcomeOf J (Going p) = outcome (accepted (p .used)) (p .kinds) (p .muls) (p .sigma)
+outcomeOf J (Going p) = outcome (accepted (p .used)) (p .kinds) (p .hfMul) (p .sigma)
 outcomeOf J (Stopped r) = outcome (refused r) (zeros J) (zeros J) (zeros J)

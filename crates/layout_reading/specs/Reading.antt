@@ -31,7 +31,7 @@ pub record Job : Type 0 where
 pub record Placed : Type 0 where
   pub used : ℕ
   pub kinds : List ℕ
-  pub muls : List ℕ
+  pub hfMul : List ℕ
   pub sigma : List ℕ
 
 pub data Reading : Type 0 where
@@ -49,7 +49,7 @@ placed bw kind h x y p (Taking kinds sigma) =
     Going (record {
       used = p .used + 1;
       kinds = set kinds (y * bw + x) kind;
-      muls = set (p .muls) (y * bw + x) h;
+      hfMul = set (p .hfMul) (y * bw + x) h;
       sigma = sigma;
     })
 
@@ -81,7 +81,7 @@ module _ (J : Job) where
   zeros = replicate (J .bh * J .bw) 0
 
   abbrev pub start : Placed
-  start = record { used = 0; kinds = zeros; muls = zeros; sigma = zeros }
+  start = record { used = 0; kinds = zeros; hfMul = zeros; sigma = zeros }
 
   unfoldable pub reading : Reading
   reading = walk visit (J .bw) (J .bh) (Going start)

@@ -3,7 +3,7 @@ use crate::scan::Scanned;
 use crate::scan::scan;
 use filter_strength::ScaledFilter;
 use layout_column::Judged;
-use layout_column::Varblock;
+use layout_column::JudgedColumn;
 use layout_column::judge;
 use refusal::Refusal;
 ghost use mathlib.Core.Path.{_≡_};
@@ -29,7 +29,7 @@ fn place(
     filter: ScaledFilter,
     bw: usize,
     bh: usize,
-    v: Varblock,
+    v: JudgedColumn,
     used: usize,
     x: usize,
     y: usize,

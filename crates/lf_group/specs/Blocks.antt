@@ -28,8 +28,8 @@ abbrev pub evenIf : Bool → ℕ → ℕ
 evenIf even n = cond even ((n + 1) / 2 * 2) n
 
 -- bw is made even if a mode is 1 or 2, bh if one is 1 or 3
-unfoldable pub wideIn : ℕ → List ℕ → ℕ
-wideIn width modes = evenIf (anyEither modes 1 2) (blocks width)
+unfoldable pub bwIn : ℕ → List ℕ → ℕ
+bwIn width modes = evenIf (anyEither modes 1 2) (blocks width)
 
-unfoldable pub highIn : ℕ → List ℕ → ℕ
-highIn height modes = evenIf (anyEither modes 1 3) (blocks height)
+unfoldable pub bhIn : ℕ → List ℕ → ℕ
+bhIn height modes = evenIf (anyEither modes 1 3) (blocks height)

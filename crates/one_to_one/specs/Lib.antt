@@ -7,7 +7,6 @@ pub mod FullWitness
 pub mod LeftOver
 pub mod Inside
 -- laws
-pub mod Symbols
 pub mod Sequence
 pub mod Places
 pub mod Premises

@@ -9,17 +9,13 @@ pub mod Witness
 pub mod FullWitness
 pub mod LeftOver
 pub mod NeverOutside
-pub mod Symbols
 pub mod Places
-pub mod Contexts
 pub mod Channel
 pub mod Premises
 pub mod Whole
 pub mod Existence
 pub mod OneToOne
 pub mod Spread
-pub mod Corners
-pub mod Rectangles
 pub mod Items
 pub mod OverCall
 pub mod Logging

@@ -9,7 +9,7 @@ use lib.ListN.{length, getD, length-replicate, getD-replicate}
 use borrow.Author.Tests.{eqb-false}
 use Rattle.laws.specs.laws.Cases.{eq-or-ne}
 use Rattle.dct_select.specs.Transforms.{wide, high}
-use Rattle.dct_select.specs.laws.Varblock.{wide-some, high-some}
+use Rattle.dct_select.specs.laws.Sides.{wide-some, high-some}
 use Rattle.layout.specs.Kinds.{wideOf, highOf}
 use Rattle.layout.specs.laws.Walk.{forward}
 use Rattle.layout.specs.Grid.{at}
@@ -117,14 +117,14 @@ module _ (bw bh : ℕ) (K M K′ M′ : Cells) (t h x y : ℕ) (r : Part bw bh K
   }
     where
       f : (a b : ℕ) → a < bw → b < bh → 2 ≤ K′ a b → Spot x y (wide t) (high t) a b → Fits bw bh a b (K′ a b) (M′ a b)
-      f a b i j c (corner e) = rw (e .0, e .1, s .atCorner, s .mulCorner) fit
+      f a b i j c (corner e) = rw (e .0, e .1, s .atCorner, s .hfMulCorner) fit
       f a b i j c (body n q) = absurd (let z = s .inBody a b n q in omega arith)
-      f a b i j c (beyond n) = let z = s .elsewhere a b i n in rw (z, s .mulOther a b i (λ e. n (in-corner a b e))) (r .fits a b i j (omega arith))
+      f a b i j c (beyond n) = let z = s .elsewhere a b i n in rw (z, s .hfMulOther a b i (λ e. n (in-corner a b e))) (r .fits a b i j (omega arith))
 
       g : (a b : ℕ) → a < bw → b < bh → K′ a b < 2 → Spot x y (wide t) (high t) a b → M′ a b ≡ 0
       g a b i j c (corner e) = absurd (let w : K′ a b ≡ K′ x y = rw (e .0, e .1) in let z = s .atCorner in omega arith)
-      g a b i j c (body n q) = s .mulOther a b i n ∙ r .bare a b i j (let z = free a b q in omega arith)
-      g a b i j c (beyond n) = s .mulOther a b i (λ e. n (in-corner a b e)) ∙ r .bare a b i j (let z = s .elsewhere a b i n in omega arith)
+      g a b i j c (body n q) = s .hfMulOther a b i n ∙ r .bare a b i j (let z = free a b q in omega arith)
+      g a b i j c (beyond n) = s .hfMulOther a b i (λ e. n (in-corner a b e)) ∙ r .bare a b i j (let z = s .elsewhere a b i n in omega arith)
 
       u : (a b c d : ℕ) → a < bw → b < bh → Covers K′ c d a b → Here x y c d ⊎ Covers K c d a b → Spot x y (wide t) (high t) a b → 0 < K′ a b
       u a b c d i j v w (corner e) = let q : K′ a b ≡ K′ x y = rw (e .0, e .1) in let z = s .atCorner in omega arith
@@ -164,10 +164,10 @@ module _ (J : Job) where
   pub after : (x y t h : ℕ) (p p′ : Placed) → Column J x y p p′ t h → Sofar J x y p → (a b c d : ℕ) → a < J .bw → Covers (at (p′ .kinds) (J .bw)) c d a b
       → (Here x y c d × InRect x y (wide t) (high t) a b) ⊎ Covers (at (p .kinds) (J .bw)) c d a b
   after x y t h p p′ k q a b c d i v =
-      go (which (J .bw) (J .bh) (at (p .kinds) (J .bw)) (at (p .muls) (J .bw)) (at (p′ .kinds) (J .bw)) (at (p′ .muls) (J .bw)) t h x y (q .part) (fitting x y t h p p′ k) (k .free) (k .puts) a b c d i v)
+      go (which (J .bw) (J .bh) (at (p .kinds) (J .bw)) (at (p .hfMul) (J .bw)) (at (p′ .kinds) (J .bw)) (at (p′ .hfMul) (J .bw)) t h x y (q .part) (fitting x y t h p p′ k) (k .free) (k .puts) a b c d i v)
     where
       go : Here x y c d ⊎ Covers (at (p .kinds) (J .bw)) c d a b → (Here x y c d × InRect x y (wide t) (high t) a b) ⊎ Covers (at (p .kinds) (J .bw)) c d a b
-      go (inl e) = inl (e, new-in (J .bw) (J .bh) (at (p .kinds) (J .bw)) (at (p .muls) (J .bw)) (at (p′ .kinds) (J .bw)) (at (p′ .muls) (J .bw)) t h x y (q .part) (fitting x y t h p p′ k) (k .free) (k .puts) a b (rw (e .0, e .1) at v))
+      go (inl e) = inl (e, new-in (J .bw) (J .bh) (at (p .kinds) (J .bw)) (at (p .hfMul) (J .bw)) (at (p′ .kinds) (J .bw)) (at (p′ .hfMul) (J .bw)) t h x y (q .part) (fitting x y t h p p′ k) (k .free) (k .puts) a b (rw (e .0, e .1) at v))
       go (inr w) = inr w
 
   pub placing : (x y t h : ℕ) (p p′ : Placed) → Column J x y p p′ t h → Sofar J x y p → Sofar J (x + 1) y p′
@@ -183,13 +183,13 @@ module _ (J : Job) where
       K = at (p .kinds) (J .bw)
 
       M : Cells
-      M = at (p .muls) (J .bw)
+      M = at (p .hfMul) (J .bw)
 
       K′ : Cells
       K′ = at (p′ .kinds) (J .bw)
 
       M′ : Cells
-      M′ = at (p′ .muls) (J .bw)
+      M′ = at (p′ .hfMul) (J .bw)
 
       fit : Fits (J .bw) (J .bh) x y (2 + t) h
       fit = fitting x y t h p p′ c
@@ -272,12 +272,12 @@ module _ (J : Job) where
     along p e = rw e at (forward (visit J) (J .bw) (J .bh) Along one row (Going (start J)) (begun, begin))
 
   -- a reading that was not stopped
-  pub read-layout : (p : Placed) → reading J ≡ Going p → Layout (J .bw) (J .bh) (p .kinds) (p .muls)
+  pub read-layout : (p : Placed) → reading J ≡ Going p → Layout (J .bw) (J .bh) (p .kinds) (p .hfMul)
   read-layout p e =
       let q : (Sofar J) 0 (J .bh) p = along (λ (r : Placed). Unit) tt (λ x y r r′ hx hy u s c k. tt) p e .0 in
       record {
         kindsLength = q .lengthK;
-        mulsLength = q .lengthM;
+        hfMulLength = q .lengthM;
         valid = record {
           fits = q .part .fits;
           plain = λ a b i j c. (let z = q .done a b i j (inl j) in omega arith, q .part .bare a b i j c);

@@ -38,8 +38,8 @@ module _ (K M : Cells) where
   unfolding cornersRow
   row-append zero a b l m = refl
   row-append (suc n) a b l m =
-      ap (addVarblock (leb 2 (K a b)) (record { x = a; y = b; type = K a b - 2; mul = M a b })) (row-append n (a + 1) b l m)
-      ∙ add-append (leb 2 (K a b)) (record { x = a; y = b; type = K a b - 2; mul = M a b }) (cornersRow K M n (a + 1) b l) m
+      ap (addVarblock (leb 2 (K a b)) (record { x = a; y = b; type = K a b - 2; hfMul = M a b })) (row-append n (a + 1) b l m)
+      ∙ add-append (leb 2 (K a b)) (record { x = a; y = b; type = K a b - 2; hfMul = M a b }) (cornersRow K M n (a + 1) b l) m
 
 -- no corner from (x, y) on
 module _ (bw bh x y : ℕ) (K M : Cells) (none : (a b : ℕ) → a < bw → b < bh → From x y a b → K a b < 2) where
@@ -65,16 +65,16 @@ module _ (bw bh x y : ℕ) (hx : x < bw) (hy : y < bh) (K M K′ M′ : Cells)
     (none : (a b : ℕ) → a < bw → b < bh → From x y a b → K a b < 2)
     (new : 2 ≤ K′ x y)
     (same : (a b : ℕ) → a < bw → b < bh → (Here x y a b → ⊥) → (l : List Varblock)
-    → addVarblock (leb 2 (K′ a b)) (record { x = a; y = b; type = K′ a b - 2; mul = M′ a b }) l ≡ addVarblock (leb 2 (K a b)) (record { x = a; y = b; type = K a b - 2; mul = M a b }) l) where
+    → addVarblock (leb 2 (K′ a b)) (record { x = a; y = b; type = K′ a b - 2; hfMul = M′ a b }) l ≡ addVarblock (leb 2 (K a b)) (record { x = a; y = b; type = K a b - 2; hfMul = M a b }) l) where
   abbrev one : Varblock
-  one = record { x = x; y = y; type = K′ x y - 2; mul = M′ x y }
+  one = record { x = x; y = y; type = K′ x y - 2; hfMul = M′ x y }
 
   row-same : (n a b : ℕ) (l : List Varblock) → a + n ≤ bw → b < bh → (b ≡ y → x < a) → cornersRow K′ M′ n a b l ≡ cornersRow K M n a b l
   unfolding cornersRow
   row-same zero a b l i j f = refl
   row-same (suc n) a b l i j f =
       same a b (omega arith) j (λ h. let z = f (h .1) in let w = h .0 in omega arith) (cornersRow K′ M′ n (a + 1) b l)
-      ∙ ap (addVarblock (leb 2 (K a b)) (record { x = a; y = b; type = K a b - 2; mul = M a b })) (row-same n (a + 1) b l (omega arith) j (λ e. let z = f e in omega arith))
+      ∙ ap (addVarblock (leb 2 (K a b)) (record { x = a; y = b; type = K a b - 2; hfMul = M a b })) (row-same n (a + 1) b l (omega arith) j (λ e. let z = f e in omega arith))
 
   rows-same : (n b : ℕ) → b + n ≤ bh → y < b → cornersFrom K′ M′ bw n b ≡ cornersFrom K M bw n b
   unfolding cornersFrom
@@ -89,16 +89,16 @@ module _ (bw bh x y : ℕ) (hx : x < bw) (hy : y < bh) (K M K′ M′ : Cells)
   row-new (suc n) a f g i = go (eq-or-ne a x) (λ p q. row-new n (a + 1) p q (omega arith))
     where
       go : (a ≡ x) ⊎ (a ≡ x → ⊥) → (a + 1 ≤ x → x < a + 1 + n → cornersRow K′ M′ n (a + 1) y [] ≡ cornersRow K M n (a + 1) y [] ++ (one ∷ []))
-          → addVarblock (leb 2 (K′ a y)) (record { x = a; y = y; type = K′ a y - 2; mul = M′ a y }) (cornersRow K′ M′ n (a + 1) y [])
-          ≡ addVarblock (leb 2 (K a y)) (record { x = a; y = y; type = K a y - 2; mul = M a y }) (cornersRow K M n (a + 1) y []) ++ (one ∷ [])
+          → addVarblock (leb 2 (K′ a y)) (record { x = a; y = y; type = K′ a y - 2; hfMul = M′ a y }) (cornersRow K′ M′ n (a + 1) y [])
+          ≡ addVarblock (leb 2 (K a y)) (record { x = a; y = y; type = K a y - 2; hfMul = M a y }) (cornersRow K M n (a + 1) y []) ++ (one ∷ [])
       go (inl e) ih =
           let s = row-same n (x + 1) y [] (omega arith) hy (λ e. omega arith) ∙ row-none bw bh x y K M none n (x + 1) y [] (omega arith) hy (inr (refl, omega arith)) in
           let r = row-none bw bh x y K M none n (x + 1) y [] (omega arith) hy (inr (refl, omega arith)) in
           rw (e, le-leb 2 (K′ x y) new, lt-leb 2 (K x y) (none x y hx hy (inr (refl, omega arith))), s, r)
       go (inr d) ih =
           same a y (omega arith) hy (λ h. d (h .0)) (cornersRow K′ M′ n (a + 1) y [])
-          ∙ ap (addVarblock (leb 2 (K a y)) (record { x = a; y = y; type = K a y - 2; mul = M a y })) (ih (omega arith) (omega arith))
-          ∙ add-append (leb 2 (K a y)) (record { x = a; y = y; type = K a y - 2; mul = M a y }) (cornersRow K M n (a + 1) y []) (one ∷ [])
+          ∙ ap (addVarblock (leb 2 (K a y)) (record { x = a; y = y; type = K a y - 2; hfMul = M a y })) (ih (omega arith) (omega arith))
+          ∙ add-append (leb 2 (K a y)) (record { x = a; y = y; type = K a y - 2; hfMul = M a y }) (cornersRow K M n (a + 1) y []) (one ∷ [])
 
   rows-new : (n b : ℕ) → b ≤ y → y < b + n → b + n ≤ bh → cornersFrom K′ M′ bw n b ≡ cornersFrom K M bw n b ++ (one ∷ [])
   unfolding cornersFrom
@@ -123,19 +123,19 @@ map-last f (u ∷ l) v = ap (λ (k : List ℕ). f u ∷ k) (map-last f l v)
 -- A column placed.
 module _ (J : Job) (pairs : length (J .muls) ≡ length (J .types)) where
   abbrev varblocks : Placed → List Varblock
-  varblocks p = varblocksOf (J .bw) (J .bh) (p .kinds) (p .muls)
+  varblocks p = varblocksOf (J .bw) (J .bh) (p .kinds) (p .hfMul)
 
   -- the varblocks are those of the columns used so far
   record InTurn (p : Placed) : Type 0 where
     enough : p .used ≤ length (J .types)
     typesAre : map (λ (v : Varblock). v .type) (varblocks p) ≡ map lowEight (take (p .used) (J .types))
-    mulsAre : map (λ (v : Varblock). v .mul) (varblocks p) ≡ map hfMulOf (take (p .used) (J .muls))
+    mulsAre : map (λ (v : Varblock). v .hfMul) (varblocks p) ≡ map hfMulOf (take (p .used) (J .muls))
 
   begin : InTurn (start J)
-  begin = record { enough = omega arith; typesAre = ap (map (λ (v : Varblock). v .type)) nothing; mulsAre = ap (map (λ (v : Varblock). v .mul)) nothing }
+  begin = record { enough = omega arith; typesAre = ap (map (λ (v : Varblock). v .type)) nothing; mulsAre = ap (map (λ (v : Varblock). v .hfMul)) nothing }
     where
       nothing : varblocks (start J) ≡ []
-      nothing = rows-none (J .bw) (J .bh) 0 0 (at (start J .kinds) (J .bw)) (at (start J .muls) (J .bw)) (λ a b i j f. blank a b i j) (J .bh) 0 (omega arith) (from-start 0 0)
+      nothing = rows-none (J .bw) (J .bh) 0 0 (at (start J .kinds) (J .bw)) (at (start J .hfMul) (J .bw)) (λ a b i j f. blank a b i j) (J .bh) 0 (omega arith) (from-start 0 0)
         where
           blank : (a b : ℕ) → a < J .bw → b < J .bh → at (start J .kinds) (J .bw) a b < 2
           blank a b i j = let z = getD-replicate {A = ℕ} (J .bh * J .bw) (b * J .bw + a) 0 0 (place-lt (J .bw) (J .bh) a b i j) in omega arith
@@ -144,10 +144,10 @@ module _ (J : Job) (pairs : length (J .muls) ≡ length (J .types)) where
     abbrev type : ℕ
     type = lowEight (getD (J .types) (p .used) 0)
 
-    abbrev mul : ℕ
-    mul = hfMulOf (getD (J .muls) (p .used) 0)
+    abbrev hfMul : ℕ
+    hfMul = hfMulOf (getD (J .muls) (p .used) 0)
 
-    module _ (c : Column J x y p q type mul) (r : InTurn p) where
+    module _ (c : Column J x y p q type hfMul) (r : InTurn p) where
       no-corner : (a b : ℕ) → a < J .bw → b < J .bh → From x y a b → at (p .kinds) (J .bw) a b < 2
       no-corner a b i j f = go (le-or-lt 2 (at (p .kinds) (J .bw) a b))
         where
@@ -162,23 +162,23 @@ module _ (J : Job) (pairs : length (J .muls) ≡ length (J .types)) where
           go (inr k) = k
 
       alike : (a b : ℕ) → a < J .bw → b < J .bh → (Here x y a b → ⊥) → (l : List Varblock)
-          → addVarblock (leb 2 (at (q .kinds) (J .bw) a b)) (record { x = a; y = b; type = at (q .kinds) (J .bw) a b - 2; mul = at (q .muls) (J .bw) a b }) l
-          ≡ addVarblock (leb 2 (at (p .kinds) (J .bw) a b)) (record { x = a; y = b; type = at (p .kinds) (J .bw) a b - 2; mul = at (p .muls) (J .bw) a b }) l
+          → addVarblock (leb 2 (at (q .kinds) (J .bw) a b)) (record { x = a; y = b; type = at (q .kinds) (J .bw) a b - 2; hfMul = at (q .hfMul) (J .bw) a b }) l
+          ≡ addVarblock (leb 2 (at (p .kinds) (J .bw) a b)) (record { x = a; y = b; type = at (p .kinds) (J .bw) a b - 2; hfMul = at (p .hfMul) (J .bw) a b }) l
       alike a b i j n l = go (spot x y (wide type) (high type) a b)
         where
           go : Spot x y (wide type) (high type) a b
-              → addVarblock (leb 2 (at (q .kinds) (J .bw) a b)) (record { x = a; y = b; type = at (q .kinds) (J .bw) a b - 2; mul = at (q .muls) (J .bw) a b }) l
-              ≡ addVarblock (leb 2 (at (p .kinds) (J .bw) a b)) (record { x = a; y = b; type = at (p .kinds) (J .bw) a b - 2; mul = at (p .muls) (J .bw) a b }) l
+              → addVarblock (leb 2 (at (q .kinds) (J .bw) a b)) (record { x = a; y = b; type = at (q .kinds) (J .bw) a b - 2; hfMul = at (q .hfMul) (J .bw) a b }) l
+              ≡ addVarblock (leb 2 (at (p .kinds) (J .bw) a b)) (record { x = a; y = b; type = at (p .kinds) (J .bw) a b - 2; hfMul = at (p .hfMul) (J .bw) a b }) l
           go (corner m) = absurd (n m)
           go (body m k) =
               let u : at (q .kinds) (J .bw) a b < 2 = let z = c .puts .inBody a b m k in omega arith in
               let w : at (p .kinds) (J .bw) a b < 2 = let z = c .free a b k in omega arith in
               rw (lt-leb 2 (at (q .kinds) (J .bw) a b) u, lt-leb 2 (at (p .kinds) (J .bw) a b) w)
-          go (beyond m) = rw (c .puts .elsewhere a b i m, c .puts .mulOther a b i n)
+          go (beyond m) = rw (c .puts .elsewhere a b i m, c .puts .hfMulOther a b i n)
 
-      grown : varblocks q ≡ varblocks p ++ (record { x = x; y = y; type = at (q .kinds) (J .bw) x y - 2; mul = at (q .muls) (J .bw) x y } ∷ [])
+      grown : varblocks q ≡ varblocks p ++ (record { x = x; y = y; type = at (q .kinds) (J .bw) x y - 2; hfMul = at (q .hfMul) (J .bw) x y } ∷ [])
       grown =
-          rows-new (J .bw) (J .bh) x y hx hy (at (p .kinds) (J .bw)) (at (p .muls) (J .bw)) (at (q .kinds) (J .bw)) (at (q .muls) (J .bw)) no-corner (let z = c .puts .atCorner in omega arith) alike (J .bh) 0
+          rows-new (J .bw) (J .bh) x y hx hy (at (p .kinds) (J .bw)) (at (p .hfMul) (J .bw)) (at (q .kinds) (J .bw)) (at (q .hfMul) (J .bw)) no-corner (let z = c .puts .atCorner in omega arith) alike (J .bh) 0
           (omega arith) (omega arith) (omega arith)
 
       next : q .used ≡ suc (p .used)
@@ -192,8 +192,8 @@ module _ (J : Job) (pairs : length (J .muls) ≡ length (J .types)) where
             ∙ ap (λ (n : ℕ). map (λ (v : Varblock). v .type) (varblocks p) ++ (n ∷ [])) typeIs ∙ ap (λ (l : List ℕ). l ++ (type ∷ [])) (r .typesAre)
             ∙ sym (ap (λ (n : ℕ). map lowEight (take n (J .types))) next ∙ ap (map lowEight) (take-suc (J .types) (p .used) 0 more) ∙ map-last lowEight (take (p .used) (J .types)) (getD (J .types) (p .used) 0));
         mulsAre =
-            ap (map (λ (v : Varblock). v .mul)) grown ∙ map-last (λ (v : Varblock). v .mul) (varblocks p) _
-            ∙ ap (λ (n : ℕ). map (λ (v : Varblock). v .mul) (varblocks p) ++ (n ∷ [])) (c .puts .mulCorner) ∙ ap (λ (l : List ℕ). l ++ (mul ∷ [])) (r .mulsAre)
+            ap (map (λ (v : Varblock). v .hfMul)) grown ∙ map-last (λ (v : Varblock). v .hfMul) (varblocks p) _
+            ∙ ap (λ (n : ℕ). map (λ (v : Varblock). v .hfMul) (varblocks p) ++ (n ∷ [])) (c .puts .hfMulCorner) ∙ ap (λ (l : List ℕ). l ++ (hfMul ∷ [])) (r .mulsAre)
             ∙ sym (ap (λ (n : ℕ). map hfMulOf (take n (J .muls))) next ∙ ap (map hfMulOf) (take-suc (J .muls) (p .used) 0 (omega arith)) ∙ map-last hfMulOf (take (p .used) (J .muls)) (getD (J .muls) (p .used) 0));
       }
         where
@@ -267,7 +267,7 @@ module _ (i : Inputs) (kinds hfMul sigma : List ℕ) where
     in-turn : InTurn (jobOf i) paired (read .last)
     in-turn = along (jobOf i) (InTurn (jobOf i) paired) (begin (jobOf i) paired) (λ x y p q hx hy u o c r. placed-in-turn (jobOf i) paired x y p q hx hy u o c r) (read .last) (read .read) .1
 
-    left-are : (varblocksLeft i kinds hfMul sigma n e) ≡ varblocksOf (bwOf i) (bhOf i) (read .last .kinds) (read .last .muls)
+    left-are : (varblocksLeft i kinds hfMul sigma n e) ≡ varblocksOf (bwOf i) (bhOf i) (read .last .kinds) (read .last .hfMul)
     left-are = rw (read .kindsAre, read .hfMulAre)
 
     -- n columns were there
@@ -279,8 +279,8 @@ module _ (i : Inputs) (kinds hfMul sigma : List ℕ) where
     accepted-types = ap (map (λ (v : Varblock). v .type)) left-are ∙ in-turn .typesAre ∙ ap (λ (k : ℕ). map lowEight (take k (i .types))) (read .used)
 
     -- their hf_mul are the first n columns' mul + 1, in turn
-    pub accepted-muls : map (λ (v : Varblock). v .mul) (varblocksLeft i kinds hfMul sigma n e) ≡ map hfMulOf (take n (i .muls))
-    accepted-muls = ap (map (λ (v : Varblock). v .mul)) left-are ∙ in-turn .mulsAre ∙ ap (λ (k : ℕ). map hfMulOf (take k (i .muls))) (read .used)
+    pub accepted-muls : map (λ (v : Varblock). v .hfMul) (varblocksLeft i kinds hfMul sigma n e) ≡ map hfMulOf (take n (i .muls))
+    accepted-muls = ap (map (λ (v : Varblock). v .hfMul)) left-are ∙ in-turn .mulsAre ∙ ap (λ (k : ℕ). map hfMulOf (take k (i .muls))) (read .used)
 
     -- so there are n of them
     pub accepted-count : length (varblocksLeft i kinds hfMul sigma n e) ≡ n

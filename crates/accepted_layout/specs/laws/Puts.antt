@@ -11,7 +11,7 @@ use lib.Ieee.Fits.{and-l, and-r}
 use borrow.Author.Tests.{ltb-false, leb-false, not-false}
 use Rattle.laws.specs.laws.Cases.{eq-or-ne}
 use Rattle.dct_select.specs.Transforms.{COUNT, wide, high}
-use Rattle.dct_select.specs.laws.Varblock.{wide-some, high-some}
+use Rattle.dct_select.specs.laws.Sides.{wide-some, high-some}
 use Rattle.layout.specs.laws.Stretch.{Place, left, inside, right, place}
 use Rattle.layout.specs.Grid.{at}
 use Rattle.layout.specs.laws.Grid.{set-same, set-other}
@@ -28,8 +28,8 @@ pub record Puts (bw : ℕ) (K M K′ M′ : ℕ → ℕ → ℕ) (t h x y : ℕ)
   pub atCorner : K′ x y ≡ 2 + t
   pub inBody : (a b : ℕ) → (Here x y a b → ⊥) → InRect x y (wide t) (high t) a b → K′ a b ≡ 1
   pub elsewhere : (a b : ℕ) → a < bw → (InRect x y (wide t) (high t) a b → ⊥) → K′ a b ≡ K a b
-  pub mulCorner : M′ x y ≡ h
-  pub mulOther : (a b : ℕ) → a < bw → (Here x y a b → ⊥) → M′ a b ≡ M a b
+  pub hfMulCorner : M′ x y ≡ h
+  pub hfMulOther : (a b : ℕ) → a < bw → (Here x y a b → ⊥) → M′ a b ≡ M a b
 
 -- a column of type t and hf_mul h that was placed at (x, y), with p before and q after it
 pub record Column (J : Job) (x y : ℕ) (p q : Placed) (t h : ℕ) : Type 0 where
@@ -41,9 +41,9 @@ pub record Column (J : Job) (x y : ℕ) (p q : Placed) (t h : ℕ) : Type 0 wher
   pub inX : x + wide t ≤ J .bw
   pub inY : y + high t ≤ J .bh
   pub free : (a b : ℕ) → InRect x y (wide t) (high t) a b → at (p .kinds) (J .bw) a b ≡ 0
-  pub puts : Puts (J .bw) (at (p .kinds) (J .bw)) (at (p .muls) (J .bw)) (at (q .kinds) (J .bw)) (at (q .muls) (J .bw)) t h x y
+  pub puts : Puts (J .bw) (at (p .kinds) (J .bw)) (at (p .hfMul) (J .bw)) (at (q .kinds) (J .bw)) (at (q .hfMul) (J .bw)) t h x y
   pub lengthK : length (q .kinds) ≡ J .bh * J .bw
-  pub lengthM : length (q .muls) ≡ J .bh * J .bw
+  pub lengthM : length (q .hfMul) ≡ J .bh * J .bw
   pub usedIs : q .used ≡ p .used + 1
   pub taken : List ℕ
   pub scanIs : scan (J .bw) (J .bh) (dividedBy (J .filter) h) (J .lookups) (J .sharpness) x y (wide t) (high t) (Taking (p .kinds) (p .sigma)) ≡ Taking taken (q .sigma)
@@ -70,14 +70,14 @@ spot x y w h a b = go (place x w a) (place y h b) (eq-or-ne a x) (eq-or-ne b y)
     go (inside p p′) (inside q q′) (inl e) (inr f) = body (λ m. f (m .1)) (p, p′, q, q′)
     go (inside p p′) (inside q q′) (inr e) f = body (λ m. e (m .0)) (p, p′, q, q′)
 
-module _ (J : Job) (x y : ℕ) (p q : Placed) (lk : length (p .kinds) ≡ J .bh * J .bw) (lm : length (p .muls) ≡ J .bh * J .bw) (hx : x < J .bw) (hy : y < J .bh) where
+module _ (J : Job) (x y : ℕ) (p q : Placed) (lk : length (p .kinds) ≡ J .bh * J .bw) (lm : length (p .hfMul) ≡ J .bh * J .bw) (hx : x < J .bw) (hy : y < J .bh) where
   -- after the scan
   module _ (t h : ℕ) (a : t < 27) (b : 1 ≤ h) (c : h < 2 ^ 31) (d : x % 32 + wide t ≤ 32) (e : y % 32 + high t ≤ 32) where
     scanned : Scan
     scanned = scan (J .bw) (J .bh) (dividedBy (J .filter) h) (J .lookups) (J .sharpness) x y (wide t) (high t) (Taking (p .kinds) (p .sigma))
 
     put : (k s : List ℕ) → scanned ≡ Taking k s
-        → q ≡ record { used = p .used + 1; kinds = set k (y * J .bw + x) (2 + t); muls = set (p .muls) (y * J .bw + x) h; sigma = s } → Column J x y p q t h
+        → q ≡ record { used = p .used + 1; kinds = set k (y * J .bw + x) (2 + t); hfMul = set (p .hfMul) (y * J .bw + x) h; sigma = s } → Column J x y p q t h
     unfolding scanned
     put k s f g = record {
       known = a;
@@ -92,11 +92,11 @@ module _ (J : Job) (x y : ℕ) (p q : Placed) (lk : length (p .kinds) ≡ J .bh 
         atCorner = kindsAt x y ∙ set-same k (J .bw) (J .bh) x y (2 + t) l hx hy;
         inBody = λ i j n m. kindsAt i j ∙ set-other k (J .bw) x y (2 + t) i j hx (w .inX i j m) n ∙ w .taken i j m;
         elsewhere = λ i j r n. kindsAt i j ∙ set-other k (J .bw) x y (2 + t) i j hx r (λ m. n (itself i j m)) ∙ w .kept i j r n;
-        mulCorner = mulsAt x y ∙ set-same (p .muls) (J .bw) (J .bh) x y h lm hx hy;
-        mulOther = λ i j r n. mulsAt i j ∙ set-other (p .muls) (J .bw) x y h i j hx r n;
+        hfMulCorner = hfMulAt x y ∙ set-same (p .hfMul) (J .bw) (J .bh) x y h lm hx hy;
+        hfMulOther = λ i j r n. hfMulAt i j ∙ set-other (p .hfMul) (J .bw) x y h i j hx r n;
       };
       lengthK = ap (λ (o : Placed). length (o .kinds)) g ∙ length-set k (y * J .bw + x) (2 + t) ∙ l;
-      lengthM = ap (λ (o : Placed). length (o .muls)) g ∙ length-set (p .muls) (y * J .bw + x) h ∙ lm;
+      lengthM = ap (λ (o : Placed). length (o .hfMul)) g ∙ length-set (p .hfMul) (y * J .bw + x) h ∙ lm;
       usedIs = ap (λ (o : Placed). o .used) g;
       taken = k;
       scanIs = f ∙ ap (λ (o : Placed). Taking k (o .sigma)) (sym g);
@@ -114,8 +114,8 @@ module _ (J : Job) (x y : ℕ) (p q : Placed) (lk : length (p .kinds) ≡ J .bh 
         kindsAt : (i j : ℕ) → at (q .kinds) (J .bw) i j ≡ at (set k (y * J .bw + x) (2 + t)) (J .bw) i j
         kindsAt i j = ap (λ (o : Placed). at (o .kinds) (J .bw) i j) g
 
-        mulsAt : (i j : ℕ) → at (q .muls) (J .bw) i j ≡ at (set (p .muls) (y * J .bw + x) h) (J .bw) i j
-        mulsAt i j = ap (λ (o : Placed). at (o .muls) (J .bw) i j) g
+        hfMulAt : (i j : ℕ) → at (q .hfMul) (J .bw) i j ≡ at (set (p .hfMul) (y * J .bw + x) h) (J .bw) i j
+        hfMulAt i j = ap (λ (o : Placed). at (o .hfMul) (J .bw) i j) g
 
         itself : (i j : ℕ) → Here x y i j → InRect x y (wide t) (high t) i j
         itself i j m = let u = wide-some t a in let v = high-some t a in (omega arith, omega arith, omega arith, omega arith)
@@ -146,11 +146,11 @@ module _ (J : Job) (x y : ℕ) (p q : Placed) (lk : length (p .kinds) ≡ J .bh 
   abbrev pub nextType : ℕ
   nextType = lowEight (getD (J .types) (p .used) 0)
 
-  abbrev pub nextMul : ℕ
-  nextMul = hfMulOf (getD (J .muls) (p .used) 0)
+  abbrev pub nextHfMul : ℕ
+  nextHfMul = hfMulOf (getD (J .muls) (p .used) 0)
 
-  pub column-put : column J x y p ≡ Going q → Column J x y p q nextType nextMul × (p .used < length (J .types))
+  pub column-put : column J x y p ≡ Going q → Column J x y p q nextType nextHfMul × (p .used < length (J .types))
   unfolding column
   column-put e =
       let f = passed (leb (length (J .types)) (p .used)) 4 x y _ q e in
-      (judged nextType nextMul (f .1), leb-false (length (J .types)) (p .used) (f .0))
+      (judged nextType nextHfMul (f .1), leb-false (length (J .types)) (p .used) (f .0))

@@ -15,7 +15,7 @@ use lib.Ieee.Scale.{finite}
 use borrow.Author.Tests.{leb-false}
 use Rattle.laws.specs.laws.Cases.{eq-or-ne}
 use Rattle.dct_select.specs.Transforms.{wide, high}
-use Rattle.dct_select.specs.laws.Varblock.{wide-some, high-some}
+use Rattle.dct_select.specs.laws.Sides.{wide-some, high-some}
 use Rattle.layout.specs.laws.Walk.{forward}
 use Rattle.layout.specs.Grid.{at}
 use Rattle.layout.specs.laws.Grid.{place-lt, place-col, place-row}
@@ -242,7 +242,7 @@ module _ (J : Job) where
     lengthS : length (p .sigma) ≡ J .bh * J .bw
     free : (a b : ℕ) → a < J .bw → b < J .bh → at (p .kinds) (J .bw) a b ≡ 0 → sigmaAt (p .sigma) (J .bw) a b ≡ 0
     taken : (a b c d : ℕ) → a < J .bw → b < J .bh → Covers (at (p .kinds) (J .bw)) c d a b
-        → sigmaAt (p .sigma) (J .bw) a b ≡ cellSigma (dividedBy (J .filter) (at (p .muls) (J .bw) c d)) (J .lookups) (at (J .sharpness) (J .bw) a b) 0
+        → sigmaAt (p .sigma) (J .bw) a b ≡ cellSigma (dividedBy (J .filter) (at (p .hfMul) (J .bw) c d)) (J .lookups) (at (J .sharpness) (J .bw) a b) 0
     sharp : (a b : ℕ) → a < J .bw → b < J .bh → 0 < at (p .kinds) (J .bw) a b → isScaledOn (J .filter) ≡ true → at (J .sharpness) (J .bw) a b < 8
 
   begin : Strengths (start J)
@@ -271,15 +271,15 @@ module _ (J : Job) where
     now-free a b i j e (beyond n) = seen a b i j .kept n ∙ r .free a b i j (sym (c .puts .elsewhere a b i n) ∙ e)
 
     now-taken : (a b u v : ℕ) → a < J .bw → b < J .bh → (Here x y u v × InRect x y (wide t) (high t) a b) ⊎ Covers (at (p .kinds) (J .bw)) u v a b
-        → sigmaAt (q .sigma) (J .bw) a b ≡ cellSigma (dividedBy (J .filter) (at (q .muls) (J .bw) u v)) (J .lookups) (at (J .sharpness) (J .bw) a b) 0
+        → sigmaAt (q .sigma) (J .bw) a b ≡ cellSigma (dividedBy (J .filter) (at (q .hfMul) (J .bw) u v)) (J .lookups) (at (J .sharpness) (J .bw) a b) 0
     now-taken a b u v i j (inl m) =
         seen a b i j .now (m .1)
         ∙ ap (λ (z : ℕ). cellSigma (dividedBy (J .filter) h) (J .lookups) (at (J .sharpness) (J .bw) a b) z) (r .free a b i j (c .free a b (m .1)))
-        ∙ ap (λ (n : ℕ). cellSigma (dividedBy (J .filter) n) (J .lookups) (at (J .sharpness) (J .bw) a b) 0) (sym (ap (λ (n : ℕ). at (q .muls) (J .bw) n v) (m .0 .0) ∙ ap (λ (n : ℕ). at (q .muls) (J .bw) x n) (m .0 .1) ∙ c .puts .mulCorner))
+        ∙ ap (λ (n : ℕ). cellSigma (dividedBy (J .filter) n) (J .lookups) (at (J .sharpness) (J .bw) a b) 0) (sym (ap (λ (n : ℕ). at (q .hfMul) (J .bw) n v) (m .0 .0) ∙ ap (λ (n : ℕ). at (q .hfMul) (J .bw) x n) (m .0 .1) ∙ c .puts .hfMulCorner))
     now-taken a b u v i j (inr w) =
         seen a b i j .kept (λ m. let z = c .free a b m in let f = o .part .full a b u v i j w in omega arith) ∙ r .taken a b u v i j w
         ∙ ap (λ (n : ℕ). cellSigma (dividedBy (J .filter) n) (J .lookups) (at (J .sharpness) (J .bw) a b) 0)
-        (sym (c .puts .mulOther u v (let z = w .fromX in omega arith) (λ m. let z = w .corner in let k : at (p .kinds) (J .bw) u v ≡ at (p .kinds) (J .bw) x y = rw (m .0, m .1) in omega (arith, was-free))))
+        (sym (c .puts .hfMulOther u v (let z = w .fromX in omega arith) (λ m. let z = w .corner in let k : at (p .kinds) (J .bw) u v ≡ at (p .kinds) (J .bw) x y = rw (m .0, m .1) in omega (arith, was-free))))
 
     now-sharp : (a b : ℕ) → a < J .bw → b < J .bh → 0 < at (q .kinds) (J .bw) a b → isScaledOn (J .filter) ≡ true → Spot x y (wide t) (high t) a b → at (J .sharpness) (J .bw) a b < 8
     now-sharp a b i j l e (corner m) = seen a b i j .sharp (let w = wide-some t (c .known) in let v = high-some t (c .known) in (omega arith, omega arith, omega arith, omega arith)) (shared-on (J .filter) h e)
@@ -327,7 +327,7 @@ module _ (i : Inputs) (kinds hfMul sigma : List ℕ) where
         let r = read in
         rw (r .sigmaAre, r .hfMulAre)
         (strengths .1 .taken x y cx cy hx hy (rw (r .kindsAre) at v)
-        ∙ steps (i .filter) (i .scale) (at (r .last .muls) (bwOf i) cx cy) (i .lookups) (at (i .sharpness) (bwOf i) x y))
+        ∙ steps (i .filter) (i .scale) (at (r .last .hfMul) (bwOf i) cx cy) (i .lookups) (at (i .sharpness) (bwOf i) x y))
 
     -- with the filter on every sharpness number is 0 to 7
     pub accepted-sharpness : (m : Float) → i .filter ≡ On m → (x y : ℕ) → x < bwOf i → y < bhOf i → at (i .sharpness) (bwOf i) x y < 8

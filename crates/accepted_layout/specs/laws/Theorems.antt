@@ -29,7 +29,7 @@ module _ (i : Inputs) (kinds hfMul sigma : List ℕ) where
     pub read : reading (jobOf i) ≡ Going last
     pub used : last .used ≡ n
     pub kindsAre : (outcome i kinds hfMul sigma) .kinds ≡ last .kinds
-    pub hfMulAre : (outcome i kinds hfMul sigma) .hfMul ≡ last .muls
+    pub hfMulAre : (outcome i kinds hfMul sigma) .hfMul ≡ last .hfMul
     pub sigmaAre : (outcome i kinds hfMul sigma) .sigma ≡ last .sigma
 
   by-reading : (n : ℕ) (r : Reading) → reading (jobOf i) ≡ r → outcomeOf (jobOf i) r .answer ≡ accepted n

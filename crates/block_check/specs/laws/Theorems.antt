@@ -24,5 +24,5 @@ module _ (limit w h : ℕ) (kinds muls : List ℕ) where
 
   pub checks : Sided limit w h → Layout w h kinds muls → checkOf limit w h kinds muls ≡ gives tt
   checks s ok =
-      check-fine limit w h kinds muls (limits-in limit w h s) (fit-lengths w h (length kinds) (length muls) (ok .kindsLength) (ok .mulsLength))
-      (layout-iff w h kinds muls (ok .kindsLength) (ok .mulsLength) .1 ok)
+      check-fine limit w h kinds muls (limits-in limit w h s) (fit-lengths w h (length kinds) (length muls) (ok .kindsLength) (ok .hfMulLength))
+      (layout-iff w h kinds muls (ok .kindsLength) (ok .hfMulLength) .1 ok)

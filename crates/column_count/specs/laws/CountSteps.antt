@@ -15,8 +15,8 @@ use Rattle.bits.specs.laws.Numbers.{number}
 use Rattle.bits.specs.Reads.{gotOf, placeAt, bitsBefore}
 use Rattle.bits.specs.laws.Laws.{read-whole, was-value, was-end, value-at, ended-at}
 use Rattle.coded_numbers.specs.laws.Exponent.{exponent-least}
-use Rattle.lf_group.specs.Blocks.{sizeFits, modesFit, wideIn, highIn}
-use Rattle.lf_group.specs.laws.Bounds.{wide-most, high-most}
+use Rattle.lf_group.specs.Blocks.{sizeFits, modesFit, bwIn, bhIn}
+use Rattle.lf_group.specs.laws.Bounds.{bw-most, bh-most}
 use Rattle.column_count.specs.Count.{count, refused, plusOne, fieldBits, countOf}
 
 module _ (width height : ℕ) (modes bytes : List ℕ) where
@@ -29,11 +29,11 @@ module _ (width height : ℕ) (modes bytes : List ℕ) where
   count-modes a b = rw (a, b)
 
   module _ (a : sizeFits width height ≡ true) (b : modesFit modes ≡ true) where
-    pub most-blocks : highIn height modes * wideIn width modes ≤ 65536
-    most-blocks = mul-le-mul (high-most width height a modes) (wide-most width height a modes)
+    pub most-blocks : bhIn height modes * bwIn width modes ≤ 65536
+    most-blocks = mul-le-mul (bh-most width height a modes) (bw-most width height a modes)
 
     few-bits : fieldBits width height modes ≤ 16
-    few-bits = exponent-least (highIn height modes * wideIn width modes) 16 most-blocks
+    few-bits = exponent-least (bhIn height modes * bwIn width modes) 16 most-blocks
 
     -- the field was read from the first bit on
     module _ (n : ℕ) (p : Place) (g : Got) (c : n ≡ fieldBits width height modes) (d : p ≡ placeAt 0) (e : g ≡ gotOf (bitsBefore p) (readBits bytes (bitsBefore p) (min n 32))) where

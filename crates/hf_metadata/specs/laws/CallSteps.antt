@@ -6,9 +6,9 @@ use Prim.Native.Nat.{ℕ, _≤_}
 use native.Mathlib.Omega.{arith}
 use borrow.Author.Tests.{le-leb}
 use Rattle.lf_group.specs.declared.Blocks.{Blocks}
-use Rattle.lf_group.specs.Blocks.{sizeFits, modesFit, wideIn, highIn}
+use Rattle.lf_group.specs.Blocks.{sizeFits, modesFit, bwIn, bhIn}
 use Rattle.lf_group.specs.laws.Blocks.{blocksOf}
-use Rattle.lf_group.specs.laws.Bounds.{wide-most, high-most}
+use Rattle.lf_group.specs.laws.Bounds.{bw-most, bh-most}
 use Rattle.layout_reading.specs.declared.column.Step.{Step}
 use Rattle.layout_reading.specs.declared.column.Step.the-variants.{Going as GoesOn, Stopped as Stops}
 use Rattle.layout_reading.specs.Reading.{Job, jobBy}
@@ -41,7 +41,7 @@ module _ (i : Inputs) (k m g : List ℕ) where
       jobIn bw bh = jobBy bw bh (i .types) (i .muls) (i .sharpness) (i .filter) (i .lookups) (i .scale)
 
       -- the reading refuses the filter's numbers, then lengths, that do not fit
-      reads : (bw bh : ℕ) → bw ≤ 256 → bh ≤ 256 → bw ≡ wideIn (i .width) (i .modes) → bh ≡ highIn (i .height) (i .modes)
+      reads : (bw bh : ℕ) → bw ≤ 256 → bh ≤ 256 → bw ≡ bwIn (i .width) (i .modes) → bh ≡ bhIn (i .height) (i .modes)
           → readOf (jobIn bw bh) k m g (i .filter) (i .scale) ≡ layoutOf i k m g
       unfolding layoutOf readOf
       reads bw bh w h p q = rw (a, b, le-leb bw 256 w, le-leb bh 256 h) (rw (p, q))
@@ -51,8 +51,8 @@ module _ (i : Inputs) (k m g : List ℕ) where
           → handed s k′ m′ g′ ≡ readOf (jobIn (blocks .bw) (blocks .bh)) k m g (i .filter) (i .scale)
           → leaves r k′ m′ g′ ≡ layoutOf i k m g
       call-reads blocks p r s k′ m′ g′ e h =
-          let w : blocks .bw ≡ wideIn (i .width) (i .modes) = ap (λ (z : Blocks). z .bw) p in
-          let v : blocks .bh ≡ highIn (i .height) (i .modes) = ap (λ (z : Blocks). z .bh) p in
+          let w : blocks .bw ≡ bwIn (i .width) (i .modes) = ap (λ (z : Blocks). z .bw) p in
+          let v : blocks .bh ≡ bhIn (i .height) (i .modes) = ap (λ (z : Blocks). z .bh) p in
           rw e
           (hands-on s k′ m′ g′ ∙ h
-          ∙ reads (blocks .bw) (blocks .bh) (omega (arith, wide-most (i .width) (i .height) a (i .modes))) (omega (arith, high-most (i .width) (i .height) a (i .modes))) w v)
+          ∙ reads (blocks .bw) (blocks .bh) (omega (arith, bw-most (i .width) (i .height) a (i .modes))) (omega (arith, bh-most (i .width) (i .height) a (i .modes))) w v)

@@ -3,22 +3,22 @@ use Prim.Native.Nat.{ℕ, _+_}
 use Rattle.refusal.specs.declared.Said.{Said}
 use Rattle.refusal.specs.Said.{at, said}
 use Rattle.dct_select.specs.Transforms.{wide, high}
-use Rattle.layout_column.specs.declared.Varblock.{Varblock}
+use Rattle.layout_column.specs.declared.JudgedColumn.{JudgedColumn}
 use Rattle.layout_column.specs.declared.Judged.{Judged}
 use Rattle.layout_column.specs.declared.Judged.the-variants.{Asks, Refused as NotAsked}
 use Rattle.layout_column.specs.Columns.{checks}
 
 -- what a column asks for, or a refusal's number and position
 pub data Asking : Type 0 where
-  asks : Varblock → Asking
+  asks : JudgedColumn → Asking
   refuses : Said → Asking
 
 abbrev pub saidJudged : Judged → Asking
 saidJudged (Asks v) = asks v
 saidJudged (NotAsked r) = refuses (said r)
 
-abbrev pub varblockOf : ℕ → ℕ → Varblock
-varblockOf t h = record { kind = 2 + t; «hf_mul» = h; wide = wide t; high = high t }
+abbrev pub judgedColumn : ℕ → ℕ → JudgedColumn
+judgedColumn t h = record { kind = 2 + t; «hf_mul» = h; wide = wide t; high = high t }
 
 unfoldable pub judgedOf : ℕ → ℕ → ℕ → ℕ → Asking
-judgedOf t h x y = checks (λ (n : ℕ). refuses (at n x y)) (asks (varblockOf t h)) t h x y
+judgedOf t h x y = checks (λ (n : ℕ). refuses (at n x y)) (asks (judgedColumn t h)) t h x y

@@ -17,11 +17,11 @@ use Rattle.dct_select.specs.declared.TransformType.{TransformType}
 use Rattle.dct_select.specs.LookUp as look
 use Rattle.dct_select.specs.LookUp.{numberOf, known, lookUp, sizeOf}
 use Rattle.block_sizes.specs.declared.Sides.{Sides}
-use Rattle.dct_select.specs.laws.Varblock.{wide-most, high-most}
+use Rattle.dct_select.specs.laws.Sides.{wide-most, high-most}
 use Rattle.dct_select.specs.laws.Rules.{below-27}
-use Rattle.layout_column.specs.declared.Varblock.{Varblock}
+use Rattle.layout_column.specs.declared.JudgedColumn.{JudgedColumn}
 use Rattle.layout_column.specs.Columns.{positive, checks}
-use Rattle.layout_column.specs.laws.Columns.{Asking, asks, refuses, varblockOf, judgedOf}
+use Rattle.layout_column.specs.laws.Columns.{Asking, asks, refuses, judgedColumn, judgedOf}
 
 -- what a look-up found
 abbrev numberIn : look.Answer → ℕ
@@ -89,32 +89,32 @@ module _ (t h x y : ℕ) where
       judged-high d e =
           rw (lt-leb 27 t a, le-leb 1 h b, lt-ltb h 2147483648 c, le-ltb 32 (x % 32 + wide t) d, lt-ltb 32 (y % 32 + high t) e)
 
-      pub judged-asks : x % 32 + wide t ≤ 32 → y % 32 + high t ≤ 32 → asks (varblockOf t h) ≡ judgedOf t h x y
+      pub judged-asks : x % 32 + wide t ≤ 32 → y % 32 + high t ≤ 32 → asks (judgedColumn t h) ≡ judgedOf t h x y
       unfolding judgedOf
       judged-asks d e =
           rw (lt-leb 27 t a, le-leb 1 h b, lt-ltb h 2147483648 c, le-ltb 32 (x % 32 + wide t) d, le-ltb 32 (y % 32 + high t) e)
 
-passed : (b : Bool) (r : Said) (k : Asking) (v : Varblock) → cond b (refuses r) k ≡ asks v → (b ≡ false) × (k ≡ asks v)
+passed : (b : Bool) (r : Said) (k : Asking) (v : JudgedColumn) → cond b (refuses r) k ≡ asks v → (b ≡ false) × (k ≡ asks v)
 passed true r k v e = absurd (let z : _≡_ {A = ℕ} 0 1 = cc in omega arith)
 passed false r k v e = (refl, e)
 
-asked : (v u : Varblock) → asks v ≡ asks u → v ≡ u
+asked : (v u : JudgedColumn) → asks v ≡ asks u → v ≡ u
 asked v u e = cc
 
 -- what a column asks for has at most 32 blocks each way, and an hf_mul above 0
-pub asks-most : (t h x y : ℕ) (v : Varblock) → judgedOf t h x y ≡ asks v → (v .wide ≤ 32) × (v .high ≤ 32) × (1 ≤ v .«hf_mul»)
+pub asks-most : (t h x y : ℕ) (v : JudgedColumn) → judgedOf t h x y ≡ asks v → (v .wide ≤ 32) × (v .high ≤ 32) × (1 ≤ v .«hf_mul»)
 unfolding judgedOf
 asks-most t h x y v e =
     let p1 = passed (leb 27 t) _ _ v e in
     let p2 = passed (not (positive h)) _ _ v (p1 .1) in
     let p3 = passed (ltb 32 (x % 32 + wide t)) _ _ v (p2 .1) in
     let p4 = passed (ltb 32 (y % 32 + high t)) _ _ v (p3 .1) in
-    let q = asked (varblockOf t h) v (p4 .1) in
+    let q = asked (judgedColumn t h) v (p4 .1) in
     let a = wide-most t (leb-false 27 t (p1 .0)) in
     let b = high-most t (leb-false 27 t (p1 .0)) in
-    let w : wide t ≡ v .wide = ap (λ (u : Varblock). u .wide) q in
-    let n : high t ≡ v .high = ap (λ (u : Varblock). u .high) q in
-    let m : h ≡ v .«hf_mul» = ap (λ (u : Varblock). u .«hf_mul») q in
+    let w : wide t ≡ v .wide = ap (λ (u : JudgedColumn). u .wide) q in
+    let n : high t ≡ v .high = ap (λ (u : JudgedColumn). u .high) q in
+    let m : h ≡ v .«hf_mul» = ap (λ (u : JudgedColumn). u .«hf_mul») q in
     let s = dec.leb→le 1 h (and-l (leb 1 h) (ltb h 2147483648) (rw (not-false (positive h) (p2 .0)) tt)) in
     (omega arith, omega arith, omega arith)
 

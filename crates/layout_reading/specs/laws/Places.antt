@@ -18,7 +18,7 @@ use Rattle.layout_column.specs.declared.Judged.{Judged}
 use Rattle.layout_reading.specs.declared.column.Step.{Step}
 use Rattle.layout_reading.specs.declared.column.Step.the-variants.{Stopped as Stops}
 use Rattle.layout_column.specs.Columns.{lowEight, hfMulOf}
-use Rattle.layout_column.specs.laws.Columns.{Asking, asks, refuses, saidJudged, varblockOf, judgedOf}
+use Rattle.layout_column.specs.laws.Columns.{Asking, asks, refuses, saidJudged, judgedColumn, judgedOf}
 use Rattle.layout_column.specs.laws.Judged.{checks-by}
 use Rattle.layout_reading.specs.Scan.{Scan, Taking, scan}
 use Rattle.layout_reading.specs.laws.Scan.{scanned}
@@ -45,7 +45,7 @@ module _ (J : Job) (x y : ℕ) (p : Placed) where
 
   judge-by : (t h : ℕ) → byAsking (judgedOf t h x y) ≡ judge J t h x y p
   unfolding judgedOf judge
-  judge-by t h = checks-by byAsking (λ (n : ℕ). refuses (refusals.at n x y)) (asks (varblockOf t h)) t h x y
+  judge-by t h = checks-by byAsking (λ (n : ℕ). refuses (refusals.at n x y)) (asks (judgedColumn t h)) t h x y
 
   pub visit-taken : 0 < at (p .kinds) (J .bw) x y → Going p ≡ visit J x y (Going p)
   visit-taken h = rw (ne-eqb (at (p .kinds) (J .bw) x y) 0 (omega arith))

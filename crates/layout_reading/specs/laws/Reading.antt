@@ -8,9 +8,9 @@ use Rattle.layout_reading.specs.Reading.{Going, Placed, Reading, Stopped
 
 -- the state and the job by their fields, as the code has them
 abbrev pub stateOf : ℕ → List ℕ → List ℕ → List ℕ → Placed
-stateOf used kinds muls sigma = record { used = used; kinds = kinds; muls = muls; sigma = sigma }
+stateOf used kinds hfMul sigma = record { used = used; kinds = kinds; hfMul = hfMul; sigma = sigma }
 
 -- a reading from what the code answers and what it left in kinds, hf_mul and sigma
 abbrev pub stepped : Step → List ℕ → List ℕ → List ℕ → Reading
-stepped (GoesOn used) kinds muls sigma = Going (stateOf used kinds muls sigma)
-stepped (Stops r) kinds muls sigma = Stopped (refusals.said r)
+stepped (GoesOn used) kinds hfMul sigma = Going (stateOf used kinds hfMul sigma)
+stepped (Stops r) kinds hfMul sigma = Stopped (refusals.said r)

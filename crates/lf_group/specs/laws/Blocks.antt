@@ -2,7 +2,7 @@
 use mathlib.Core.List.{List}
 use Prim.Native.Nat.{ℕ}
 use Rattle.lf_group.specs.declared.Blocks.{Blocks}
-use Rattle.lf_group.specs.Blocks.{highIn, wideIn}
+use Rattle.lf_group.specs.Blocks.{bhIn, bwIn}
 
 abbrev pub blocksOf : ℕ → ℕ → List ℕ → Blocks
-blocksOf width height modes = record { bw = wideIn width modes; bh = highIn height modes }
+blocksOf width height modes = record { bw = bwIn width modes; bh = bhIn height modes }

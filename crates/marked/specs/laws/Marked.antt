@@ -5,7 +5,7 @@ use lib.Ieee.{le, lt, eq, mul, div, ofInt, toBits, round, size, span, climb, uni
 use lib.Count.{trailingZeros}
 use Rattle.dct_select.specs.Transforms.{TRANSFORMS, wide, high}
 use Rattle.layout.specs.Walk.{cells, rows}
-use Rattle.lf_group.specs.Blocks.{wideIn, highIn}
+use Rattle.lf_group.specs.Blocks.{bwIn, bhIn}
 use Rattle.filter_strength.specs.Strength.{scaledBy, dividedBy}
 use Rattle.filter_strength.specs.laws.Strength.{m8}
 use Rattle.filter_strength.specs.Limits.{inLimits}
@@ -38,11 +38,11 @@ row6 : M6
 row6 = (m6, m6-refused)
 
 row7 : M7
-unfolding layoutOf wideIn highIn inLimits le lt eq reading column judge place scan takeCell rows cells wide high TRANSFORMS scaledBy dividedBy mul div ofInt toBits round size span climb units odd trailingZeros
+unfolding layoutOf bwIn bhIn inLimits le lt eq reading column judge place scan takeCell rows cells wide high TRANSFORMS scaledBy dividedBy mul div ofInt toBits round size span climb units odd trailingZeros
 row7 = refl
 
 row8 : M8
-unfolding layoutOf wideIn highIn inLimits le lt eq reading column judge place scan takeCell rows cells wide high TRANSFORMS scaledBy dividedBy mul div ofInt toBits round size span climb units odd trailingZeros
+unfolding layoutOf bwIn bhIn inLimits le lt eq reading column judge place scan takeCell rows cells wide high TRANSFORMS scaledBy dividedBy mul div ofInt toBits round size span climb units odd trailingZeros
 row8 = (m8, refl, refl)
 
 row9 : M9

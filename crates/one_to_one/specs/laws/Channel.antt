@@ -13,12 +13,12 @@ use Rattle.refusal.specs.declared.Refusal.{Refusal}
 use Rattle.refusal.specs.declared.Refusal.the-variants.{SymbolsEnd, TooManyZeros}
 use Rattle.coded_numbers.specs.Signed.{unpackSigned}
 use Rattle.one_to_one.specs.Filling.{Words, Fills}
-use Rattle.one_to_one.specs.Symbols.{symbol}
-use Rattle.one_to_one.specs.laws.Symbols.{unpack-lt, symbol-same, symbol-zero, symbol-adds, symbol-of, symbol-lt}
+use Rattle.coded_numbers.specs.Signed.{symbol}
+use Rattle.coded_numbers.specs.laws.Signed.{unpack-lt, symbol-same, symbol-zero, symbol-adds, symbol-of, symbol-lt}
 use Rattle.hf_coeff_walk.specs.Walk.{Walked, ended, stopped, walk, coeffContext, flag, less, gain}
 use Rattle.hf_coeff_walk.specs.Kept.{length-gain}
 use Rattle.one_to_one.specs.Sequence.{differing, coeffs}
-use Rattle.one_to_one.specs.laws.Contexts.{context-below}
+use Rattle.hf_coeff_walk.specs.laws.Contexts.{context-below}
 use Rattle.one_to_one.specs.Places.{In}
 use Rattle.one_to_one.specs.laws.Places.{Distinct, Same, Cells, same-differing, same-coeffs, same-set, differing-le, differing-self, fill, fill-none}
 
@@ -102,7 +102,7 @@ module _ (blocks : ℕ) (part : List ℕ) where
       (λ (q : ℕ). λ (j : In q ps). rw (o q j) (c q (inr j))) (h .1) e₁ in
       let f : getD g′ p 0 ≡ v = kept 0 blocks part ps (i + 1) 1 n us (at + 1) log₁ g₁ us′ at′ log′ g′ 0 e₁ .off p (d .0) ∙ getD-set-same g p v 0 (l p (inl refl)) in
       let b : unpackSigned (suc u) < 2 ^ 32 = unpack-lt (suc u) (h .0) in
-      let s : symbol (getD g′ p 0) (getD g p 0) ≡ suc u = symbol-of (suc u) (getD g′ p 0) (getD g p 0) (h .0) (c p (inl refl)) (f ∙ omega arith) in
+      let s : symbol (getD g′ p 0) (getD g p 0) ≡ suc u = symbol-of (getD g′ p 0) (getD g p 0) (suc u) (h .0) (c p (inl refl)) (f ∙ omega arith) in
       rw s (
         ap suc (r .0 ∙ same-differing ps g₁ g g′ g′ o (λ q j. refl)),
         ap (λ (t : List ℕ). suc u ∷ t) (r .1 ∙ ap (λ (t : List ℕ). t ++ us′) (same-coeffs ps n g₁ g g′ g′ o (λ q j. refl))),

@@ -9,8 +9,8 @@ use borrow.Author.Tests.{le-leb}
 use lib.Dec.{leb}
 use lib.ListN.{length, getD, set}
 use Rattle.one_to_one.specs.Filling.{Words, cell}
-use Rattle.one_to_one.specs.Symbols.{symbol}
-use Rattle.one_to_one.specs.laws.Symbols.{symbol-lt}
+use Rattle.coded_numbers.specs.Signed.{symbol}
+use Rattle.coded_numbers.specs.laws.Signed.{symbol-lt}
 use Rattle.one_to_one.specs.Sequence.{differing, coeffs, sequence}
 use Rattle.hf_coeff_walk.specs.Walk.{less}
 use Rattle.hf_coeff_walk.specs.Counts.{few-le}

@@ -22,7 +22,7 @@ use Rattle.layout.specs.Varblocks.{cornersRow, cornersFrom}
 use Rattle.layout.specs.Grid.{rowOf, gridFrom, fillFrom}
 use Rattle.layout.specs.Cut.{cut, groupX, groupY}
 use Rattle.layout.specs.Check.{clear, fitting, visitCell, checkRun}
-use Rattle.lf_group.specs.Blocks.{wideIn, highIn}
+use Rattle.lf_group.specs.Blocks.{bwIn, bhIn}
 use Rattle.filter_strength.specs.declared.Filter.the-variants.{Off}
 use Rattle.filter_strength.specs.Strength.{zero32, scaledBy, dividedBy}
 use Rattle.filter_strength.specs.Limits.{inLimits}
@@ -47,7 +47,7 @@ use Rattle.block_record.specs.Calls.{group, outcome, cutCheck, cutOf}
 use Rattle.block_record.specs.laws.CutSteps.{cut-done}
 use Rattle.accepted_layout.specs.Theorems.{bwOf, bhOf}
 use Rattle.one_to_one.specs.Filling.{cell, isLow, wanted, Fixed, Filling, Fills, Given}
-use Rattle.one_to_one.specs.Symbols.{symbol, pack}
+use Rattle.coded_numbers.specs.Signed.{symbol, pack}
 use Rattle.one_to_one.specs.Sequence.{differing, coeffs, sequence, theSequence}
 use Rattle.one_to_one.specs.laws.Demand3.{one-sequence}
 use Rattle.one_to_one.specs.laws.Wanted.{wanted-filling}
@@ -89,15 +89,15 @@ abbrev four : List ℕ
 four = replicate 4 0
 
 layout-accepted : layoutOf columns four four four ≡ record { answer = accepted 3; kinds = kinds; hfMul = muls; sigma = four }
-unfolding layoutOf wideIn highIn inLimits le lt eq reading column judge place scan takeCell rows cells wide high TRANSFORMS scaledBy dividedBy
+unfolding layoutOf bwIn bhIn inLimits le lt eq reading column judge place scan takeCell rows cells wide high TRANSFORMS scaledBy dividedBy
 layout-accepted = refl
 
 cut-checked : cutCheck (bwOf columns) (bhOf columns) kinds muls 0 4 4 ≡ gives tt
-unfolding cutCheck inLimits32 lengthsFit2 wideIn highIn groupX groupY checkRun rows cells visitCell fitting clear wide high TRANSFORMS fillFrom
+unfolding cutCheck inLimits32 lengthsFit2 bwIn bhIn groupX groupY checkRun rows cells visitCell fitting clear wide high TRANSFORMS fillFrom
 cut-checked = refl
 
 cut-accepted : cutOf (bwOf columns) (bhOf columns) kinds muls 0 four four ≡ outcome (gives (group 2 2)) kinds muls
-unfolding wideIn highIn groupX groupY cut gridFrom rowOf
+unfolding bwIn bhIn groupX groupY cut gridFrom rowOf
 cut-accepted = cut-done (bwOf columns) (bhOf columns) kinds muls 0 four four cut-checked
 
 lengths-fit : lengthsFit full ≡ true

@@ -17,7 +17,7 @@ use Rattle.hf_coeff_walk.specs.Item.{Item, predicted, countIndex, countOver, ro
 use Rattle.hf_coeff_group.specs.Group.{Grids, Reading, going, refused, after, item}
 use Rattle.one_to_one.specs.Places.{In}
 use Rattle.one_to_one.specs.laws.Premises.{put-here, put-there}
-use Rattle.one_to_one.specs.laws.Logging.{symbolsIn}
+use Rattle.hf_coeff_group.specs.laws.Symbols.{symbolsIn}
 use Rattle.one_to_one.specs.Inside.{WalkInside, countEntry, CountInside, ItemInside, ReadInside}
 
 -- Coefficients of one channel.

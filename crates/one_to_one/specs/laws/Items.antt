@@ -15,7 +15,7 @@ use Rattle.natural_order.specs.Places.{Place, paired}
 use Rattle.natural_order.specs.Order.{Order}
 use Rattle.layout.specs.Grid.{at}
 use Rattle.layout.specs.Valid.{Covers}
-use Rattle.layout.specs.Varblocks.{Varblock}
+use Rattle.layout.specs.Varblocks.{Varblock, varblock}
 use Rattle.hf_pass_store.specs.Store.{stretch}
 use Rattle.hf_pass.specs.Call.{Wrote}
 use Rattle.hf_pass.specs.laws.Wrote.{listOf, wrote-order, wrote-stretch}
@@ -25,14 +25,16 @@ use Rattle.hf_coeff_walk.specs.PlaceLaws.{length-places}
 use Rattle.hf_coeff_walk.specs.Item.{Item}
 use Rattle.hf_coeff_group.specs.Pass.{Pass, varblocks, blocksOf, placesAt, itemOf, channels, itemsOf}
 use Rattle.hf_coeff_group.specs.Group.{Grids}
-use Rattle.one_to_one.specs.laws.Rectangles.{known, corner, type-is, right, bottom, few, covers}
-use Rattle.one_to_one.specs.Filling.{cell, InV, LaidOut, Sized, Low, LowKept}
+use Rattle.hf_coeff_group.specs.Sizes.{order-lt}
+use Rattle.layout.specs.Listed.{Among, first, later}
+use Rattle.layout.specs.laws.Corners.{Apart}
+use Rattle.layout.specs.laws.Rectangles.{has, known, type-is, right, bottom, few, covers, at-corner}
+use Rattle.one_to_one.specs.Filling.{cell, LaidOut, Sized, Low, LowKept}
 use Rattle.one_to_one.specs.Places.{In}
 use Rattle.one_to_one.specs.laws.Places.{Distinct}
 use Rattle.one_to_one.specs.Premises.{Holds}
 use Rattle.one_to_one.specs.laws.Premises.{Fit, Fits, DisjointItems, Off}
-use Rattle.one_to_one.specs.laws.Spread.{InP, Spread, order-lt, spread-of, place-in, in-place, cell-row, cell-column, distinct-places}
-use Rattle.one_to_one.specs.laws.Corners.{Apart, cornerAt, of-corner}
+use Rattle.one_to_one.specs.laws.Spread.{InP, Spread, spread-of, place-in, in-place, cell-row, cell-column, distinct-places}
 
 -- each of the 39 stretches is an order of its size
 abbrev pub Ordered : Pass → Type 0
@@ -102,21 +104,20 @@ module _ (P : Pass) where
   varblock-at v c p (inr (inr (inr h))) = absurd h
 
   -- the varblock whose place a cell is
-  pub held : (vs : List Varblock) (c p : ℕ) → Holds (itemsOf P vs) c p → (v : Varblock) × InV v vs × (c < 3) × In p (placesAt P v c)
+  pub held : (vs : List Varblock) (c p : ℕ) → Holds (itemsOf P vs) c p → (v : Varblock) × Among v vs × (c < 3) × In p (placesAt P v c)
   unfolding itemsOf
   held [] c p h = absurd h
   held (v ∷ vs) c p h = go (holds-either (channels P v) (itemsOf P vs) c p h) (held vs c p)
     where
-      go : Holds (channels P v) c p ⊎ Holds (itemsOf P vs) c p → (Holds (itemsOf P vs) c p → (u : Varblock) × InV u vs × (c < 3) × In p (placesAt P u c))
-          → (u : Varblock) × InV u (v ∷ vs) × (c < 3) × In p (placesAt P u c)
-      go (inl a) f = let r = varblock-at v c p a in (v, inl refl, r .0, r .1)
-      go (inr b) f = let r = f b in (r .0, inr (r .1), r .2, r .3)
+      go : Holds (channels P v) c p ⊎ Holds (itemsOf P vs) c p → (Holds (itemsOf P vs) c p → (u : Varblock) × Among u vs × (c < 3) × In p (placesAt P u c))
+          → (u : Varblock) × Among u (v ∷ vs) × (c < 3) × In p (placesAt P u c)
+      go (inl a) f = let r = varblock-at v c p a in (v, first refl, r .0, r .1)
+      go (inr b) f = let r = f b in (r .0, later (r .1), r .2, r .3)
 
-  pub holds : (vs : List Varblock) (v : Varblock) (c p : ℕ) → InV v vs → c < 3 → In p (placesAt P v c) → Holds (itemsOf P vs) c p
+  pub holds : (vs : List Varblock) (v : Varblock) (c p : ℕ) → Among v vs → c < 3 → In p (placesAt P v c) → Holds (itemsOf P vs) c p
   unfolding itemsOf
-  holds [] v c p i h k = absurd i
-  holds (u ∷ vs) v c p (inl e) h k = holds-left (channels P u) (itemsOf P vs) c p (at-varblock u c p h (subst (λ (w : Varblock). In p (placesAt P w c)) e k))
-  holds (u ∷ vs) v c p (inr i) h k = holds-right (channels P u) (itemsOf P vs) c p (holds vs v c p i h k)
+  holds (u ∷ vs) v c p (first e) h k = holds-left (channels P u) (itemsOf P vs) c p (at-varblock u c p h (subst (λ (w : Varblock). In p (placesAt P w c)) (sym e) k))
+  holds (u ∷ vs) v c p (later i) h k = holds-right (channels P u) (itemsOf P vs) c p (holds vs v c p i h k)
 
 module _ (P : Pass) (lay : LaidOut P) (ord : Ordered P) where
   abbrev K : ℕ → ℕ → ℕ
@@ -126,7 +127,7 @@ module _ (P : Pass) (lay : LaidOut P) (ord : Ordered P) where
   M = at (P .muls) (P .width)
 
   -- one channel of a varblock
-  module _ (v : Varblock) (i : InV v (varblocks P)) where
+  module _ (v : Varblock) (i : Among v (varblocks P)) where
     module _ (c : ℕ) (hc : c < 3) where
       abbrev turn : Bool
       turn = turns (v .type)
@@ -135,12 +136,12 @@ module _ (P : Pass) (lay : LaidOut P) (ord : Ordered P) where
       rest = drop (blocksOf v) (paired (stretch (P .store) (orderOf (v .type)) c))
 
       pub spread : Spread turn (wide (v .type)) (high (v .type)) rest
-      spread = spread-of (v .type) (known P lay v i) (paired (stretch (P .store) (orderOf (v .type)) c)) (ord (orderOf (v .type)) c (order-lt (v .type) (known P lay v i)) hc)
+      spread = spread-of (v .type) (known lay v i) (paired (stretch (P .store) (orderOf (v .type)) c)) (ord (orderOf (v .type)) c (order-lt (v .type) (known lay v i)) hc)
 
       in-row : (q : Place) → InP q rest → 8 * v .x + across turn q < 8 * P .width
       in-row q j =
           let a : across turn q < 8 * wide (v .type) = spread .inside q j .0 in
-          let b = right P lay v i in
+          let b = right lay v i in
           omega arith
 
       pub places-size : length (placesAt P v c) ≡ 63 * blocksOf v
@@ -153,7 +154,7 @@ module _ (P : Pass) (lay : LaidOut P) (ord : Ordered P) where
       places-inside p j =
           let r = in-place turn (8 * P .width) (8 * v .x) (8 * v .y) rest p j in
           let d : down turn (r .0) < 8 * high (v .type) = spread .inside (r .0) (r .1) .1 in
-          let b = bottom P lay v i in
+          let b = bottom lay v i in
           let y : 8 * v .y + down turn (r .0) < 8 * P .height = omega arith in
           rw (r .2) (digits-lt y (in-row (r .0) (r .1)))
 
@@ -168,43 +169,43 @@ module _ (P : Pass) (lay : LaidOut P) (ord : Ordered P) where
           ap (λ (x : ℕ). x % (8 * P .width)) (r .2) ∙ cell-column turn (8 * P .width) (8 * v .x) (8 * v .y) q (in-row q (r .1)) in
           let py : p / (8 * P .width) ≡ 8 * v .y + down turn q =
           ap (λ (x : ℕ). x / (8 * P .width)) (r .2) ∙ cell-row turn (8 * P .width) (8 * v .x) (8 * v .y) q (in-row q (r .1)) in
-          covers P lay v i (p % (8 * P .width) / 8) (p / (8 * P .width) / 8) (omega arith) (omega arith) (omega arith) (omega arith)
+          covers lay v i (p % (8 * P .width) / 8) (p / (8 * P .width) / 8) (omega arith) (omega arith) (omega arith) (omega arith)
 
       item-fit : (G : Grids) → Sized P G → (n : ℕ) → Fit G (itemOf P v n c)
       unfolding itemOf
       item-fit G sz n = record {
-        few = few P lay v i;
+        few = few lay v i;
         size = places-size;
         there = let x : length G ≡ 3 = sz .three in omega arith;
         distinct = places-distinct;
         inside = λ (p : ℕ). λ (j : In p (placesAt P v c)). rw (sz .cells c hc) (places-inside p j);
       }
 
-  pub fits-all : (G : Grids) → Sized P G → (vs : List Varblock) → ((v : Varblock) → InV v vs → InV v (varblocks P)) → Fits G (itemsOf P vs)
+  pub fits-all : (G : Grids) → Sized P G → (vs : List Varblock) → ((v : Varblock) → Among v vs → Among v (varblocks P)) → Fits G (itemsOf P vs)
   unfolding itemsOf
   fits-all G sz [] f = tt
   fits-all G sz (v ∷ vs) f =
-      let i = f v (inl refl) in
+      let i = f v (first refl) in
       fits-both G (channels P v) (itemsOf P vs)
       (item-fit v i 1 (omega arith) G sz 0, (item-fit v i 0 (omega arith) G sz 1, (item-fit v i 2 (omega arith) G sz 2, tt)))
-      (fits-all G sz vs (λ u j. f u (inr j)))
+      (fits-all G sz vs (λ u j. f u (later j)))
 
   disjoint-at : (v : Varblock) → DisjointItems (channels P v)
   unfolding itemOf
   disjoint-at v = ((λ p i h. none₂ h), ((λ p i h. none₁ h), ((λ p i h. h), tt)))
 
-  pub disjoint-all : (vs : List Varblock) → ((v : Varblock) → InV v vs → InV v (varblocks P)) → Apart vs → DisjointItems (itemsOf P vs)
+  pub disjoint-all : (vs : List Varblock) → ((v : Varblock) → Among v vs → Among v (varblocks P)) → Apart vs → DisjointItems (itemsOf P vs)
   unfolding itemsOf
   disjoint-all [] f a = tt
-  disjoint-all (v ∷ vs) f a = disjoint-both (channels P v) (itemsOf P vs) (disjoint-at v) (disjoint-all vs (λ u j. f u (inr j)) (a .1)) cross
+  disjoint-all (v ∷ vs) f a = disjoint-both (channels P v) (itemsOf P vs) (disjoint-at v) (disjoint-all vs (λ u j. f u (later j)) (a .1)) cross
     where
       cross : (c p : ℕ) → Holds (channels P v) c p → Holds (itemsOf P vs) c p → ⊥
       cross c p h k =
           let r = varblock-at P v c p h in
           let s = held P vs c p k in
-          let i = f v (inl refl) in
-          let j = f (s .0) (inr (s .1)) in
-          let pos : 0 < 8 * P .width = (let q = corner P lay v i .toX in omega arith) in
+          let i = f v (first refl) in
+          let j = f (s .0) (later (s .1)) in
+          let pos : 0 < 8 * P .width = (let q = has lay v i .inX in omega arith) in
           let x : p % (8 * P .width) < 8 * P .width = mod-lt p pos in
           let y : p / (8 * P .width) < 8 * P .height = div-lt-iff-lt-mul {k = 8 * P .width} {x = p} {y = 8 * P .height} pos .1 (places-inside v i c (r .0) p (r .1)) in
           let o = lay .valid .owned (p % (8 * P .width) / 8) (p / (8 * P .width) / 8) (omega arith) (omega arith) in
@@ -228,9 +229,9 @@ module _ (P : Pass) (lay : LaidOut P) (ord : Ordered P) where
       let o = lay .valid .owned (p % (8 * P .width) / 8) (p / (8 * P .width) / 8) (omega arith) (omega arith) in
       let w = o .covers in
       let a = w .fromX in let b = w .fromY in
-      in-it (cornerAt K M (o .ox) (o .oy)) (of-corner K M (P .width) (P .height) (o .ox) (o .oy) (omega arith) (omega arith) (w .corner)) (w .fromX) (w .toX) (w .fromY) (w .toY)
+      in-it (varblock (o .ox) (o .oy) (K (o .ox) (o .oy) - 2) (M (o .ox) (o .oy))) (at-corner lay (o .ox) (o .oy) (omega arith) (omega arith) (w .corner)) (w .fromX) (w .toX) (w .fromY) (w .toY)
     where
-      in-it : (v : Varblock) → InV v (varblocks P) → v .x ≤ p % (8 * P .width) / 8 → p % (8 * P .width) / 8 < v .x + wide (v .type)
+      in-it : (v : Varblock) → Among v (varblocks P) → v .x ≤ p % (8 * P .width) / 8 → p % (8 * P .width) / 8 < v .x + wide (v .type)
           → v .y ≤ p / (8 * P .width) / 8 → p / (8 * P .width) / 8 < v .y + high (v .type) → Low P p ⊎ Holds (itemsOf P (varblocks P)) c p
       in-it v i l r u d = cases (decLt dx (wide (v .type))) (decLt dy (high (v .type)))
         where
@@ -263,7 +264,7 @@ module _ (P : Pass) (lay : LaidOut P) (ord : Ordered P) where
   pub low-not-held : (c p : ℕ) → Low P p → Holds (itemsOf P (varblocks P)) c p → ⊥
   low-not-held c p l h = in-it (held P (varblocks P) c p h)
     where
-      in-it : (v : Varblock) × InV v (varblocks P) × (c < 3) × In p (placesAt P v c) → ⊥
+      in-it : (v : Varblock) × Among v (varblocks P) × (c < 3) × In p (placesAt P v c) → ⊥
       in-it s =
           let v = s .0 in let i = s .1 in let hc = s .2 in
           let u = l .of in
@@ -276,15 +277,15 @@ module _ (P : Pass) (lay : LaidOut P) (ord : Ordered P) where
           ap (λ (x : ℕ). x / (8 * P .width)) (r .2) ∙ cell-row t (8 * P .width) (8 * v .x) (8 * v .y) q (in-row v i c hc q (r .1)) in
           let a = l .left in let b = l .right in let d = l .top in let e = l .bottom in
           let cv = places-covered v i c hc p (s .3) in
-          let cu = covers P lay u (l .there) (p % (8 * P .width) / 8) (p / (8 * P .width) / 8) (omega arith) (omega arith) (omega arith) (omega arith) in
+          let cu = covers lay u (l .there) (p % (8 * P .width) / 8) (p / (8 * P .width) / 8) (omega arith) (omega arith) (omega arith) (omega arith) in
           let x₀ = cu .toX in let y₀ = cu .toY in
-          let xr = right P lay u (l .there) in let yb = bottom P lay u (l .there) in
+          let xr = right lay u (l .there) in let yb = bottom lay u (l .there) in
           let o = lay .valid .owned (p % (8 * P .width) / 8) (p / (8 * P .width) / 8) (omega arith) (omega arith) in
           let m = o .only (v .x) (v .y) cv in
           let n = o .only (u .x) (u .y) cu in
           let ex : u .x ≡ v .x = n .0 ∙ sym (m .0) in
           let ey : u .y ≡ v .y = n .1 ∙ sym (m .1) in
-          let et : u .type ≡ v .type = type-is P lay u (l .there) ∙ ap₂ (λ (x y : ℕ). K x y - 2) ex ey ∙ sym (type-is P lay v i) in
+          let et : u .type ≡ v .type = type-is lay u (l .there) ∙ ap₂ (λ (x y : ℕ). K x y - 2) ex ey ∙ sym (type-is lay v i) in
           let w : wide (u .type) ≡ wide (v .type) = ap wide et in
           let g : high (u .type) ≡ high (v .type) = ap high et in
           spread v i c hc .upper q (r .1) (omega arith) (omega arith)

@@ -15,6 +15,7 @@ use Rattle.refusal.specs.Said.{said}
 use Rattle.hf_coeff_walk.specs.Walk.{Walked, ended, stopped, walk, coeffContext, flag, less, gain}
 use Rattle.hf_coeff_walk.specs.Item.{Item, counted, newRow, coeffPart, countCluster}
 use Rattle.hf_coeff_group.specs.Group.{Grids, Reading, going, refused, after, item, read, readOf}
+use Rattle.hf_coeff_group.specs.laws.Symbols.{symbolsIn}
 use Rattle.one_to_one.specs.Filling.{told}
 
 -- a refusal after so many symbols, of all that there are: it tells them, and 15 comes only when none is left
@@ -137,11 +138,6 @@ pub record LogsAll (most all at : ℕ) (f : List ℕ → Reading) : Type 0 where
   pub each : readOf to ≡ at + length clusters
   pub few : length clusters ≤ most
   pub tells : TellsAll all to
-
--- a count and a symbol for each place
-abbrev pub symbolsIn : List Item → ℕ
-symbolsIn [] = 0
-symbolsIn (it ∷ its) = suc (length (it .places)) + symbolsIn its
 
 after-log : (c : ℕ) (G rows : Grids) (left : ℕ) (log : List ℕ) (w : Walked) → after c G rows left (logging log w) ≡ loggingAll log (after c G rows left w)
 after-log c G rows left log (ended us at l g n) = refl

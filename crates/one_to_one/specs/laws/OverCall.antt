@@ -20,7 +20,7 @@ use Rattle.hf_coeff.specs.CallLaws.{call-reads}
 use Rattle.hf_coeff.specs.Fits.{lengths-fit}
 use Rattle.one_to_one.specs.Filling.{Sized, Fixed, Filling, withSymbols, Fills, Fails, symbolsRead, refused, unread, leftOver, otherGrids}
 use Rattle.one_to_one.specs.laws.Premises.{Shape}
-use Rattle.one_to_one.specs.laws.Corners.{corners-apart}
+use Rattle.layout.specs.laws.Corners.{corners-apart}
 use Rattle.one_to_one.specs.laws.Items.{wrote-ordered, Ordered, fits-all, disjoint-all, off-low}
 use Rattle.one_to_one.specs.laws.OneToOne as over
 use Rattle.one_to_one.specs.laws.SymbolsRead.{never-more}

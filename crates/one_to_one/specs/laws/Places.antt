@@ -8,8 +8,8 @@ use native.Mathlib.Decide.{ℕ-discrete}
 use lib.ListN.{length, getD, set, length-set}
 use lib.Seq.{getD-set-same, getD-set-other, set-getD}
 use Rattle.one_to_one.specs.Filling.{Words}
-use Rattle.one_to_one.specs.Symbols.{symbol}
-use Rattle.one_to_one.specs.laws.Symbols.{symbol-same, symbol-zero}
+use Rattle.coded_numbers.specs.Signed.{symbol}
+use Rattle.coded_numbers.specs.laws.Signed.{symbol-same, symbol-zero}
 use Rattle.one_to_one.specs.Sequence.{differing, coeffs, more}
 use Rattle.hf_coeff_walk.specs.Walk.{less}
 use Rattle.one_to_one.specs.Places.{In}

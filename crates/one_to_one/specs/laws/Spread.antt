@@ -8,13 +8,10 @@ use native.Mathlib.Omega.{arith}
 use native.Mathlib.Nat.{mul-comm, mul-mul-mul-comm}
 use native.Mathlib.Decide.{decLt}
 use lib.Arith.{digits-div, digits-mod}
-use lib.Dec.{T, ltb, eqb, eqb→eq, ltb→lt}
-use lib.Ieee.Fits.{and-l, and-r}
+use lib.Dec.{ltb}
 use lib.ListN.{length, drop, length-drop}
-use Rattle.dct_select.specs.Transforms.{TRANSFORMS, wide, high, orderOf, turns}
-use Rattle.block_sizes.specs.BlockSizes.{BLOCK-SIZES, widthOf, heightOf}
-use Rattle.dct_select.specs.laws.Rules.{below-27}
-use Rattle.laws.specs.Tables.{each}
+use Rattle.dct_select.specs.Transforms.{wide, high, orderOf, turns}
+use Rattle.block_sizes.specs.BlockSizes.{widthOf, heightOf}
 use Rattle.natural_order.specs.Places.{Place, is, tally, count}
 use Rattle.natural_order.specs.laws.Bools.{tally-one}
 use Rattle.natural_order.specs.Order.{Size, Order}
@@ -24,6 +21,7 @@ use Rattle.natural_order.specs.laws.Listing.{hit-of, listing-length, self, insi
 use Rattle.natural_order.specs.laws.Order.{skip-by}
 use Rattle.natural_order.specs.laws.Beyond.{beyond-count, corner-none, other-once}
 use Rattle.hf_coeff_walk.specs.Places.{across, down, cellOf, placesOf}
+use Rattle.hf_coeff_group.specs.Sizes.{order-lt, Sides, swapped, straight, sides-of}
 use Rattle.one_to_one.specs.Places.{In}
 use Rattle.one_to_one.specs.laws.Places.{Distinct}
 
@@ -67,8 +65,8 @@ module _ (bw bh : ℕ) (z : Size bw bh) (l : List Place) (o : Order bw bh l) whe
   abbrev rest : List Place
   rest = drop (bw * bh / 64) l
 
-  straight : Spread false (bw / 8) (bh / 8) (drop (bw * bh / 64) l)
-  straight = record {
+  spread-straight : Spread false (bw / 8) (bh / 8) (drop (bw * bh / 64) l)
+  spread-straight = record {
     size =
         let a : length l ≡ bw * bh = listing-length bw bh l (o .cells) in
         let b : bw * bh / 64 ≡ bw / 8 * (bh / 8) = skip-by bw bh z in
@@ -111,42 +109,24 @@ turned w h qs s = record {
   whole = λ dx dy a b n. let r = s .whole dy dx b a (λ (y : dy < w). λ (x : dx < h). n x y) in (r .0, r .1, r .3, r .2);
 }
 
--- a transform's sides are those of its order, swapped where it turns
-abbrev sized : Bool → ℕ → ℕ → ℕ → ℕ → Bool
-sized true w h bw bh = eqb w (bh / 8) && eqb h (bw / 8)
-sized false w h bw bh = eqb w (bw / 8) && eqb h (bh / 8)
-
-abbrev fine : ℕ → Bool
-fine t = ltb (orderOf t) 13 && sized (turns t) (wide t) (high t) (widthOf (orderOf t)) (heightOf (orderOf t))
-
-all-fine : T (each fine 27 0)
-unfolding TRANSFORMS wide high orderOf turns BLOCK-SIZES widthOf heightOf
-all-fine = tt
-
-pub order-lt : (t : ℕ) → t < 27 → orderOf t < 13
-order-lt t h = ltb→lt (orderOf t) 13 (and-l (ltb (orderOf t) 13) (sized (turns t) (wide t) (high t) (widthOf (orderOf t)) (heightOf (orderOf t))) (below-27 fine all-fine t h))
-
-spread-by : (b : Bool) (w h bw bh : ℕ) (l : List Place) → T (sized b w h bw bh) → bw * bh / 64 ≡ bw / 8 * (bh / 8)
-    → Spread false (bw / 8) (bh / 8) (drop (bw * bh / 64) l) → Spread b w h (drop (w * h) l)
-spread-by true w h bw bh l t e s =
-    let a : w ≡ bh / 8 = eqb→eq w (bh / 8) (and-l (eqb w (bh / 8)) (eqb h (bw / 8)) t) in
-    let b : h ≡ bw / 8 = eqb→eq h (bw / 8) (and-r (eqb w (bh / 8)) (eqb h (bw / 8)) t) in
-    let c : w * h ≡ bw * bh / 64 = rw (a, b) (mul-comm (bh / 8) (bw / 8) ∙ sym e) in
-    rw c (rw (a, b) (turned (bw / 8) (bh / 8) (drop (bw * bh / 64) l) s))
-spread-by false w h bw bh l t e s =
-    let a : w ≡ bw / 8 = eqb→eq w (bw / 8) (and-l (eqb w (bw / 8)) (eqb h (bh / 8)) t) in
-    let b : h ≡ bh / 8 = eqb→eq h (bh / 8) (and-r (eqb w (bw / 8)) (eqb h (bh / 8)) t) in
-    let c : w * h ≡ bw * bh / 64 = rw (a, b) (sym e) in
-    rw c (rw (a, b) s)
+spread-by : (turn : Bool) (w h bw bh : ℕ) (l : List Place) → Sides turn w h bw bh → bw * bh / 64 ≡ bw / 8 * (bh / 8)
+    → Spread false (bw / 8) (bh / 8) (drop (bw * bh / 64) l) → Spread turn w h (drop (w * h) l)
+spread-by turn w h bw bh l (swapped e a b) f s =
+    let x : w ≡ bh / 8 = omega arith in
+    let y : h ≡ bw / 8 = omega arith in
+    let c : w * h ≡ bw * bh / 64 = rw (x, y) (mul-comm (bh / 8) (bw / 8) ∙ sym f) in
+    rw (e, c) (rw (x, y) (turned (bw / 8) (bh / 8) (drop (bw * bh / 64) l) s))
+spread-by turn w h bw bh l (straight e a b) f s =
+    let x : w ≡ bw / 8 = omega arith in
+    let y : h ≡ bh / 8 = omega arith in
+    let c : w * h ≡ bw * bh / 64 = rw (x, y) (sym f) in
+    rw (e, c) (rw (x, y) s)
 
 pub spread-of : (t : ℕ) → t < 27 → (l : List Place) → Order (widthOf (orderOf t)) (heightOf (orderOf t)) l → Spread (turns t) (wide t) (high t) (drop (wide t * high t) l)
 spread-of t h l o =
     let k = orderOf t in
     let z = size-of k (order-lt t h) in
-    spread-by (turns t) (wide t) (high t) (widthOf k) (heightOf k) l
-    (and-r (ltb k 13) (sized (turns t) (wide t) (high t) (widthOf k) (heightOf k)) (below-27 fine all-fine t h))
-    (skip-by (widthOf k) (heightOf k) z)
-    (straight (widthOf k) (heightOf k) z l o)
+    spread-by (turns t) (wide t) (high t) (widthOf k) (heightOf k) l (sides-of t h) (skip-by (widthOf k) (heightOf k) z) (spread-straight (widthOf k) (heightOf k) z l o)
 
 -- Places as cells of a grid.
 module _ (t : Bool) (row X Y : ℕ) where

@@ -1,86 +1,25 @@
 -- How many symbols a coefficient call reads, and what it logs (document 01, Coefficients: "the number of symbols read, never above
 -- 192 × blocks, and one logged cluster for each of them"). Of every input, refused ones too.
 use mathlib.Core.Path.{_≡_, refl, ap, sym, _∙_}
-use mathlib.Core.Bool.{Bool}
-use mathlib.Core.Logic.{inl, inr}
-use mathlib.Core.List.{List, [], _∷_, _++_}
-use Prim.Native.Nat.{ℕ, _+_, _*_, _/_, _<_, _≤_}
+use mathlib.Core.List.{List, [], _++_}
+use Prim.Native.Nat.{ℕ, _+_, _*_, _≤_}
 use native.Mathlib.Omega.{arith}
-use native.Mathlib.Nat.{mul-mul-mul-comm, mul-comm}
-use lib.Pow.{pow-pos}
 use lib.ListN.{length, drop, length-drop, length-append}
 use lib.Seq.{sets, sets-eq, drop-at}
 use Rattle.refusal.specs.declared.Refusal.{Refusal}
 use Rattle.refusal.specs.declared.Said.{Said}
 use Rattle.refusal.specs.Said.{said}
 use Rattle.refusal.specs.Said as refusals
-use Rattle.dct_select.specs.Transforms.{wide, high, orderOf, turns}
-use Rattle.block_sizes.specs.BlockSizes.{widthOf, heightOf}
-use Rattle.layout.specs.Grid.{at}
-use Rattle.layout.specs.Varblocks.{Varblock, area}
-use Rattle.layout.specs.laws.Theorems.{layout-iff, layout-area}
-use Rattle.hf_pass_store.specs.Store.{PLACES, stretch}
-use Rattle.natural_order.specs.Places.{paired}
-use Rattle.natural_order.specs.laws.Flat.{length-paired}
-use Rattle.hf_coeff_walk.specs.PlaceLaws.{length-places}
-use Rattle.hf_coeff_walk.specs.Item.{Item}
-use Rattle.hf_coeff_group.specs.Pass.{Pass, varblocks, blocksOf, placesAt, itemOf, channels, itemsOf}
+use Rattle.layout.specs.laws.Theorems.{layout-iff}
+use Rattle.hf_coeff_group.specs.Pass.{varblocks, itemsOf}
 use Rattle.hf_coeff_group.specs.Group.{Reading, going, refused, read, readOf, group-items}
-use Rattle.hf_coeff_group.specs.Sizes.{logOf, order-lt, log-blocks, Sides, swapped, straight, sides-of}
-use Rattle.hf_coeff_group.specs.Stored.{stretch-long}
 use Rattle.hf_coeff.specs.Call.{Lent, refuses, Outcome, blocks, clustersOf, rowsOf, presetMap, reading, outcome, refuse, call}
 use Rattle.hf_coeff.specs.CallSteps.{Passed}
 use Rattle.hf_coeff.specs.Fits.{lengths-fit}
-use Rattle.one_to_one.specs.laws.Rectangles.{known}
-use Rattle.one_to_one.specs.Filling.{InV, LaidOut, withLog, told, symbolsRead}
+use Rattle.hf_coeff_group.specs.laws.Symbols.{symbolsIn, most-symbols}
+use Rattle.one_to_one.specs.Filling.{LaidOut, withLog, told, symbolsRead}
 use Rattle.one_to_one.specs.laws.Ways.{Way, before, work, way}
-use Rattle.one_to_one.specs.laws.Logging.{loggingAll, TellsAll, LogsAll, symbolsIn, read-logs}
-
--- A varblock's symbols: at most 64 for each of its blocks in each channel.
-symbols-both : (xs ys : List Item) → symbolsIn (xs ++ ys) ≡ symbolsIn xs + symbolsIn ys
-symbols-both [] ys = omega arith
-symbols-both (x ∷ xs) ys = let e : symbolsIn (xs ++ ys) ≡ symbolsIn xs + symbolsIn ys = symbols-both xs ys in omega arith
-
-area-by : (turn : Bool) (w h bw bh : ℕ) → Sides turn w h bw bh → bw * bh ≡ 64 * (w * h)
-area-by turn w h bw bh (swapped e a b) = rw (a, b) (mul-mul-mul-comm 8 h 8 w ∙ ap (λ (n : ℕ). 64 * n) (mul-comm h w))
-area-by turn w h bw bh (straight e a b) = rw (a, b) (mul-mul-mul-comm 8 w 8 h)
-
-module _ (P : Pass) (lay : LaidOut P) (whole : length (P .store) ≡ 2 * PLACES) where
-  pub places-many : (v : Varblock) → v .type < 27 → (c : ℕ) → c < 3 → length (placesAt P v c) ≡ 63 * blocksOf v
-  places-many v h c hc =
-      let t = v .type in
-      let s = stretch (P .store) (orderOf t) c in
-      let a : length s ≡ 2 * (widthOf (orderOf t) * heightOf (orderOf t)) = stretch-long (P .store) whole (orderOf t) c (order-lt t h) hc in
-      let b : widthOf (orderOf t) * heightOf (orderOf t) ≡ 64 * (wide t * high t) = area-by (turns t) (wide t) (high t) (widthOf (orderOf t)) (heightOf (orderOf t)) (sides-of t h) in
-      let p : length (paired s) ≡ length s / 2 = length-paired s in
-      length-places (turns t) (8 * P .width) (8 * v .x) (8 * v .y) (drop (blocksOf v) (paired s)) ∙ length-drop (blocksOf v) (paired s) ∙ omega arith
-
-  pub some-blocks : (v : Varblock) → v .type < 27 → 1 ≤ blocksOf v
-  some-blocks v h = let a = log-blocks (v .type) h in let b = pow-pos (logOf (v .type)) in omega arith
-
-  varblock-symbols : (v : Varblock) → v .type < 27 → symbolsIn (channels P v) ≤ 192 * blocksOf v
-  unfolding itemOf
-  varblock-symbols v h =
-      let a = places-many v h 1 (omega arith) in
-      let b = places-many v h 0 (omega arith) in
-      let c = places-many v h 2 (omega arith) in
-      let s = some-blocks v h in
-      omega arith
-
-  group-symbols : (vs : List Varblock) → ((v : Varblock) → InV v vs → InV v (varblocks P)) → symbolsIn (itemsOf P vs) ≤ 192 * area vs
-  unfolding itemsOf area
-  group-symbols [] f = omega arith
-  group-symbols (v ∷ vs) f =
-      let a : symbolsIn (channels P v) ≤ 192 * blocksOf v = varblock-symbols v (known P lay v (f v (inl refl))) in
-      let b : symbolsIn (itemsOf P vs) ≤ 192 * area vs = group-symbols vs (λ u j. f u (inr j)) in
-      rw (symbols-both (channels P v) (itemsOf P vs)) (omega arith)
-
-  pub most-symbols : symbolsIn (itemsOf P (varblocks P)) ≤ 192 * blocks P
-  most-symbols =
-      let a = group-symbols (varblocks P) (λ v i. i) in
-      let b : area (varblocks P) ≡ P .width * P .height = layout-area (P .width) (P .height) (P .kinds) (P .muls) lay in
-      let c : P .width * P .height ≡ P .height * P .width = mul-comm (P .width) (P .height) in
-      omega arith
+use Rattle.one_to_one.specs.laws.Logging.{loggingAll, TellsAll, LogsAll, read-logs}
 
 -- What holds of every call, whatever the log held before.
 pub record Tied (L : Lent) : Type 0 where
@@ -136,7 +75,7 @@ module _ (L : Lent) (passed : Passed L) where
       let P = L .pass in
       let l = lengths-fit L (passed .lengths) in
       let lay : LaidOut P = layout-iff (P .width) (P .height) (P .kinds) (P .muls) (l .kinds) (l .muls) .0 (passed .layout) in
-      let m : symbolsIn (itemsOf P (varblocks P)) ≤ 192 * blocks P = most-symbols P lay (l .store) in
+      let m : symbolsIn (itemsOf P (varblocks P)) ≤ 192 * blocks P = most-symbols P (l .store) lay in
       let long : 192 * blocks P ≤ length (L .log) = l .log in
       let r = read-logs (L .shift) (clustersOf P) (presetMap L preset) (itemsOf P (varblocks P)) (L .symbols) 0 (L .grids) (rowsOf P) 0 in
       let few : length (r .clusters) ≤ symbolsIn (itemsOf P (varblocks P)) = r .few in

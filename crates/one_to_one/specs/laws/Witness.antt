@@ -14,10 +14,11 @@ use Rattle.dct_select.specs.Transforms.{TRANSFORMS, wide, high, orderOf, turns}
 use Rattle.natural_order.specs.Natural.{natural}
 use Rattle.layout.specs.Walk.{cells, rows}
 use Rattle.layout.specs.Varblocks.{Varblock, cornersRow, cornersFrom}
+use Rattle.layout.specs.Listed.{Among, first, later}
 use Rattle.layout.specs.Grid.{rowOf, gridFrom, fillFrom}
 use Rattle.layout.specs.Cut.{cut, groupX, groupY}
 use Rattle.layout.specs.Check.{clear, fitting, visitCell, checkRun}
-use Rattle.lf_group.specs.Blocks.{wideIn, highIn}
+use Rattle.lf_group.specs.Blocks.{bwIn, bhIn}
 use Rattle.filter_strength.specs.declared.Filter.the-variants.{Off}
 use Rattle.filter_strength.specs.Strength.{zero32, scaledBy, dividedBy}
 use Rattle.filter_strength.specs.Limits.{inLimits}
@@ -35,8 +36,8 @@ use Rattle.block_sides.specs.Limits.{inLimits as inLimits32, lengthsFit as leng
 use Rattle.block_record.specs.Calls.{group, outcome, cutCheck, cutOf}
 use Rattle.block_record.specs.laws.CutSteps.{cut-done}
 use Rattle.accepted_layout.specs.Theorems.{bwOf, bhOf}
-use Rattle.one_to_one.specs.Filling.{cell, InV, Low, LowKept, Fixed, Filling, Fills, Given}
-use Rattle.one_to_one.specs.Symbols.{symbol, pack}
+use Rattle.one_to_one.specs.Filling.{cell, Low, LowKept, Fixed, Filling, Fills, Given}
+use Rattle.coded_numbers.specs.Signed.{symbol, pack}
 use Rattle.one_to_one.specs.Sequence.{differing, coeffs, sequence, theSequence}
 use Rattle.one_to_one.specs.laws.Premises.{set-below}
 use Rattle.one_to_one.specs.laws.Demand3.{one-sequence}
@@ -50,7 +51,7 @@ abbrev pub columns : Inputs
 columns = inputs 8 8 (0 ∷ 0 ∷ 0 ∷ []) (0 ∷ []) (0 ∷ []) (0 ∷ []) Off (replicate 8 zero32) 1
 
 layout-accepted : layoutOf columns (0 ∷ []) (0 ∷ []) (0 ∷ []) ≡ record { answer = accepted 1; kinds = 2 ∷ []; hfMul = 1 ∷ []; sigma = 0 ∷ [] }
-unfolding layoutOf wideIn highIn inLimits le lt eq reading column judge place scan takeCell rows cells wide high TRANSFORMS scaledBy dividedBy
+unfolding layoutOf bwIn bhIn inLimits le lt eq reading column judge place scan takeCell rows cells wide high TRANSFORMS scaledBy dividedBy
 layout-accepted = refl
 
 lengths-fit : lengthsFit one ≡ true
@@ -70,11 +71,11 @@ zero-cells (suc (suc (suc c))) p = omega arith
 
 -- the cut call writes the one group there is
 cut-checked : cutCheck (bwOf columns) (bhOf columns) (2 ∷ []) (1 ∷ []) 0 1 1 ≡ gives tt
-unfolding cutCheck inLimits32 lengthsFit2 wideIn highIn groupX groupY checkRun rows cells visitCell fitting clear wide high TRANSFORMS fillFrom
+unfolding cutCheck inLimits32 lengthsFit2 bwIn bhIn groupX groupY checkRun rows cells visitCell fitting clear wide high TRANSFORMS fillFrom
 cut-checked = refl
 
 cut-accepted : cutOf (bwOf columns) (bhOf columns) (2 ∷ []) (1 ∷ []) 0 (0 ∷ []) (0 ∷ []) ≡ outcome (gives (group 1 1)) (2 ∷ []) (1 ∷ [])
-unfolding wideIn highIn groupX groupY cut gridFrom rowOf
+unfolding bwIn bhIn groupX groupY cut gridFrom rowOf
 cut-accepted = cut-done (bwOf columns) (bhOf columns) (2 ∷ []) (1 ∷ []) 0 (0 ∷ []) (0 ∷ []) cut-checked
 
 pub no-bits : readPreset one ≡ Value 0 0
@@ -127,14 +128,14 @@ corner-cell : (p : ℕ) → Low (one .pass) p → p ≡ 0
 unfolding cornersRow cornersFrom wide high TRANSFORMS
 corner-cell p l = go (l .of) (l .there) (l .right) (l .bottom)
   where
-    go : (v : Varblock) → InV v (varblocks (one .pass)) → p % 8 < 8 * v .x + wide (v .type) → p / 8 < 8 * v .y + high (v .type) → p ≡ 0
-    go v (inl e) a b =
+    go : (v : Varblock) → Among v (varblocks (one .pass)) → p % 8 < 8 * v .x + wide (v .type) → p / 8 < 8 * v .y + high (v .type) → p ≡ 0
+    go v (first e₀) a b =
+        let e = sym e₀ in
         let x : v .x ≡ 0 = ap (λ (u : Varblock). u .x) e in
         let y : v .y ≡ 0 = ap (λ (u : Varblock). u .y) e in
         let w : wide (v .type) ≡ 1 = ap (λ (u : Varblock). wide (u .type)) e in
         let h : high (v .type) ≡ 1 = ap (λ (u : Varblock). high (u .type)) e in
         omega arith
-    go v (inr e) a b = absurd e
 
 pub filling : Filling one wanted
 filling = record { sized = record { three = refl; cells = sizes }; words = words; low = low }

@@ -1,14 +1,14 @@
--- Laws: A varblock of w × h blocks against its order (document 01, Orders and Coefficients): as many places,
+-- The sides of a transform's varblock against its order's (document 01, Orders and Coefficients): as many places, the same sides,
+-- and each place of the order, turned or not, inside the varblock.
 use mathlib.Core.Path.{_≡_, refl}
 use mathlib.Core.Bool.{Bool, true, false, cond}
 use mathlib.Core.Logic.{_↔_}
 use Prim.Native.Nat.{ℕ, _*_, _/_, _≤_, _<_, min, max}
 use native.Mathlib.Omega.{arith}
 use lib.Dec.{T, eqb, leb, leb→le, eqb→eq}
-use Rattle.dct_select.specs.Transforms.{TRANSFORMS, wide, high, orderOf, turns}
+use Rattle.dct_select.specs.Transforms.{TRANSFORMS, wide, high, orderOf, turns, turnedX, turnedY}
 use Rattle.block_sizes.specs.BlockSizes.{BLOCK-SIZES, widthOf, heightOf}
 use Rattle.dct_select.specs.laws.Rules.{below-27}
-use Rattle.dct_select.specs.Varblock.{turnedX, turnedY}
 
 module _ (t : ℕ) (known : t < 27) where
   -- a side is 1 to 32 blocks
