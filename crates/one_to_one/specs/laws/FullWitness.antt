@@ -18,12 +18,12 @@ use Rattle.hf_metadata.specs.Call.{Inputs, inputs, layoutOf, accepted}
 use Rattle.hf_pass_store.specs.Store.{PLACES, stretch}
 use Rattle.refusal.specs.Answer as answer
 use Rattle.hf_pass.specs.declared.OrdersAnswer.the-variants as orderAnswer
-use Rattle.hf_pass.specs.Reading.{Given as GivenLists, digits, oneList, orders}
+use Rattle.hf_pass.specs.Orders.{Given as GivenLists, digits, oneList, orders}
 use Rattle.hf_pass.specs.Call as order
 use Rattle.hf_pass.specs.laws.Stretch.{store-length, stretch-list}
-use Rattle.hf_pass.specs.Wrote.{Wrote}
+use Rattle.hf_pass.specs.Call.{Wrote}
 use Rattle.block_context.specs.Record.{bsizeOf}
-use Rattle.thresholds.specs.Reading.{lfValue, qfValue, readValues, readList, readLists}
+use Rattle.thresholds.specs.Thresholds.{lfValue, qfValue, readValues, readList, readLists}
 use Rattle.hf_block_context.specs.Call as context
 use Rattle.hf_coeff.specs.Call.{lengthsFit, readPreset}
 use Rattle.block_check.specs.Calls.{gives}
