@@ -14,7 +14,7 @@ use Rattle.natural_order.specs.Places.{flat}
 use Rattle.natural_order.specs.Natural.{natural}
 use Rattle.filter_strength.specs.declared.Filter.the-variants.{Off}
 use Rattle.filter_strength.specs.Strength.{zero32}
-use Rattle.hf_metadata.specs.Call.{Inputs, inputs, layoutOf, accepted}
+use Rattle.hf_metadata.specs.Call.{Inputs, inputs, layoutOf}
 use Rattle.hf_pass_store.specs.Store.{PLACES, stretch}
 use Rattle.refusal.specs.Answer as answer
 use Rattle.hf_pass.specs.declared.OrdersAnswer.the-variants as orderAnswer
@@ -29,7 +29,7 @@ use Rattle.hf_coeff.specs.Call.{lengthsFit, readPreset}
 use Rattle.block_check.specs.Calls.{gives}
 use Rattle.block_record.specs.Calls.{group, outcome, cutOf}
 use Rattle.block_record.specs.laws.CutSteps.{cut-done}
-use Rattle.accepted_layout.specs.Theorems.{bwOf, bhOf}
+use Rattle.accepted_layout.specs.Outcome.{bwOf, bhOf}
 use Rattle.one_to_one.specs.Filling.{cell, wanted, Fixed, Filling, Fills, Given}
 use Rattle.one_to_one.specs.Sequence.{theSequence}
 use Rattle.accepted_layout.specs.Outcome.{bwOf, bhOf}

@@ -18,7 +18,7 @@ use Rattle.hf_coeff.specs.Call.{lengthsFit, readPreset}
 use Rattle.block_check.specs.Calls.{gives}
 use Rattle.block_record.specs.Calls.{group, outcome, cutOf}
 use Rattle.block_record.specs.laws.CutSteps.{cut-done}
-use Rattle.accepted_layout.specs.Theorems.{bwOf, bhOf}
+use Rattle.accepted_layout.specs.Outcome.{bwOf, bhOf}
 use Rattle.one_to_one.specs.Filling.{cell, wanted as wantedOf, Fixed, Filling, Fills, Given}
 use Rattle.one_to_one.specs.Sequence.{theSequence}
 use Rattle.accepted_layout.specs.Outcome.{bwOf, bhOf}
