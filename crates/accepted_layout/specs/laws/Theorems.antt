@@ -11,7 +11,7 @@ use Rattle.layout.specs.Grid.{at}
 use Rattle.layout.specs.Valid.{Covers, Owned, Layout}
 use Rattle.layout.specs.Varblocks.{varblocksOf, area}
 use Rattle.layout.specs.laws.Theorems.{disjoint, covered, layout-area}
-use Rattle.block_check.specs.Calls.{refuses}
+use Rattle.refusal.specs.Answer.{refuses}
 use Rattle.block_record.specs.Calls.{cutOf}
 use Rattle.block_record.specs.laws.Theorems.{cut-not-18}
 use Rattle.layout_reading.specs.Reading.{Placed, Reading, Going, Stopped, reading}

@@ -30,7 +30,7 @@ use Rattle.natural_order.specs.Places.{paired}
 use Rattle.hf_coeff_walk.specs.Places.{placesOf}
 use Rattle.hf_coeff_group.specs.Pass.{varblocks, itemOf, itemsOf}
 use Rattle.hf_coeff.specs.Call.{lengthsFit, readPreset}
-use Rattle.block_check.specs.Calls.{gives}
+use Rattle.refusal.specs.Answer.{gives}
 use Rattle.block_sides.specs.Limits.{inLimits as inLimits32, lengthsFit as lengthsFit2}
 use Rattle.block_record.specs.Calls.{group, outcome, cutCheck, cutOf}
 use Rattle.block_record.specs.laws.CutSteps.{cut-done}
