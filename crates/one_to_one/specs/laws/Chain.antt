@@ -10,7 +10,7 @@ use Rattle.block_check.specs.laws.Theorems.{checked}
 use Rattle.block_record.specs.Calls.{group}
 use Rattle.block_record.specs.laws.Theorems.{cut-checks}
 use Rattle.hf_metadata.specs.Call.{layoutOf}
-use Rattle.accepted_layout.specs.Theorems.{bwOf, bhOf}
+use Rattle.accepted_layout.specs.Outcome.{bwOf, bhOf}
 use Rattle.hf_block_context.specs.laws.Accepted.{accepted-fit}
 use Rattle.hf_coeff_group.specs.Group.{Grids}
 use Rattle.hf_coeff.specs.Call.{Lent}

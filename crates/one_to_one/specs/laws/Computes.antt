@@ -23,7 +23,7 @@ use Rattle.lf_group.specs.Blocks.{bwIn, bhIn}
 use Rattle.filter_strength.specs.Strength.{scaledBy, dividedBy}
 use Rattle.filter_strength.specs.Limits.{inLimits}
 use Rattle.layout_reading.specs.Scan.{takeCell, scan}
-use Rattle.layout_reading.specs.Reading.{place, judge, column, reading}
+use Rattle.layout_reading.specs.Reading.{place, column, reading}
 use Rattle.hf_metadata.specs.Call.{layoutOf}
 use Rattle.block_sides.specs.Limits.{inLimits as inLimits32, lengthsFit as lengthsFit2}
 use Rattle.block_record.specs.Calls.{cutCheck}
@@ -38,7 +38,7 @@ use Rattle.one_to_one.specs.Filling.{cell, isLow, wanted}
 use Rattle.one_to_one.specs.Sequence.{nonZeros, upTo, sent, theSequence}
 
 unfoldable pub layout-computes : Bool
-unfolding layoutOf bwIn bhIn inLimits le lt eq reading column judge place scan takeCell rows cells wide high TRANSFORMS scaledBy dividedBy
+unfolding layoutOf bwIn bhIn inLimits le lt eq reading column place scan takeCell rows cells wide high TRANSFORMS scaledBy dividedBy
 layout-computes = true
 
 unfoldable pub cut-computes : Bool

@@ -19,6 +19,7 @@ use Rattle.one_to_one.specs.laws.Cells.{set-below, adds, adds-off, put-c
 use Rattle.one_to_one.specs.laws.Reads.{joined}
 use Rattle.one_to_one.specs.laws.Items.{wrote-ordered, Ordered, low-or-held, low-not-held}
 use Rattle.one_to_one.specs.laws.Ways.{Way, before, work, way, did, outcome-by}
+use Rattle.hf_pass.specs.Call.{Wrote}
 
 -- Whatever is lent, with orders as an accepted order call wrote them: no call, accepted or refused and of whatever shift, changes a
 -- low-frequency cell.

@@ -14,11 +14,10 @@ use Rattle.dct_select.specs.Transforms.{wide, high, orderOf, turns}
 use Rattle.block_sizes.specs.BlockSizes.{widthOf, heightOf}
 use Rattle.natural_order.specs.Places.{Place, is, tally, count}
 use Rattle.natural_order.specs.laws.Bools.{tally-one}
-use Rattle.natural_order.specs.Sizes.{Size}
-use Rattle.natural_order.specs.laws.Sizes.{size-of, bw-eights, bh-by}
+use Rattle.natural_order.specs.Order.{Size, Order}
+use Rattle.natural_order.specs.laws.Sizes.{size-of, width-eights, height-by}
 use Rattle.natural_order.specs.laws.Counts.{is-hit}
 use Rattle.natural_order.specs.laws.Listing.{hit-of, listing-length, self, inside-of}
-use Rattle.natural_order.specs.Order.{Order}
 use Rattle.natural_order.specs.laws.Order.{skip-by}
 use Rattle.natural_order.specs.laws.Beyond.{beyond-count, corner-none, other-once}
 use Rattle.hf_coeff_walk.specs.Places.{across, down, cellOf, placesOf}
@@ -64,17 +63,17 @@ module _ (bw bh : ℕ) (z : Size bw bh) (l : List Place) (o : Order bw bh l) whe
         let b : bw * bh / 64 ≡ bw / 8 * (bh / 8) = skip-by bw bh z in
         let c = length-drop (bw * bh / 64) l in
         omega (arith, whole64);
-    inside = λ q i. let a = in-bounds q i in let x = bw-eights bw bh z in let y = bh-by bw bh z in let u = a .0 in let v = a .1 in (omega arith, omega arith);
+    inside = λ q i. let a = in-bounds q i in let x = width-eights bw bh z in let y = height-by bw bh z in let u = a .0 in let v = a .1 in (omega arith, omega arith);
     upper = λ q i a b. omega (arith, in-count q rest i, corner-none bw bh l o (q .0) (q .1) a b);
     distinct = count-distinct rest (λ x y. omega (arith, beyond-count bw bh l o x y, tally-one (ltb x bw && ltb y bh)));
-    whole = λ dx dy a b n. let x = bw-eights bw bh z in let y = bh-by bw bh z in
+    whole = λ dx dy a b n. let x = width-eights bw bh z in let y = height-by bw bh z in
         ((dx, dy), count-in dx dy rest (omega (arith, once dx dy (omega arith) (omega arith) n)), refl, refl);
   }
     where
       whole64 : bw * bh ≡ 64 * (bw * bh / 64)
       whole64 =
-          let a : bw ≡ 8 * (bw / 8) = omega (arith, bw-eights bw bh z) in
-          let b : bh ≡ 8 * (bh / 8) = omega (arith, bh-by bw bh z) in
+          let a : bw ≡ 8 * (bw / 8) = omega (arith, width-eights bw bh z) in
+          let b : bh ≡ 8 * (bh / 8) = omega (arith, height-by bw bh z) in
           let s : bw * bh / 64 ≡ bw / 8 * (bh / 8) = skip-by bw bh z in
           product (bw / 8) (bh / 8) bw bh (bw * bh / 64) a b s
         where
