@@ -16,7 +16,6 @@ use Rattle.hf_block_context.specs.Call.{contextsOf}
 use Rattle.hf_coeff.specs.Call.{lengthsFit, readPreset}
 use Rattle.refusal.specs.Answer.{gives}
 use Rattle.block_record.specs.Calls.{group, outcome, cutOf}
-use Rattle.refusal.specs.Answer.{gives}
 use Rattle.block_record.specs.laws.CutSteps.{cut-done}
 use Rattle.accepted_layout.specs.Outcome.{bwOf, bhOf}
 use Rattle.one_to_one.specs.Filling.{cell, wanted as wantedOf, Fixed, Filling, Fills, Given}
