@@ -8,7 +8,5 @@ pub mod LeftOver
 pub mod Inside
 -- laws
 pub mod Sequence
-pub mod Places
-pub mod Premises
 pub mod Plain
 pub mod laws

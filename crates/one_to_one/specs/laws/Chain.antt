@@ -3,7 +3,8 @@ use mathlib.Core.Path.{_≡_, ap}
 use mathlib.Core.Logic.{_↔_}
 use mathlib.Core.List.{List}
 use Prim.Native.Nat.{ℕ}
-use Rattle.block_check.specs.Calls.{gives, checkOf}
+use Rattle.refusal.specs.Answer.{gives}
+use Rattle.block_check.specs.Calls.{checkOf}
 use Rattle.block_sides.specs.Limits.{Sided}
 use Rattle.block_sides.specs.laws.Limits.{limits-in}
 use Rattle.block_check.specs.laws.Theorems.{checked}
@@ -40,9 +41,9 @@ module _ (L : Lent) (given : Given L) where
   }
 
   -- one sequence and only one, from the calls' answers
-  pub one-sequence-by-calls : (W : Grids) → Filling L W → Words (theSequence L W) × ((s : List ℕ) → Words s → Fills L s W ↔ (s ≡ theSequence L W))
+  pub one-sequence-by-calls : (W : Grids) → Filling L W → Words (theSequence (L .pass) (L .grids) W) × ((s : List ℕ) → Words s → Fills L s W ↔ (s ≡ theSequence (L .pass) (L .grids) W))
   one-sequence-by-calls W filling = one-sequence L fixed-by-calls W filling
 
   -- and every other sequence fails
-  pub every-other-by-calls : (W : Grids) → Filling L W → (s : List ℕ) → Words s → Fails L s W ↔ (s ≡ theSequence L W → ⊥)
+  pub every-other-by-calls : (W : Grids) → Filling L W → (s : List ℕ) → Words s → Fails L s W ↔ (s ≡ theSequence (L .pass) (L .grids) W → ⊥)
   every-other-by-calls W filling = every-other L fixed-by-calls W filling

@@ -15,20 +15,20 @@ use Rattle.hf_coeff_group.specs.Group.{Grids}
 use Rattle.hf_coeff.specs.Call.{Lent, clustersOf, rowsOf, presetMap}
 use Rattle.one_to_one.specs.Filling.{Words, Disjoint, Fixed, Filling, Fills, Fails}
 use Rattle.one_to_one.specs.Sequence.{theSequence}
-use Rattle.one_to_one.specs.laws.Existence.{sequence-words}
 use Rattle.one_to_one.specs.laws.OneToOne as over
+use Rattle.one_to_one.specs.laws.OneToOne.{sequence-words}
 use Rattle.one_to_one.specs.laws.OverCall.{group, same, fills-not, not-fills}
 
 module _ (L : Lent) (fixed : Fixed L) where
   module _ (W : Grids) (filling : Filling L W) where
     -- these 32-bit symbols fill the cells so, and no other symbols do
-    pub one-sequence : Words (theSequence L W) × ((s : List ℕ) → Words s → Fills L s W ↔ (s ≡ theSequence L W))
+    pub one-sequence : Words (theSequence (L .pass) (L .grids) W) × ((s : List ℕ) → Words s → Fills L s W ↔ (s ≡ theSequence (L .pass) (L .grids) W))
     unfolding theSequence
     one-sequence =
         let P = L .pass in
         let items = itemsOf P (varblocks P) in
         let G = group L fixed W filling in (
-          sequence-words items (L .grids) W (G .fit),
+          sequence-words items (L .grids) W (G .few),
           λ s h.
               let o = over.one-to-one (clustersOf P) (presetMap L (fixed .rest .preset)) items (L .grids) W G (L .log) (rowsOf P) s h in
               let f = same L fixed W filling s in
@@ -36,7 +36,7 @@ module _ (L : Lent) (fixed : Fixed L) where
         )
 
     -- every other sequence fails, and that one does not
-    pub every-other : (s : List ℕ) → Words s → Fails L s W ↔ (s ≡ theSequence L W → ⊥)
+    pub every-other : (s : List ℕ) → Words s → Fails L s W ↔ (s ≡ theSequence (L .pass) (L .grids) W → ⊥)
     every-other s h =
         let o = one-sequence .1 s h in
         ((λ f e. fills-not L s W (o .1 e) f), (λ n. not-fills L s W (λ f. n (o .0 f))))

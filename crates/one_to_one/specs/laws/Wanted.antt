@@ -21,7 +21,7 @@ use Rattle.hf_coeff.specs.Call.{Lent}
 use Rattle.hf_coeff.specs.Fits.{lengths-fit}
 use Rattle.one_to_one.specs.Filling.{cell, Low, LowKept, lowIn, lowInSome, isLow, Sized, Fixed, Filling, asked, gridWanted, wanted, Words, Fills, Fails}
 use Rattle.one_to_one.specs.Sequence.{theSequence}
-use Rattle.one_to_one.specs.laws.Premises.{same-shape}
+use Rattle.one_to_one.specs.laws.Cells.{same-shape}
 use Rattle.one_to_one.specs.laws.Demand3.{one-sequence, every-other}
 use Rattle.one_to_one.specs.Wanted.{many}
 
@@ -184,9 +184,9 @@ module _ (L : Lent) (fixed : Fixed L) (f : ℕ → ℕ → ℕ) (words : (c p : 
       at-cell c p (no n) h = no-channel W (filling .sized .three) c p n ∙ sym (no-channel (wanted L f) (three L f) c p n)
 
   -- Demand 3: whatever 32-bit numbers the cells that are not low-frequency are to hold, these 32-bit symbols fill them so, and no others do.
-  pub one-sequence-for-any : Words (theSequence L (wanted L f)) × ((s : List ℕ) → Words s → Fills L s (wanted L f) ↔ (s ≡ theSequence L (wanted L f)))
+  pub one-sequence-for-any : Words (theSequence (L .pass) (L .grids) (wanted L f)) × ((s : List ℕ) → Words s → Fills L s (wanted L f) ↔ (s ≡ theSequence (L .pass) (L .grids) (wanted L f)))
   one-sequence-for-any = one-sequence L fixed (wanted L f) wanted-filling
 
   -- every other sequence fails, and that one does not
-  pub every-other-for-any : (s : List ℕ) → Words s → Fails L s (wanted L f) ↔ (s ≡ theSequence L (wanted L f) → ⊥)
+  pub every-other-for-any : (s : List ℕ) → Words s → Fails L s (wanted L f) ↔ (s ≡ theSequence (L .pass) (L .grids) (wanted L f) → ⊥)
   every-other-for-any = every-other L fixed (wanted L f) wanted-filling

@@ -7,17 +7,11 @@ use mathlib.Core.Path.{_∙_, sym}
 use Rattle.hf_block_context.proofs.judge.check.Statement.{statement}
 use Rattle.hf_block_context.proofs.judge.check.Tie as tie
 
-bsize-requires : tie.Need-bsize-requires
-bsize-requires c κs = search needs
-
 returns : tie.Need-returns
 returns c =
     let a = c .before .before .before .args in
     let e = c .before .bsize .ensures ∙ capped (c .before .before .before .args .lengths) (omega arith) (omega arith) (omega arith) (omega arith) in
     judged-size (a .num-clusters) (a .map .now) (a .lengths) (omega arith)
-
-mul-if2 : tie.Need-mul-if2
-mul-if2 c = search needs
 
 returns-2 : tie.Need-returns-2
 returns-2 c =
@@ -37,9 +31,6 @@ returns-4 c =
     let e = c .before .before .before .before .bsize .ensures ∙ capped (c .before .before .before .before .before .before .args .lengths) (omega arith) (omega arith) (omega arith) (omega arith) in
     judged-many (a .num-clusters) (a .map .now) (a .lengths) (omega arith) (omega arith) (omega arith) (omega arith)
 
-all-below-requires : tie.Need-all-below-requires
-all-below-requires c κs = search needs
-
 returns-5 : tie.Need-returns-5
 returns-5 c =
     let a = c .before .before .before .before .before .before .before .before .args in
@@ -54,4 +45,5 @@ returns-6 c =
 
 pub check-spec : {M : Type 1} → statement M
 check-spec =
-    tie.close (tie.spec bsize-requires returns mul-if2 returns-2 returns-3 returns-4 all-below-requires returns-5 returns-6)
+    tie.close (tie.spec (λ c κs. search needs) returns (λ c. search needs) returns-2 returns-3 returns-4
+    (λ c κs. search needs) returns-5 returns-6)
