@@ -1,12 +1,12 @@
-use Rattle.recorded_digests.specs.laws.DigestLaws.{digest-step, digest-all}
-use Rattle.recorded_digests.specs.Digest.{digest}
+use Rattle.recorded_answers.specs.laws.Digest.{digest-step, digest-all}
+use Rattle.recorded_answers.specs.Digest.{digest}
 use borrow.Author.Needs.{needs}
 use native.Mathlib.Omega.{arith}
 use mathlib.Core.Path.{_≡_, _∙_, sym}
 use Prim.Native.Nat.{_≤_, _-_}
 use lib.ListN.{length, drop}
-use Rattle.recorded_digests.proofs.of_bytes.Statement.{statement}
-use Rattle.recorded_digests.proofs.of_bytes.Tie as tie
+use Rattle.recorded_answers.proofs.digest.of_bytes.Statement.{statement}
+use Rattle.recorded_answers.proofs.digest.of_bytes.Tie as tie
 
 abbrev Inv-loop : tie.InvT-loop
 Inv-loop list h₀ i₀ h i = (i ≤ length list) × (digest h (drop i list) ≡ digest 0 list)

@@ -5,7 +5,7 @@ use Prim.Native.Nat.{ℕ, _+_, _<_, _≤_}
 use native.Mathlib.Numerals.{add-one}
 use lib.ListN.{length, getD, drop, drop-of-length-le}
 use lib.Seq.{drop-cons}
-use Rattle.recorded_digests.specs.Digest.{digest, digested}
+use Rattle.recorded_answers.specs.Digest.{digest, digested}
 
 pub digest-step : (h : ℕ) (s : List ℕ) (i : ℕ) → i < length s → digest h (drop i s) ≡ digest (digested h (getD s i 0)) (drop (i + 1) s)
 unfolding digest

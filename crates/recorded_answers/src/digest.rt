@@ -1,7 +1,7 @@
 // The digest of a list: from 0, for each element in turn, 16777619 times what there is, plus the element,
 // modulo 2^32.
 ghost use mathlib.Core.Path.{_≡_};
-ghost use Rattle.recorded_digests.specs.Digest.{digest, digested};
+ghost use Rattle.recorded_answers.specs.Digest.{digest, digested};
 
 fn to_usize(x: u32) -> usize
     ensures { λ r. ⌜ r ≡ x ⌝ }
