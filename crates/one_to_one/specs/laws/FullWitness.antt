@@ -22,7 +22,7 @@ use Rattle.hf_pass.specs.Call as order
 use Rattle.hf_pass.specs.laws.Stretch.{store-length, stretch-list}
 use Rattle.hf_pass.specs.Wrote.{Wrote}
 use Rattle.block_context.specs.Record.{bsizeOf}
-use Rattle.thresholds.specs.Reading.{lfValue, qfValue, readValues, readList, readLists}
+use Rattle.thresholds.specs.Thresholds.{lfValue, qfValue, readValues, readList, readLists}
 use Rattle.hf_block_context.specs.Call as context
 use Rattle.hf_coeff.specs.Call.{lengthsFit, readPreset}
 use Rattle.block_check.specs.Calls.{gives}
