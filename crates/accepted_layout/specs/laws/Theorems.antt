@@ -13,7 +13,6 @@ use Rattle.layout.specs.Grid.{at}
 use Rattle.layout.specs.Valid.{Covers, Owned, Layout}
 use Rattle.layout.specs.Varblocks.{varblocksOf, area}
 use Rattle.layout.specs.laws.Theorems.{disjoint, covered, layout-area}
-use Rattle.block_check.specs.Calls as check
 use Rattle.block_record.specs.Calls.{cutOf}
 use Rattle.block_record.specs.laws.Theorems.{cut-not-18}
 use Rattle.layout_reading.specs.Reading.{Placed, Placing, Going, Stopped, reading}
@@ -89,7 +88,7 @@ module _ (i : Inputs) (kinds hfMul sigma : List ℕ) where
 
     -- the cut never refuses it with 18, at whatever position
     pub accepted-cut : (g : ℕ) (outKinds outMuls : List ℕ) (why : Said)
-        → cutOf (bwOf i) (bhOf i) (layoutOf i kinds hfMul sigma .kinds) (layoutOf i kinds hfMul sigma .hfMul) g outKinds outMuls .answer ≡ check.refuses why → why .number ≡ 18 → ⊥
+        → cutOf (bwOf i) (bhOf i) (layoutOf i kinds hfMul sigma .kinds) (layoutOf i kinds hfMul sigma .hfMul) g outKinds outMuls .answer ≡ refuses why → why .number ≡ 18 → ⊥
     accepted-cut g outKinds outMuls = cut-not-18 (bwOf i) (bhOf i) (layoutOf i kinds hfMul sigma .kinds) (layoutOf i kinds hfMul sigma .hfMul) g outKinds outMuls accepted-layout
 
     -- each block is in just one varblock, which lies inside the grid and a square of 32 x 32 blocks (`Fits` of accepted-layout)

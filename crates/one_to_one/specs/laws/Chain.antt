@@ -3,7 +3,8 @@ use mathlib.Core.Path.{_≡_, ap}
 use mathlib.Core.Logic.{_↔_}
 use mathlib.Core.List.{List}
 use Prim.Native.Nat.{ℕ}
-use Rattle.block_check.specs.Calls.{gives, checkOf}
+use Rattle.refusal.specs.Answer.{gives}
+use Rattle.block_check.specs.Calls.{checkOf}
 use Rattle.block_sides.specs.Limits.{Sided}
 use Rattle.block_sides.specs.laws.Limits.{limits-in}
 use Rattle.block_check.specs.laws.Theorems.{checked}

@@ -8,7 +8,6 @@ use native.Mathlib.Decide.{ℕ-discrete, decLt}
 use lib.ListN.{length, getD, set, length-set}
 use lib.Seq.{sets, set-out, getD-set-same, getD-set-other}
 use Rattle.layout.specs.laws.Theorems.{layout-iff}
-use Rattle.hf_pass.specs.Wrote.{Wrote}
 use Rattle.hf_coeff_group.specs.Pass.{Pass, varblocks, itemsOf}
 use Rattle.hf_coeff_group.specs.Group.{Grids}
 use Rattle.hf_coeff.specs.Call.{Lent, Outcome, outcome, call}

@@ -12,7 +12,7 @@ use lib.Seq.{length-take-le}
 use Rattle.block_sizes.specs.BlockSizes.{widthOf, heightOf}
 use Rattle.dct_select.specs.Transforms.{wide, high, orderOf, turns}
 use Rattle.natural_order.specs.Places.{Place, paired}
-use Rattle.dct_select.specs.laws.Varblock.{wide-some, inside}
+use Rattle.dct_select.specs.laws.Sides.{wide-some, inside}
 use Rattle.layout.specs.Grid.{at}
 use Rattle.layout.specs.laws.Grid.{place-lt}
 use Rattle.layout.specs.Varblocks.{Varblock}
