@@ -20,3 +20,5 @@ pub mod Theorems
 pub mod Areas
 pub mod WalkSteps
 pub mod Loops
+pub mod Corners
+pub mod Rectangles

@@ -5,5 +5,5 @@ use Rattle.block_sides.specs.Limits.{Sided}
 
 -- Likeness: yes exactly for layouts with the same rectangles and hf_mul, no exactly for other layouts.
 pub record Sound (L : Lent) : Type 0 where
-  pub sides : Sided 256 (L .wide) (L .high)
-  pub layout : Layout (L .wide) (L .high) (L .kinds) (L .muls)
+  pub sides : Sided 256 (L .bw) (L .bh)
+  pub layout : Layout (L .bw) (L .bh) (L .kinds) (L .hfMul)

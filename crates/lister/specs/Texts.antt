@@ -27,7 +27,7 @@ last n = decimal n ++ (10 ∷ [])
 
 -- x, y, type, hf_mul of a varblock
 abbrev pub lineOf : Varblock → List ℕ
-lineOf v = spaced (v .x) ++ (spaced (v .y) ++ (spaced (v .type) ++ last (v .mul)))
+lineOf v = spaced (v .x) ++ (spaced (v .y) ++ (spaced (v .type) ++ last (v .hfMul)))
 
 unfoldable pub linesOf : List Varblock → List ℕ
 linesOf [] = []

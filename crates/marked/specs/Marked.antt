@@ -13,7 +13,8 @@ use Rattle.natural_order.specs.Natural.{natural}
 use Rattle.layout.specs.Varblocks.{varblock, varblocksOf, area}
 use Rattle.filter_strength.specs.declared.Filter.the-variants.{On}
 use Rattle.filter_strength.specs.Strength.{nearest}
-use Rattle.hf_metadata.specs.Call.{Outcome, accepted, refused, inputs, layoutOf}
+use Rattle.refusal.specs.Answer as answer
+use Rattle.hf_metadata.specs.Call.{Outcome, inputs, layoutOf}
 use Rattle.accepted_layout.specs.Marked.{off}
 use Rattle.hf_pass_store.specs.Store.{PLACES, stretch}
 use Rattle.hf_pass.specs.Call.{parsed}
@@ -39,18 +40,18 @@ M3 = (earlier : List ℕ) → length earlier ≡ 2 * PLACES
 
 -- M4 the lister's layout: 16 × 16 pixels and columns (6,4) (0,0) (0,2); the lister prints it in five lines
 abbrev pub M4 : Type 0
-M4 = (off 2 2 (6 ∷ 0 ∷ 0 ∷ []) (4 ∷ 0 ∷ 2 ∷ []) ≡ record { answer = accepted 3; kinds = 8 ∷ 2 ∷ 1 ∷ 2 ∷ []; hfMul = 5 ∷ 1 ∷ 0 ∷ 3 ∷ []; sigma = replicate 4 0 })
+M4 = (off 2 2 (6 ∷ 0 ∷ 0 ∷ []) (4 ∷ 0 ∷ 2 ∷ []) ≡ record { answer = answer.gives 3; kinds = 8 ∷ 2 ∷ 1 ∷ 2 ∷ []; hfMul = 5 ∷ 1 ∷ 0 ∷ 3 ∷ []; sigma = replicate 4 0 })
     × (varblocksOf 2 2 (8 ∷ 2 ∷ 1 ∷ 2 ∷ []) (5 ∷ 1 ∷ 0 ∷ 3 ∷ []) ≡ varblock 0 0 6 5 ∷ varblock 1 0 0 1 ∷ varblock 1 1 0 3 ∷ [])
     × (area (varblock 0 0 6 5 ∷ varblock 1 0 0 1 ∷ varblock 1 1 0 3 ∷ []) ≡ 4)
     × (textOf job ≡ lines)
 
 -- M5 mul 0 gives 1, −1 refused
 abbrev pub M5 : Type 0
-M5 = (off 1 1 (0 ∷ []) (0 ∷ []) .hfMul ≡ 1 ∷ []) × (off 1 1 (0 ∷ []) (4294967295 ∷ []) .answer ≡ refused (at 6 0 0))
+M5 = (off 1 1 (0 ∷ []) (0 ∷ []) .hfMul ≡ 1 ∷ []) × (off 1 1 (0 ∷ []) (4294967295 ∷ []) .answer ≡ answer.refuses (at 6 0 0))
 
 -- M6 x = 30, type 7 passes, 31 refused
 abbrev pub M6 : Type 0
-M6 = (off 32 1 (replicate 16 7) (replicate 16 0) .answer ≡ accepted 16) × (off 33 1 (0 ∷ replicate 16 7) (replicate 17 0) .answer ≡ refused (at 7 31 0))
+M6 = (off 32 1 (replicate 16 7) (replicate 16 0) .answer ≡ answer.gives 16) × (off 33 1 (0 ∷ replicate 16 7) (replicate 17 0) .answer ≡ answer.refuses (at 7 31 0))
 
 -- the layout call over one block of type 0, filter on: multiplier, look-up number, scale, mul
 abbrev pub on : Float → Float → ℕ → ℕ → Outcome
@@ -75,8 +76,8 @@ M7 = on half two 32768 3 .sigma ≡ 0x3f00_0000 ∷ []
 -- pattern 3b800000, as for hf_mul 16,777,216; both calls are accepted
 abbrev pub M8 : Type 0
 M8 = (nearest 16777217 ≡ fin false 1 (pos 24))
-    × (on one one 1 16777216 ≡ record { answer = accepted 1; kinds = 2 ∷ []; hfMul = 16777217 ∷ []; sigma = 0x3b80_0000 ∷ [] })
-    × (on one one 1 16777215 ≡ record { answer = accepted 1; kinds = 2 ∷ []; hfMul = 16777216 ∷ []; sigma = 0x3b80_0000 ∷ [] })
+    × (on one one 1 16777216 ≡ record { answer = answer.gives 1; kinds = 2 ∷ []; hfMul = 16777217 ∷ []; sigma = 0x3b80_0000 ∷ [] })
+    × (on one one 1 16777215 ≡ record { answer = answer.gives 1; kinds = 2 ∷ []; hfMul = 16777216 ∷ []; sigma = 0x3b80_0000 ∷ [] })
 
 -- M9 count 252 for type 4 passes, 253 refused: 252, as many symbols that are not 0, and counts 0 for the other channels are accepted
 abbrev pub M9 : Type 0

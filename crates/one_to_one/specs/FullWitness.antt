@@ -11,7 +11,7 @@ use Rattle.permutation.specs.Digits.{ordered}
 use Rattle.hf_pass_store.specs.Store.{stored}
 use Rattle.hf_pass_naturals.specs.Naturals.{naturals}
 use Rattle.block_context.specs.declared.HfBlockContext.{HfBlockContext}
-use Rattle.thresholds.specs.Reading.{listsOf}
+use Rattle.thresholds.specs.Thresholds.{listsOf}
 use Rattle.hf_block_context.specs.Call as context
 use Rattle.hf_coeff_group.specs.Pass.{Pass}
 use Rattle.hf_coeff_group.specs.Group.{Grids}
@@ -34,7 +34,7 @@ abbrev pub map : List ℕ
 map = pairs 312
 
 abbrev pub contexts : HfBlockContext
-contexts = context.stored 2 (listsOf (0 ∷ []) (4294967294 ∷ []) (2 ∷ []) (2 ∷ [])) map
+contexts = context.contextsOf 2 (listsOf (0 ∷ []) (4294967294 ∷ []) (2 ∷ []) (2 ∷ [])) map
 
 abbrev pub kinds : List ℕ
 kinds = 8 ∷ 2 ∷ 1 ∷ 2 ∷ []

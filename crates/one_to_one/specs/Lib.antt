@@ -7,9 +7,6 @@ pub mod FullWitness
 pub mod LeftOver
 pub mod Inside
 -- laws
-pub mod Symbols
 pub mod Sequence
-pub mod Places
-pub mod Premises
 pub mod Plain
 pub mod laws

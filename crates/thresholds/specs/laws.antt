@@ -1,6 +1,4 @@
 -- what is proved from the definitions
 pub mod Steps
-pub mod Reads
-pub mod StepLaws
+pub mod Lists
 pub mod Halfway
-pub mod ListLaws

@@ -9,7 +9,7 @@ use lib.ListN.{length, getD, length-replicate, getD-replicate}
 use borrow.Author.Tests.{eqb-false}
 use Rattle.laws.specs.laws.Cases.{eq-or-ne}
 use Rattle.dct_select.specs.Transforms.{wide, high}
-use Rattle.dct_select.specs.laws.Varblock.{wide-some, high-some}
+use Rattle.dct_select.specs.laws.Sides.{wide-some, high-some}
 use Rattle.layout.specs.Kinds.{wideOf, highOf}
 use Rattle.layout.specs.laws.Walk.{forward}
 use Rattle.layout.specs.Grid.{at}
@@ -17,11 +17,10 @@ use Rattle.layout.specs.laws.Grid.{place-lt}
 use Rattle.layout.specs.Valid.{Cells, Covers, Fits, Owned, Layout}
 use Rattle.layout.specs.Order.{Before}
 use Rattle.layout.specs.laws.Order.{Here, later, last}
-use Rattle.layout_column.specs.Columns.{lowEight, hfMulOf}
-use Rattle.layout_reading.specs.Reading.{Job, Placed, Reading, Going, Stopped, column, visit, start, reading}
+use Rattle.layout_reading.specs.Reading.{Job, Placed, Placing, Going, Stopped, nextType, nextHfMul, column, visit, start, reading}
 use Rattle.accepted_layout.specs.laws.Took.{InRect}
 use Rattle.accepted_layout.specs.laws.Puts.{Puts, Column, Spot, corner, body, beyond, spot, column-put}
-use Rattle.accepted_layout.specs.Accepted.{Part, Sofar}
+use Rattle.accepted_layout.specs.Refused.{Part, Sofar}
 
 -- one varblock more
 module _ (bw bh : ℕ) (K M K′ M′ : Cells) (t h x y : ℕ) (r : Part bw bh K M)
@@ -117,14 +116,14 @@ module _ (bw bh : ℕ) (K M K′ M′ : Cells) (t h x y : ℕ) (r : Part bw bh K
   }
     where
       f : (a b : ℕ) → a < bw → b < bh → 2 ≤ K′ a b → Spot x y (wide t) (high t) a b → Fits bw bh a b (K′ a b) (M′ a b)
-      f a b i j c (corner e) = rw (e .0, e .1, s .atCorner, s .mulCorner) fit
+      f a b i j c (corner e) = rw (e .0, e .1, s .atCorner, s .hfMulCorner) fit
       f a b i j c (body n q) = absurd (let z = s .inBody a b n q in omega arith)
-      f a b i j c (beyond n) = let z = s .elsewhere a b i n in rw (z, s .mulOther a b i (λ e. n (in-corner a b e))) (r .fits a b i j (omega arith))
+      f a b i j c (beyond n) = let z = s .elsewhere a b i n in rw (z, s .hfMulOther a b i (λ e. n (in-corner a b e))) (r .fits a b i j (omega arith))
 
       g : (a b : ℕ) → a < bw → b < bh → K′ a b < 2 → Spot x y (wide t) (high t) a b → M′ a b ≡ 0
       g a b i j c (corner e) = absurd (let w : K′ a b ≡ K′ x y = rw (e .0, e .1) in let z = s .atCorner in omega arith)
-      g a b i j c (body n q) = s .mulOther a b i n ∙ r .bare a b i j (let z = free a b q in omega arith)
-      g a b i j c (beyond n) = s .mulOther a b i (λ e. n (in-corner a b e)) ∙ r .bare a b i j (let z = s .elsewhere a b i n in omega arith)
+      g a b i j c (body n q) = s .hfMulOther a b i n ∙ r .bare a b i j (let z = free a b q in omega arith)
+      g a b i j c (beyond n) = s .hfMulOther a b i (λ e. n (in-corner a b e)) ∙ r .bare a b i j (let z = s .elsewhere a b i n in omega arith)
 
       u : (a b c d : ℕ) → a < bw → b < bh → Covers K′ c d a b → Here x y c d ⊎ Covers K c d a b → Spot x y (wide t) (high t) a b → 0 < K′ a b
       u a b c d i j v w (corner e) = let q : K′ a b ≡ K′ x y = rw (e .0, e .1) in let z = s .atCorner in omega arith
@@ -157,17 +156,18 @@ module _ (J : Job) where
   fitting : (x y t h : ℕ) (p p′ : Placed) → Column J x y p p′ t h → Fits (J .bw) (J .bh) x y (2 + t) h
   fitting x y t h p p′ c =
       let same : 2 + t - 2 ≡ t = omega arith in
-      let a = c .known in
-      record { known = omega arith; inX = rw same (c .inX); inY = rw same (c .inY); squareX = rw same (c .squareX); squareY = rw same (c .squareY); positive = c .positive; signed = c .signed }
+      let f = c .fits in
+      let a = f .known in
+      record { known = omega arith; inX = rw same (c .inX); inY = rw same (c .inY); squareX = rw same (f .squareX); squareY = rw same (f .squareY); positive = f .positive; signed = f .signed }
 
   -- a rectangle after a column was placed is the column's or an old one
   pub after : (x y t h : ℕ) (p p′ : Placed) → Column J x y p p′ t h → Sofar J x y p → (a b c d : ℕ) → a < J .bw → Covers (at (p′ .kinds) (J .bw)) c d a b
       → (Here x y c d × InRect x y (wide t) (high t) a b) ⊎ Covers (at (p .kinds) (J .bw)) c d a b
   after x y t h p p′ k q a b c d i v =
-      go (which (J .bw) (J .bh) (at (p .kinds) (J .bw)) (at (p .muls) (J .bw)) (at (p′ .kinds) (J .bw)) (at (p′ .muls) (J .bw)) t h x y (q .part) (fitting x y t h p p′ k) (k .free) (k .puts) a b c d i v)
+      go (which (J .bw) (J .bh) (at (p .kinds) (J .bw)) (at (p .hfMul) (J .bw)) (at (p′ .kinds) (J .bw)) (at (p′ .hfMul) (J .bw)) t h x y (q .part) (fitting x y t h p p′ k) (k .free) (k .puts) a b c d i v)
     where
       go : Here x y c d ⊎ Covers (at (p .kinds) (J .bw)) c d a b → (Here x y c d × InRect x y (wide t) (high t) a b) ⊎ Covers (at (p .kinds) (J .bw)) c d a b
-      go (inl e) = inl (e, new-in (J .bw) (J .bh) (at (p .kinds) (J .bw)) (at (p .muls) (J .bw)) (at (p′ .kinds) (J .bw)) (at (p′ .muls) (J .bw)) t h x y (q .part) (fitting x y t h p p′ k) (k .free) (k .puts) a b (rw (e .0, e .1) at v))
+      go (inl e) = inl (e, new-in (J .bw) (J .bh) (at (p .kinds) (J .bw)) (at (p .hfMul) (J .bw)) (at (p′ .kinds) (J .bw)) (at (p′ .hfMul) (J .bw)) t h x y (q .part) (fitting x y t h p p′ k) (k .free) (k .puts) a b (rw (e .0, e .1) at v))
       go (inr w) = inr w
 
   pub placing : (x y t h : ℕ) (p p′ : Placed) → Column J x y p p′ t h → Sofar J x y p → Sofar J (x + 1) y p′
@@ -183,13 +183,13 @@ module _ (J : Job) where
       K = at (p .kinds) (J .bw)
 
       M : Cells
-      M = at (p .muls) (J .bw)
+      M = at (p .hfMul) (J .bw)
 
       K′ : Cells
       K′ = at (p′ .kinds) (J .bw)
 
       M′ : Cells
-      M′ = at (p′ .muls) (J .bw)
+      M′ = at (p′ .hfMul) (J .bw)
 
       fit : Fits (J .bw) (J .bh) x y (2 + t) h
       fit = fitting x y t h p p′ c
@@ -242,18 +242,18 @@ module _ (J : Job) where
   -- what holds before anything is placed, and is kept by each column placed, holds of what was read
   module _ (Q : Placed → Type 0) (begin : Q (start J))
       (keep : (x y : ℕ) (p p′ : Placed) → x < J .bw → y < J .bh → p .used < length (J .types) → Sofar J x y p
-      → Column J x y p p′ (lowEight (getD (J .types) (p .used) 0)) (hfMulOf (getD (J .muls) (p .used) 0)) → Q p → Q p′) where
-    Along : ℕ → ℕ → Reading → Type 0
+      → Column J x y p p′ (nextType J p) (nextHfMul J p) → Q p → Q p′) where
+    Along : ℕ → ℕ → Placing → Type 0
     Along x y (Going p) = Sofar J x y p × Q p
-    Along x y (Stopped r) = Unit
+    Along x y (Stopped n r) = Unit
 
-    one : (x y : ℕ) (s : Reading) → x < J .bw → y < J .bh → Along x y s → Along (x + 1) y (visit J x y s)
+    one : (x y : ℕ) (s : Placing) → x < J .bw → y < J .bh → Along x y s → Along (x + 1) y (visit J x y s)
     unfolding Along
-    one x y (Stopped r) hx hy q = tt
+    one x y (Stopped n r) hx hy q = tt
     one x y (Going p) hx hy q = go (eqb (at (p .kinds) (J .bw) x y) 0) refl
       where
-        col : (s : Reading) → column J x y p ≡ s → Along (x + 1) y s
-        col (Stopped r) e = tt
+        col : (s : Placing) → column J x y p ≡ s → Along (x + 1) y s
+        col (Stopped n r) e = tt
         col (Going p′) e =
             let c = column-put J x y p p′ (q .0 .lengthK) (q .0 .lengthM) hx hy e in
             (placing x y _ _ p p′ (c .0) (q .0), keep x y p p′ hx hy (c .1) (q .0) (c .0) (q .1))
@@ -262,9 +262,9 @@ module _ (J : Job) where
         go true e = col (column J x y p) refl
         go false e = (passing x y p (let n = eqb-false (at (p .kinds) (J .bw) x y) 0 e in omega arith) (q .0), q .1)
 
-    row : (y : ℕ) (s : Reading) → y < J .bh → Along (J .bw) y s → Along 0 (y + 1) s
+    row : (y : ℕ) (s : Placing) → y < J .bh → Along (J .bw) y s → Along 0 (y + 1) s
     unfolding Along
-    row y (Stopped r) h q = tt
+    row y (Stopped n r) h q = tt
     row y (Going p) h q = (turned y p h (q .0), q .1)
 
     pub along : (p : Placed) → reading J ≡ Going p → Sofar J 0 (J .bh) p × Q p
@@ -272,12 +272,12 @@ module _ (J : Job) where
     along p e = rw e at (forward (visit J) (J .bw) (J .bh) Along one row (Going (start J)) (begun, begin))
 
   -- a reading that was not stopped
-  pub read-layout : (p : Placed) → reading J ≡ Going p → Layout (J .bw) (J .bh) (p .kinds) (p .muls)
+  pub read-layout : (p : Placed) → reading J ≡ Going p → Layout (J .bw) (J .bh) (p .kinds) (p .hfMul)
   read-layout p e =
       let q : (Sofar J) 0 (J .bh) p = along (λ (r : Placed). Unit) tt (λ x y r r′ hx hy u s c k. tt) p e .0 in
       record {
         kindsLength = q .lengthK;
-        mulsLength = q .lengthM;
+        hfMulLength = q .lengthM;
         valid = record {
           fits = q .part .fits;
           plain = λ a b i j c. (let z = q .done a b i j (inl j) in omega arith, q .part .bare a b i j c);

@@ -15,7 +15,7 @@ use lib.Ieee.Scale.{finite}
 use borrow.Author.Tests.{leb-false}
 use Rattle.laws.specs.laws.Cases.{eq-or-ne}
 use Rattle.dct_select.specs.Transforms.{wide, high}
-use Rattle.dct_select.specs.laws.Varblock.{wide-some, high-some}
+use Rattle.dct_select.specs.laws.Sides.{wide-some, high-some}
 use Rattle.layout.specs.laws.Walk.{forward}
 use Rattle.layout.specs.Grid.{at}
 use Rattle.layout.specs.laws.Grid.{place-lt, place-col, place-row}
@@ -35,14 +35,14 @@ use Rattle.filter_strength.specs.laws.Finite.{within-finite, sigma-within, sigm
 use Rattle.lf_group.specs.Blocks.{modesFit}
 use Rattle.layout_reading.specs.Scan.{Scan, Taking, Left, isOn, sigmaWith, takeCell, scan}
 use Rattle.layout_reading.specs.Reading.{Job, Placed, start}
-use Rattle.hf_metadata.specs.Call.{accepted, Inputs, jobOf}
+use Rattle.refusal.specs.Answer.{gives}
+use Rattle.hf_metadata.specs.Call.{Inputs, jobOf, layoutOf}
 use Rattle.accepted_layout.specs.laws.Took.{InRect, passed, cell-took}
 use Rattle.accepted_layout.specs.laws.Puts.{Column, Spot, corner, body, beyond, spot}
-use Rattle.accepted_layout.specs.Accepted.{Sofar}
+use Rattle.accepted_layout.specs.Refused.{Sofar}
 use Rattle.accepted_layout.specs.laws.Accepted.{after, along}
-use Rattle.accepted_layout.specs.Theorems.{bwOf, bhOf}
+use Rattle.accepted_layout.specs.Outcome.{bhOf, bwOf, sigmaAt, strengthAt}
 use Rattle.accepted_layout.specs.laws.Theorems.{Read, accepted-read, accepted-layout}
-use Rattle.accepted_layout.specs.Sigma.{outcome, sigmaAt, strengthAt}
 
 -- sigma of a block of a varblock whose filter is given; filter off: as it was
 abbrev cellSigma : DividedFilter → List Float → ℕ → ℕ → ℕ
@@ -242,7 +242,7 @@ module _ (J : Job) where
     lengthS : length (p .sigma) ≡ J .bh * J .bw
     free : (a b : ℕ) → a < J .bw → b < J .bh → at (p .kinds) (J .bw) a b ≡ 0 → sigmaAt (p .sigma) (J .bw) a b ≡ 0
     taken : (a b c d : ℕ) → a < J .bw → b < J .bh → Covers (at (p .kinds) (J .bw)) c d a b
-        → sigmaAt (p .sigma) (J .bw) a b ≡ cellSigma (dividedBy (J .filter) (at (p .muls) (J .bw) c d)) (J .lookups) (at (J .sharpness) (J .bw) a b) 0
+        → sigmaAt (p .sigma) (J .bw) a b ≡ cellSigma (dividedBy (J .filter) (at (p .hfMul) (J .bw) c d)) (J .lookups) (at (J .sharpness) (J .bw) a b) 0
     sharp : (a b : ℕ) → a < J .bw → b < J .bh → 0 < at (p .kinds) (J .bw) a b → isScaledOn (J .filter) ≡ true → at (J .sharpness) (J .bw) a b < 8
 
   begin : Strengths (start J)
@@ -263,7 +263,7 @@ module _ (J : Job) where
         scanned (J .bw) (J .bh) (dividedBy (J .filter) h) (J .lookups) (J .sharpness) x y (wide t) (high t) (p .sigma) (r .lengthS) a b i j (p .kinds) (c .taken) (q .sigma) (c .scanIs)
 
     was-free : at (p .kinds) (J .bw) x y ≡ 0
-    was-free = c .free x y (let w = wide-some t (c .known) in let v = high-some t (c .known) in (omega arith, omega arith, omega arith, omega arith))
+    was-free = c .free x y (let w = wide-some t (c .fits .known) in let v = high-some t (c .fits .known) in (omega arith, omega arith, omega arith, omega arith))
 
     now-free : (a b : ℕ) → a < J .bw → b < J .bh → at (q .kinds) (J .bw) a b ≡ 0 → Spot x y (wide t) (high t) a b → sigmaAt (q .sigma) (J .bw) a b ≡ 0
     now-free a b i j e (corner m) = absurd (let z = c .puts .atCorner in let u : at (q .kinds) (J .bw) a b ≡ at (q .kinds) (J .bw) x y = rw (m .0, m .1) in omega arith)
@@ -271,18 +271,18 @@ module _ (J : Job) where
     now-free a b i j e (beyond n) = seen a b i j .kept n ∙ r .free a b i j (sym (c .puts .elsewhere a b i n) ∙ e)
 
     now-taken : (a b u v : ℕ) → a < J .bw → b < J .bh → (Here x y u v × InRect x y (wide t) (high t) a b) ⊎ Covers (at (p .kinds) (J .bw)) u v a b
-        → sigmaAt (q .sigma) (J .bw) a b ≡ cellSigma (dividedBy (J .filter) (at (q .muls) (J .bw) u v)) (J .lookups) (at (J .sharpness) (J .bw) a b) 0
+        → sigmaAt (q .sigma) (J .bw) a b ≡ cellSigma (dividedBy (J .filter) (at (q .hfMul) (J .bw) u v)) (J .lookups) (at (J .sharpness) (J .bw) a b) 0
     now-taken a b u v i j (inl m) =
         seen a b i j .now (m .1)
         ∙ ap (λ (z : ℕ). cellSigma (dividedBy (J .filter) h) (J .lookups) (at (J .sharpness) (J .bw) a b) z) (r .free a b i j (c .free a b (m .1)))
-        ∙ ap (λ (n : ℕ). cellSigma (dividedBy (J .filter) n) (J .lookups) (at (J .sharpness) (J .bw) a b) 0) (sym (ap (λ (n : ℕ). at (q .muls) (J .bw) n v) (m .0 .0) ∙ ap (λ (n : ℕ). at (q .muls) (J .bw) x n) (m .0 .1) ∙ c .puts .mulCorner))
+        ∙ ap (λ (n : ℕ). cellSigma (dividedBy (J .filter) n) (J .lookups) (at (J .sharpness) (J .bw) a b) 0) (sym (ap (λ (n : ℕ). at (q .hfMul) (J .bw) n v) (m .0 .0) ∙ ap (λ (n : ℕ). at (q .hfMul) (J .bw) x n) (m .0 .1) ∙ c .puts .hfMulCorner))
     now-taken a b u v i j (inr w) =
         seen a b i j .kept (λ m. let z = c .free a b m in let f = o .part .full a b u v i j w in omega arith) ∙ r .taken a b u v i j w
         ∙ ap (λ (n : ℕ). cellSigma (dividedBy (J .filter) n) (J .lookups) (at (J .sharpness) (J .bw) a b) 0)
-        (sym (c .puts .mulOther u v (let z = w .fromX in omega arith) (λ m. let z = w .corner in let k : at (p .kinds) (J .bw) u v ≡ at (p .kinds) (J .bw) x y = rw (m .0, m .1) in omega (arith, was-free))))
+        (sym (c .puts .hfMulOther u v (let z = w .fromX in omega arith) (λ m. let z = w .corner in let k : at (p .kinds) (J .bw) u v ≡ at (p .kinds) (J .bw) x y = rw (m .0, m .1) in omega (arith, was-free))))
 
     now-sharp : (a b : ℕ) → a < J .bw → b < J .bh → 0 < at (q .kinds) (J .bw) a b → isScaledOn (J .filter) ≡ true → Spot x y (wide t) (high t) a b → at (J .sharpness) (J .bw) a b < 8
-    now-sharp a b i j l e (corner m) = seen a b i j .sharp (let w = wide-some t (c .known) in let v = high-some t (c .known) in (omega arith, omega arith, omega arith, omega arith)) (shared-on (J .filter) h e)
+    now-sharp a b i j l e (corner m) = seen a b i j .sharp (let w = wide-some t (c .fits .known) in let v = high-some t (c .fits .known) in (omega arith, omega arith, omega arith, omega arith)) (shared-on (J .filter) h e)
     now-sharp a b i j l e (body n m) = seen a b i j .sharp m (shared-on (J .filter) h e)
     now-sharp a b i j l e (beyond n) = r .sharp a b i j (let z = c .puts .elsewhere a b i n in omega arith) e
 
@@ -310,7 +310,7 @@ scaled-on Off scale m e = absurd (let z : _≡_ {A = ℕ} 0 1 = cc in omega arit
 scaled-on (On a) scale m e = refl
 
 module _ (i : Inputs) (kinds hfMul sigma : List ℕ) where
-  module _ (n : ℕ) (e : outcome i kinds hfMul sigma .answer ≡ accepted n) where
+  module _ (n : ℕ) (e : layoutOf i kinds hfMul sigma .answer ≡ gives n) where
     read : Read i kinds hfMul sigma n
     read = accepted-read i kinds hfMul sigma n e
 
@@ -318,33 +318,33 @@ module _ (i : Inputs) (kinds hfMul sigma : List ℕ) where
     strengths = along (jobOf i) (Strengths (jobOf i)) (begin (jobOf i)) (λ x y p q hx hy u o c r. placed-strengths (jobOf i) x y _ _ p q hx hy o c r) (read .last) (read .read)
 
     -- a sigma for each block
-    pub accepted-sigmas : length (outcome i kinds hfMul sigma .sigma) ≡ bhOf i * bwOf i
+    pub accepted-sigmas : length (layoutOf i kinds hfMul sigma .sigma) ≡ bhOf i * bwOf i
     accepted-sigmas = ap length (read .sigmaAre) ∙ strengths .1 .lengthS
 
     -- its bit pattern is what is left
-    pub accepted-sigma : (cx cy x y : ℕ) → x < bwOf i → y < bhOf i → Covers (at (outcome i kinds hfMul sigma .kinds) (bwOf i)) cx cy x y → sigmaAt (outcome i kinds hfMul sigma .sigma) (bwOf i) x y ≡ pattern (strengthAt i kinds hfMul sigma n e cx cy x y)
+    pub accepted-sigma : (cx cy x y : ℕ) → x < bwOf i → y < bhOf i → Covers (at (layoutOf i kinds hfMul sigma .kinds) (bwOf i)) cx cy x y → sigmaAt (layoutOf i kinds hfMul sigma .sigma) (bwOf i) x y ≡ pattern (strengthAt i kinds hfMul sigma cx cy x y)
     accepted-sigma cx cy x y hx hy v =
         let r = read in
         rw (r .sigmaAre, r .hfMulAre)
         (strengths .1 .taken x y cx cy hx hy (rw (r .kindsAre) at v)
-        ∙ steps (i .filter) (i .scale) (at (r .last .muls) (bwOf i) cx cy) (i .lookups) (at (i .sharpness) (bwOf i) x y))
+        ∙ steps (i .filter) (i .scale) (at (r .last .hfMul) (bwOf i) cx cy) (i .lookups) (at (i .sharpness) (bwOf i) x y))
 
     -- with the filter on every sharpness number is 0 to 7
     pub accepted-sharpness : (m : Float) → i .filter ≡ On m → (x y : ℕ) → x < bwOf i → y < bhOf i → at (i .sharpness) (bwOf i) x y < 8
     accepted-sharpness m f x y hx hy = strengths .1 .sharp x y hx hy (strengths .0 .done x y hx hy (inl hy)) (scaled-on (i .filter) (i .scale) m f)
 
     -- it is finite, no NaN and no infinity, at most 65,504 × 65,536 × 65,504 in size, and the bit pattern reads back as it
-    pub accepted-finite : (cx cy x y : ℕ) → x < bwOf i → y < bhOf i → Covers (at (outcome i kinds hfMul sigma .kinds) (bwOf i)) cx cy x y
-        → T (finite (strengthAt i kinds hfMul sigma n e cx cy x y)) × Within SIGMA-MOST (strengthAt i kinds hfMul sigma n e cx cy x y) × (ofBits binary32 (sigmaAt (outcome i kinds hfMul sigma .sigma) (bwOf i) x y) ≡ strengthAt i kinds hfMul sigma n e cx cy x y)
+    pub accepted-finite : (cx cy x y : ℕ) → x < bwOf i → y < bhOf i → Covers (at (layoutOf i kinds hfMul sigma .kinds) (bwOf i)) cx cy x y
+        → T (finite (strengthAt i kinds hfMul sigma cx cy x y)) × Within SIGMA-MOST (strengthAt i kinds hfMul sigma cx cy x y) × (ofBits binary32 (sigmaAt (layoutOf i kinds hfMul sigma .sigma) (bwOf i) x y) ≡ strengthAt i kinds hfMul sigma cx cy x y)
     accepted-finite cx cy x y hx hy v =
-        let h = at (outcome i kinds hfMul sigma .hfMul) (bwOf i) cx cy in
+        let h = at (layoutOf i kinds hfMul sigma .hfMul) (bwOf i) cx cy in
         let s = at (i .sharpness) (bwOf i) x y in
         let f = accepted-layout i kinds hfMul sigma n e .valid .fits cx cy (let z = v .fromX in omega arith) (let z = v .fromY in omega arith) (v .corner) in
         let a = f .positive in
         let b = f .signed in
         let p = and-r (modesFit (i .modes)) (paramsFit (i .filter) (i .lookups) (i .scale)) (rw (read .parameters) tt) in
         let w = sigma-within (i .filter) (i .scale) h (i .lookups) s (is-true (paramsFit (i .filter) (i .lookups) (i .scale)) p) a (omega arith) (λ m g. accepted-sharpness m g x y hx hy) in (
-          within-finite SIGMA-MOST (strengthAt i kinds hfMul sigma n e cx cy x y) w,
+          within-finite SIGMA-MOST (strengthAt i kinds hfMul sigma cx cy x y) w,
           w,
           ap (ofBits binary32) (accepted-sigma cx cy x y hx hy v) ∙ sigma-back (i .filter) (i .scale) h (i .lookups) s,
         )

@@ -7,21 +7,18 @@ use native.Mathlib.Omega.{arith}
 use lib.Dec.{leb}
 use lib.ListN.{length, take, drop}
 use borrow.Author.Tests.{le-leb, lt-leb, leb-true, eq-eqb, ne-eqb}
-use Rattle.bit_place.specs.declared.Place.{Place}
+use Rattle.bits.specs.declared.Place.{Place}
 use Rattle.bits.specs.declared.Got.the-variants as got
-use Rattle.bits.specs.Bits.{Read, Value, Ended, then, readBits, readChoice, readU32, chosen, Choice, Constant, Offset, valueOf, bitsOf}
-use Rattle.bits.specs.Numbers.{Bytes}
+use Rattle.bits.specs.Bits.{Read, Value, Ended, then, readBits, readChoice, readU32, chosen, Choice, Constant, Offset, valueOf, bitsOf, Bytes}
 use Rattle.bits.specs.laws.Numbers.{number, length-bits, value-field, window}
 use Rattle.bits.specs.declared.U32Specifier.{U32Specifier}
-use Rattle.bit_place.specs.Place.{placeAt}
-use Rattle.bit_place.specs.laws.Place.{passed}
-use Rattle.bits.specs.Reads.{gotOf, choiceOf}
+use Rattle.bits.specs.Reads.{placeAt, bitsBefore, gotOf, choiceOf}
 
-pub passed-at : (t : ℕ) → passed (placeAt t) ≡ t
-passed-at t = omega arith
+pub before-at : (t : ℕ) → bitsBefore (placeAt t) ≡ t
+before-at t = omega arith
 
-pub at-passed : (p : Place) → p .bit < 8 → placeAt (passed p) ≡ p
-at-passed p h =
+pub at-before : (p : Place) → p .bit < 8 → placeAt (bitsBefore p) ≡ p
+at-before p h =
     let a : (8 * p .byte + p .bit) / 8 ≡ p .byte = omega arith in
     let b : (8 * p .byte + p .bit) % 8 ≡ p .bit = omega arith in
     rw (a, b)
@@ -49,27 +46,27 @@ pub read-end : (s : List ℕ) (p n : ℕ) → 8 * length s < p + n → got.End 0
 read-end s p n h = let z : p - p ≡ 0 = omega arith in rw (read-short s p n h, z)
 
 -- What a declared answer says of the read.
-pub record WasValue (r : Read) (v : ℕ) (q : Place) : Type 0 where
+pub record WasValue (r : Read ℕ) (v : ℕ) (q : Place) : Type 0 where
   pub at : ℕ
   pub is : r ≡ Value v at
   pub place : q ≡ placeAt at
 
-pub was-value : (from : ℕ) (r : Read) (v : ℕ) (q : Place) → gotOf from r ≡ got.Value v q → WasValue r v q
+pub was-value : (from : ℕ) (r : Read ℕ) (v : ℕ) (q : Place) → gotOf from r ≡ got.Value v q → WasValue r v q
 was-value from (Value w at) v q e =
     let a : w ≡ v = cc in
     let b : placeAt at ≡ q = cc in
     record { at = at; is = ap (λ (x : ℕ). Value x at) a; place = sym b }
 was-value from (Ended at) v q e = absurd (let z : _≡_ {A = ℕ} 0 1 = cc in omega arith)
 
-value-by : (from : ℕ) (r : Read) (v at : ℕ) (q : Place) → r ≡ Value v at → q ≡ placeAt at → got.Value v q ≡ gotOf from r
+value-by : (from : ℕ) (r : Read ℕ) (v at : ℕ) (q : Place) → r ≡ Value v at → q ≡ placeAt at → got.Value v q ≡ gotOf from r
 value-by from r v at q e f = rw (e, f)
 
-pub record WasEnd (from : ℕ) (r : Read) (k : ℕ) : Type 0 where
+pub record WasEnd (from : ℕ) (r : Read ℕ) (k : ℕ) : Type 0 where
   pub at : ℕ
   pub is : r ≡ Ended at
   pub taken : k ≡ at - from
 
-pub was-end : (from : ℕ) (r : Read) (k : ℕ) → gotOf from r ≡ got.End k → WasEnd from r k
+pub was-end : (from : ℕ) (r : Read ℕ) (k : ℕ) → gotOf from r ≡ got.End k → WasEnd from r k
 was-end from (Value w at) k e = absurd (let z : _≡_ {A = ℕ} 0 1 = cc in omega arith)
 was-end from (Ended at) k e = let a : at - from ≡ k = cc in record { at = at; is = refl; taken = sym a }
 
@@ -123,7 +120,7 @@ module _ (s : List ℕ) (p : ℕ) (d : U32Specifier) (h : d .offset < 2 ^ 32) (l
   choice-value v q w e f =
       let r = was-value p (readBits s p (min (d .bits) 32)) v q e in
       let x : readChoice s p (choiceOf d) ≡ Value ((d .offset + v) % 2 ^ 32) (r .at) =
-      choice-read s p d h l ∙ ap (λ (y : Read). then y (λ v at. Value ((d .offset + v) % 2 ^ 32) at)) (r .is) in
+      choice-read s p d h l ∙ ap (λ (y : Read ℕ). then y (λ v at. Value ((d .offset + v) % 2 ^ 32) at)) (r .is) in
       value-by p (readChoice s p (choiceOf d)) w (r .at) q (x ∙ ap (λ (y : ℕ). Value y (r .at)) (sym f)) (r .place)
 
 -- a choice that ended took nothing
@@ -131,7 +128,7 @@ pub choice-ended : (s : List ℕ) (p : ℕ) (m : Choice) (at : ℕ) → readChoi
 choice-ended s p (Constant v) at e = absurd (let z : _≡_ {A = ℕ} 0 1 = cc in omega arith)
 choice-ended s p (Offset o n) at e = go (readBits s p n) refl
   where
-    go : (r : Read) → readBits s p n ≡ r → at ≡ p
+    go : (r : Read ℕ) → readBits s p n ≡ r → at ≡ p
     go (Value v q) f = absurd (let z : _≡_ {A = ℕ} 0 1 = cc (rw f at e) in omega arith)
     go (Ended q) f = let a : q ≡ at = cc (rw f at e) in sym a ∙ ended-at s p n q f
 
@@ -153,31 +150,31 @@ module _ (s : List ℕ) (p : ℕ) (a b c d : Choice) where
 
   -- the selector k was read, and its choice m
   module _ (k : ℕ) (q : Place) (e : gotOf p (readBits s p 2) ≡ got.Value k q) (m : Choice) (f : m ≡ chosen k a b c d) where
-    selected : readU32 s p a b c d ≡ readChoice s (passed q) m
+    selected : readU32 s p a b c d ≡ readChoice s (bitsBefore q) m
     unfolding readU32
     selected =
         let r = was-value p (readBits s p 2) k q e in
-        let t : r .at ≡ passed q = sym (passed-at (r .at)) ∙ ap passed (sym (r .place)) in
-        ap (λ (y : Read). then y (λ k at. readChoice s at (chosen k a b c d))) (r .is)
+        let t : r .at ≡ bitsBefore q = sym (before-at (r .at)) ∙ ap bitsBefore (sym (r .place)) in
+        ap (λ (y : Read ℕ). then y (λ k at. readChoice s at (chosen k a b c d))) (r .is)
         ∙ ap (λ (y : ℕ). readChoice s y (chosen k a b c d)) t
-        ∙ ap (λ (y : Choice). readChoice s (passed q) y) (sym f)
+        ∙ ap (λ (y : Choice). readChoice s (bitsBefore q) y) (sym f)
 
-    pub selected-at : (passed q ≡ p + 2) × (passed q ≤ 8 * length s)
+    pub selected-at : (bitsBefore q ≡ p + 2) × (bitsBefore q ≤ 8 * length s)
     selected-at =
         let r = was-value p (readBits s p 2) k q e in
-        let t : r .at ≡ passed q = sym (passed-at (r .at)) ∙ ap passed (sym (r .place)) in
+        let t : r .at ≡ bitsBefore q = sym (before-at (r .at)) ∙ ap bitsBefore (sym (r .place)) in
         let v = value-at s p 2 k (r .at) (r .is) in
         (sym t ∙ v .0, omega (arith, t, v .1))
 
-    pub u32-value : (v : ℕ) (w : Place) → gotOf (passed q) (readChoice s (passed q) m) ≡ got.Value v w → got.Value v w ≡ gotOf p (readU32 s p a b c d)
+    pub u32-value : (v : ℕ) (w : Place) → gotOf (bitsBefore q) (readChoice s (bitsBefore q) m) ≡ got.Value v w → got.Value v w ≡ gotOf p (readU32 s p a b c d)
     u32-value v w g =
-        let y = was-value (passed q) (readChoice s (passed q) m) v w g in
+        let y = was-value (bitsBefore q) (readChoice s (bitsBefore q) m) v w g in
         value-by p (readU32 s p a b c d) v (y .at) w (selected ∙ y .is) (y .place)
 
-    pub u32-short : (j : ℕ) → gotOf (passed q) (readChoice s (passed q) m) ≡ got.End j → got.End 2 ≡ gotOf p (readU32 s p a b c d)
+    pub u32-short : (j : ℕ) → gotOf (bitsBefore q) (readChoice s (bitsBefore q) m) ≡ got.End j → got.End 2 ≡ gotOf p (readU32 s p a b c d)
     u32-short j g =
-        let y = was-end (passed q) (readChoice s (passed q) m) j g in
-        let t : y .at ≡ passed q = choice-ended s (passed q) m (y .at) (y .is) in
+        let y = was-end (bitsBefore q) (readChoice s (bitsBefore q) m) j g in
+        let t : y .at ≡ bitsBefore q = choice-ended s (bitsBefore q) m (y .at) (y .is) in
         let x : readU32 s p a b c d ≡ Ended (y .at) = selected ∙ y .is in
         let n : 2 ≡ y .at - p = omega (arith, selected-at .0) in
         ap (λ (i : ℕ). got.End i) n ∙ ap (gotOf p) (sym x)

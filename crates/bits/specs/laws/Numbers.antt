@@ -9,8 +9,7 @@ use lib.Bits.{bitOr, bitAnd, or-shifted-r, and-mask, mask-lt}
 use lib.Pow.{pow-add, pow-pos, pow-mono, field, mod-mod-pow, mod-pow-add, shr-shr, shl-exact}
 use lib.ListN.{length, take, drop, getD, length-drop, length-append}
 use lib.Seq.{getD-drop}
-use Rattle.bits.specs.Bits.{lowBits, bitsOf, valueOf}
-use Rattle.bits.specs.Numbers.{Bytes}
+use Rattle.bits.specs.Bits.{lowBits, bitsOf, valueOf, Bytes}
 
 -- the bytes as one number, the first byte lowest
 abbrev pub number : List ℕ → ℕ

@@ -25,5 +25,5 @@ module _ (limit w h : ℕ) (kinds hfMul : List ℕ) where
 
   pub checks : Sided limit w h → Layout w h kinds hfMul → checkOf limit w h kinds hfMul ≡ gives tt
   checks s ok =
-      check-fine limit w h kinds hfMul (limits-in limit w h s) (fit-lengths w h (length kinds) (length hfMul) (ok .kindsLength) (ok .mulsLength))
-      (layout-iff w h kinds hfMul (ok .kindsLength) (ok .mulsLength) .1 ok)
+      check-fine limit w h kinds hfMul (limits-in limit w h s) (fit-lengths w h (length kinds) (length hfMul) (ok .kindsLength) (ok .hfMulLength))
+      (layout-iff w h kinds hfMul (ok .kindsLength) (ok .hfMulLength) .1 ok)

@@ -94,7 +94,7 @@ greater-signed a b ha hb =
 take-le : (n : ℕ) (xs : List ℕ) → length (take n xs) + 1 ≤ n + 1
 take-le n xs = omega (arith, length-take n xs)
 
-used-size-le : (R : HfBlockContext) → bsize (used R) ≤ bsizeOf (R .lengths)
+pub used-size-le : (R : HfBlockContext) → bsize (used R) ≤ bsizeOf (R .lengths)
 unfolding bsizeOf
 used-size-le R =
     mul-le-mul

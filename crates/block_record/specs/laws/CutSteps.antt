@@ -12,7 +12,7 @@ use Rattle.layout.specs.laws.Loops.{rowsLeft, loop-start}
 use Rattle.layout.specs.Grid.{gridOf, at as cellAt}
 use Rattle.layout.specs.laws.Fill.{write, written}
 use Rattle.layout.specs.Check.{isLayout}
-use Rattle.layout.specs.Cut.{groupX, groupY, hasGroup, groupWide, groupHigh, cut}
+use Rattle.layout.specs.Cut.{groupX, groupY, hasGroup, groupBw, groupBh, cut}
 use Rattle.layout.specs.laws.CutLaws.{starts-x, starts-y}
 use Rattle.refusal.specs.Answer.{gives, refuses}
 use Rattle.block_sides.specs.Limits.{inLimits, lengthsFit}
@@ -37,11 +37,11 @@ module _ (bw bh : ℕ) (kinds hfMul : List ℕ) (g ok om : ℕ) where
       cut-lent h = rw (e, f, h)
 
       module _ (h : lengthsFit bw bh (length kinds) (length hfMul) ≡ true) where
-        pub cut-buffers : lengthsFit (groupWide bw g) (groupHigh bw bh g) ok om ≡ false → cutCheck bw bh kinds hfMul g ok om ≡ refuses (at 1 0 0)
+        pub cut-buffers : lengthsFit (groupBw bw g) (groupBh bw bh g) ok om ≡ false → cutCheck bw bh kinds hfMul g ok om ≡ refuses (at 1 0 0)
         unfolding cutCheck
         cut-buffers i = rw (e, f, h, i)
 
-        module _ (i : lengthsFit (groupWide bw g) (groupHigh bw bh g) ok om ≡ true) where
+        module _ (i : lengthsFit (groupBw bw g) (groupBh bw bh g) ok om ≡ true) where
           pub cut-fault : isLayout bw bh kinds hfMul ≡ false → cutCheck bw bh kinds hfMul g ok om ≡ refuses (at 18 0 0)
           unfolding cutCheck
           cut-fault j = rw (e, f, h, i, j)
@@ -55,7 +55,7 @@ module _ (bw bh : ℕ) (kinds hfMul : List ℕ) (g ok om : ℕ) where
     pub sides : inLimits 256 bw bh ≡ true
     pub index : hasGroup bw bh g ≡ true
     pub lent : lengthsFit bw bh (length kinds) (length hfMul) ≡ true
-    pub buffers : lengthsFit (groupWide bw g) (groupHigh bw bh g) ok om ≡ true
+    pub buffers : lengthsFit (groupBw bw g) (groupBh bw bh g) ok om ≡ true
     pub layout : isLayout bw bh kinds hfMul ≡ true
 
   pub passed : cutCheck bw bh kinds hfMul g ok om ≡ gives tt → Passed
@@ -64,7 +64,7 @@ module _ (bw bh : ℕ) (kinds hfMul : List ℕ) (g ok om : ℕ) where
       let a = pass 2 (inLimits 256 bw bh) _ tt e in
       let b = pass 2 (hasGroup bw bh g) _ tt (a .1) in
       let c = pass 1 (lengthsFit bw bh (length kinds) (length hfMul)) _ tt (b .1) in
-      let d = pass 1 (lengthsFit (groupWide bw g) (groupHigh bw bh g) ok om) _ tt (c .1) in
+      let d = pass 1 (lengthsFit (groupBw bw g) (groupBh bw bh g) ok om) _ tt (c .1) in
       let f = pass 18 (isLayout bw bh kinds hfMul) (gives tt) tt (d .1) in
       record { sides = a .0; index = b .0; lent = c .0; buffers = d .0; layout = f .0 }
 
@@ -74,7 +74,7 @@ module _ (bw bh : ℕ) (kinds hfMul : List ℕ) (g : ℕ) (outKinds outHfMul : L
   cut-refused s e = rw e
 
   pub cut-done : cutCheck bw bh kinds hfMul g (length outKinds) (length outHfMul) ≡ gives tt
-      → cutOf bw bh kinds hfMul g outKinds outHfMul ≡ outcome (gives (group (groupWide bw g) (groupHigh bw bh g))) (cut bw bh g kinds) (cut bw bh g hfMul)
+      → cutOf bw bh kinds hfMul g outKinds outHfMul ≡ outcome (gives (group (groupBw bw g) (groupBh bw bh g))) (cut bw bh g kinds) (cut bw bh g hfMul)
   unfolding cutOf
   cut-done e = rw e
 
@@ -87,21 +87,21 @@ module _ (bw bh : ℕ) (kinds hfMul : List ℕ) (g : ℕ) (outKinds outHfMul : L
     pub outKindsFit : length outKinds ≡ r .bh * r .bw
     pub outHfMulFit : length outHfMul ≡ r .bh * r .bw
 
-  pub ready : (gx gy : ℕ) (r : Group) → Passed bw bh kinds hfMul g (length outKinds) (length outHfMul) → gx ≡ groupX bw g → gy ≡ groupY bw g → r ≡ group (groupWide bw g) (groupHigh bw bh g) → Ready gx gy r
+  pub ready : (gx gy : ℕ) (r : Group) → Passed bw bh kinds hfMul g (length outKinds) (length outHfMul) → gx ≡ groupX bw g → gy ≡ groupY bw g → r ≡ group (groupBw bw g) (groupBh bw bh g) → Ready gx gy r
   ready gx gy r p ex ey er = rw (ex, ey, er) here
     where
-      here : Ready (groupX bw g) (groupY bw g) (group (groupWide bw g) (groupHigh bw bh g))
+      here : Ready (groupX bw g) (groupY bw g) (group (groupBw bw g) (groupBh bw bh g))
       here =
           let s = in-limits 256 bw bh (p .sides) in
           let x = starts-x bw bh g (p .index) in
           let y = starts-y bw bh g (p .index) in
           let l = lengths-fit bw bh (length kinds) (length hfMul) (p .lent) in
-          let b = lengths-fit (groupWide bw g) (groupHigh bw bh g) (length outKinds) (length outHfMul) (p .buffers) in
-          let h : 32 * groupY bw g + groupHigh bw bh g ≤ bh = omega arith in
+          let b = lengths-fit (groupBw bw g) (groupBh bw bh g) (length outKinds) (length outHfMul) (p .buffers) in
+          let h : 32 * groupY bw g + groupBh bw bh g ≤ bh = omega arith in
           let m = mul-le-mul-right bw h in
           record { fitsX = omega arith; fitsY = omega arith; fits = omega arith; same = omega arith; outKindsFit = b .0; outHfMulFit = b .1 }
 
-  pub copied : (l : List ℕ) (gx gy : ℕ) (r : Group) → gx ≡ groupX bw g → gy ≡ groupY bw g → r ≡ group (groupWide bw g) (groupHigh bw bh g)
+  pub copied : (l : List ℕ) (gx gy : ℕ) (r : Group) → gx ≡ groupX bw g → gy ≡ groupY bw g → r ≡ group (groupBw bw g) (groupBh bw bh g)
       → gridOf (λ x y. cellAt l bw (32 * gx + x) (32 * gy + y)) (r .bw) (r .bh) ≡ cut bw bh g l
   unfolding cut
   copied l gx gy r ex ey er = rw (ex, ey, er)

@@ -13,18 +13,18 @@ use Rattle.block_sizes.specs.BlockSizes.{sides}
 
 -- the table of transforms by column
 unfoldable pub widths : List ℕ
-widths = map (λ (r : Row). r .width) TRANSFORMS
+widths = map (λ (r : Row). r .wide) TRANSFORMS
 
 unfoldable pub heights : List ℕ
-heights = map (λ (r : Row). r .height) TRANSFORMS
+heights = map (λ (r : Row). r .high) TRANSFORMS
 
 pub wide-at : (t : ℕ) → getD widths t 0 ≡ wide t
 unfolding widths wide
-wide-at t = getD-map (λ (r : Row). r .width) TRANSFORMS t (row 0 0 0)
+wide-at t = getD-map (λ (r : Row). r .wide) TRANSFORMS t (row 0 0 0)
 
 pub high-at : (t : ℕ) → getD heights t 0 ≡ high t
 unfolding heights high
-high-at t = getD-map (λ (r : Row). r .height) TRANSFORMS t (row 0 0 0)
+high-at t = getD-map (λ (r : Row). r .high) TRANSFORMS t (row 0 0 0)
 
 -- blocks across and down of a corner's varblock from two lent tables, 0 and 0 for any other kind
 unfoldable pub sizeBy : List ℕ → List ℕ → ℕ → Sides

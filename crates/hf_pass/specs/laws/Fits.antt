@@ -9,7 +9,7 @@ use lib.Seq.{take-at, drop-at}
 use borrow.Author.Tests.{lt-ltb, eq-eqb}
 use Rattle.natural_order.specs.Places.{Place, flat}
 use Rattle.block_sizes.specs.BlockSizes.{BLOCK-SIZES}
-use Rattle.hf_pass.specs.Reading.{Given, plan, wanted, orders}
+use Rattle.hf_pass.specs.Orders.{Given, plan, isUsed, orders}
 use Rattle.hf_pass_store.specs.Store.{stored, thrice, area, PLACES, insideAll, listsFit, placesFit}
 use Rattle.natural_order.specs.laws.Listing.{listing-length, listing-inside}
 use Rattle.hf_pass.specs.laws.Read.{Each, ListGiven}
@@ -34,7 +34,7 @@ each-fits used k (s ∷ ss) [] h = absurd h
 each-fits used k (s ∷ ss) (a ∷ []) h = absurd (h .1)
 each-fits used k (s ∷ ss) (a ∷ b ∷ []) h = absurd (h .1 .1)
 each-fits used k (s ∷ ss) (a ∷ b ∷ c ∷ ls) h =
-    let u = wanted used k in
+    let u = isUsed used k in
     one-fits u s a (h .0) (s ∷ s ∷ thrice ss) (b ∷ c ∷ ls)
     (one-fits u s b (h .1 .0) (s ∷ thrice ss) (c ∷ ls) (one-fits u s c (h .1 .1 .0) (thrice ss) ls (each-fits used (k + 1) ss ls (h .1 .1 .1))))
 

@@ -11,7 +11,7 @@ use borrow.Author.Tests.{lt-ltb, eq-eqb}
 use Rattle.natural_order.specs.Places.{Place, flat}
 use Rattle.block_sizes.specs.BlockSizes.{BLOCK-SIZES, widthOf, heightOf}
 use Rattle.hf_pass_store.specs.laws.Offsets.{store-places}
-use Rattle.hf_pass.specs.Reading.{Given, plan, wanted, orders}
+use Rattle.hf_pass.specs.Orders.{Given, plan, isUsed, orders}
 use Rattle.natural_order.specs.laws.Turns.{flat-length}
 use Rattle.hf_pass_store.specs.Store.{stored, thrice, area, before, PLACES, stretch}
 use Rattle.natural_order.specs.laws.Listing.{listing-length}
@@ -57,7 +57,7 @@ each-laid used k (s ∷ ss) [] h = h
 each-laid used k (s ∷ ss) (a ∷ []) h = absurd (h .1)
 each-laid used k (s ∷ ss) (a ∷ b ∷ []) h = absurd (h .1 .1)
 each-laid used k (s ∷ ss) (a ∷ b ∷ c ∷ ls) h =
-    let u = wanted used k in
+    let u = isUsed used k in
     (long u s a (h .0), (long u s b (h .1 .0), (long u s c (h .1 .1 .0), each-laid used (k + 1) ss ls (h .1 .1 .1))))
 
 module _ (used : ℕ) (us : List ℕ) (ls : List (List Place)) (vs : List ℕ) (m : ℕ) (e : orders used us ≡ Given ls vs m) where

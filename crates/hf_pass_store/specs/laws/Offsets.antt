@@ -7,8 +7,7 @@ use native.Mathlib.Omega.{arith}
 use lib.ListN.{length, getD}
 use Rattle.block_sizes.specs.BlockSizes.{BLOCK-SIZES, widthOf, heightOf}
 use Rattle.natural_order.specs.Places.{Place}
-use Rattle.hf_pass_store.specs.Store.{PLACES, thrice, area, before}
-use Rattle.hf_pass_store.specs.Offsets.{from}
+use Rattle.hf_pass_store.specs.Store.{PLACES, thrice, area, before, from}
 
 -- order k, channel c begins behind c lists of its own size
 pub before-by : (ss : List Place) (k c : ℕ) → k < length ss → c < 3 → before (thrice ss) (3 * k + c) ≡ 3 * before ss k + c * area (getD ss k (0, 0))

@@ -168,7 +168,7 @@ module _ (bw bh : ℕ) (K M : Cells) where
       }))
 
   one-cell : (x y : ℕ) (b : Bool) (l : List Varblock) → leb 2 (K x y) ≡ b
-      → area (addVarblock b (record { x = x; y = y; type = K x y - 2; mul = M x y }) l) ≡ cond b (wideOf (K x y) * highOf (K x y)) 0 + area l
+      → area (addVarblock b (record { x = x; y = y; type = K x y - 2; hfMul = M x y }) l) ≡ cond b (wideOf (K x y) * highOf (K x y)) 0 + area l
   unfolding area
   one-cell x y true l e = refl
   one-cell x y false l e = omega arith

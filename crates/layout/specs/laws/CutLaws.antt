@@ -15,7 +15,7 @@ use Rattle.layout.specs.Grid.{at}
 use Rattle.layout.specs.laws.Grid.{grid-length, grid-at}
 use Rattle.layout.specs.Valid.{Cells, Covers, Fits, Owned, Valid, Layout}
 use Rattle.layout.specs.laws.Same.{valid-same}
-use Rattle.layout.specs.Cut.{groups, groupX, groupY, hasGroup, side, cutCells, groupWide, groupHigh, cut}
+use Rattle.layout.specs.Cut.{groups, groupX, groupY, hasGroup, side, cutCells, groupBw, groupBh, cut}
 
 -- a corner that reaches into a square of 32 lies in it
 pub within : (q i w x : ℕ) → i % 32 + w ≤ 32 → i ≤ 32 * q + x → 32 * q + x < i + w → x < 32 → 32 * q ≤ i
@@ -64,25 +64,25 @@ module _ (bw bh : ℕ) (K M : Cells) (gx gy : ℕ) where
 
 -- The same over lists.
 module _ (bw bh g : ℕ) where
-  pub cut-length : (l : List ℕ) → length (cut bw bh g l) ≡ groupHigh bw bh g * groupWide bw g
+  pub cut-length : (l : List ℕ) → length (cut bw bh g l) ≡ groupBh bw bh g * groupBw bw g
   unfolding cut
-  cut-length l = grid-length (cutCells (at l bw) (groupX bw g) (groupY bw g)) (groupWide bw g) (groupHigh bw bh g)
+  cut-length l = grid-length (cutCells (at l bw) (groupX bw g) (groupY bw g)) (groupBw bw g) (groupBh bw bh g)
 
   -- each cell of the group is the layout's: corners stay corners
-  pub cut-at : (l : List ℕ) (x y : ℕ) → x < groupWide bw g → y < groupHigh bw bh g
-      → at (cut bw bh g l) (groupWide bw g) x y ≡ at l bw (32 * groupX bw g + x) (32 * groupY bw g + y)
+  pub cut-at : (l : List ℕ) (x y : ℕ) → x < groupBw bw g → y < groupBh bw bh g
+      → at (cut bw bh g l) (groupBw bw g) x y ≡ at l bw (32 * groupX bw g + x) (32 * groupY bw g + y)
   unfolding cut
-  cut-at l x y i j = grid-at (cutCells (at l bw) (groupX bw g) (groupY bw g)) (groupWide bw g) (groupHigh bw bh g) x y i j
+  cut-at l x y i j = grid-at (cutCells (at l bw) (groupX bw g) (groupY bw g)) (groupBw bw g) (groupBh bw bh g) x y i j
 
-  pub cut-layout : (kinds muls : List ℕ) → Layout bw bh kinds muls → Layout (groupWide bw g) (groupHigh bw bh g) (cut bw bh g kinds) (cut bw bh g muls)
-  cut-layout kinds muls ok = record {
+  pub cut-layout : (kinds hfMul : List ℕ) → Layout bw bh kinds hfMul → Layout (groupBw bw g) (groupBh bw bh g) (cut bw bh g kinds) (cut bw bh g hfMul)
+  cut-layout kinds hfMul ok = record {
     kindsLength = cut-length kinds;
-    mulsLength = cut-length muls;
-    valid = valid-same (groupWide bw g) (groupHigh bw bh g)
-        (cutCells (at kinds bw) (groupX bw g) (groupY bw g)) (cutCells (at muls bw) (groupX bw g) (groupY bw g))
-        (at (cut bw bh g kinds) (groupWide bw g)) (at (cut bw bh g muls) (groupWide bw g))
-        (λ x y i j. sym (cut-at kinds x y i j)) (λ x y i j. sym (cut-at muls x y i j))
-        (cut-valid bw bh (at kinds bw) (at muls bw) (groupX bw g) (groupY bw g) (ok .valid));
+    hfMulLength = cut-length hfMul;
+    valid = valid-same (groupBw bw g) (groupBh bw bh g)
+        (cutCells (at kinds bw) (groupX bw g) (groupY bw g)) (cutCells (at hfMul bw) (groupX bw g) (groupY bw g))
+        (at (cut bw bh g kinds) (groupBw bw g)) (at (cut bw bh g hfMul) (groupBw bw g))
+        (λ x y i j. sym (cut-at kinds x y i j)) (λ x y i j. sym (cut-at hfMul x y i j))
+        (cut-valid bw bh (at kinds bw) (at hfMul bw) (groupX bw g) (groupY bw g) (ok .valid));
   }
 
 -- The first block of a group is in the layout.
@@ -119,5 +119,5 @@ module _ (bw bh x y : ℕ) (i : x < bw) (j : y < bh) where
   unfolding groupAt
   group-lt = digits-lt {q = y / 32} {m = groups bh} {r = x / 32} {c = groups bw} (omega arith) (omega arith)
 
-  pub block-in : (x % 32 < groupWide bw (groupAt bw x y)) × (y % 32 < groupHigh bw bh (groupAt bw x y))
+  pub block-in : (x % 32 < groupBw bw (groupAt bw x y)) × (y % 32 < groupBh bw bh (groupAt bw x y))
   block-in = rw (group-x, group-y) (omega arith)

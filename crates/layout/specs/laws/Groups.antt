@@ -22,30 +22,30 @@ module _ (L : Lent) where
       record {
         inX = omega arith;
         inY = omega arith;
-        isType = sym (cut-at (L .wide) (L .high) g (L .kinds) (v .x) (v .y) i j) ∙ h .isType;
-        isMul = sym (cut-at (L .wide) (L .high) g (L .muls) (v .x) (v .y) i j) ∙ h .isMul;
+        isType = sym (cut-at (L .bw) (L .bh) g (L .kinds) (v .x) (v .y) i j) ∙ h .isType;
+        isHfMul = sym (cut-at (L .bw) (L .bh) g (L .hfMul) (v .x) (v .y) i j) ∙ h .isHfMul;
       }
 
   -- a varblock of the layout is in just one group
   pub in-one-group : (v : Varblock) → HasVarblock L v → InOneGroup L v
-  in-one-group v h = record { group = g; part = p; has = lt-ltb g (groups (L .high) * groups (L .wide)) (group-lt (L .wide) (L .high) (v .x) (v .y) (h .inX) (h .inY)); within = inside; same = there; only = alone }
+  in-one-group v h = record { group = g; part = p; has = lt-ltb g (groups (L .bh) * groups (L .bw)) (group-lt (L .bw) (L .bh) (v .x) (v .y) (h .inX) (h .inY)); within = inside; same = there; only = alone }
     where
       g : ℕ
-      g = groupAt (L .wide) (v .x) (v .y)
+      g = groupAt (L .bw) (v .x) (v .y)
 
       p : Varblock
-      p = record { x = v .x % 32; y = v .y % 32; type = v .type; mul = v .mul }
+      p = record { x = v .x % 32; y = v .y % 32; type = v .type; hfMul = v .hfMul }
 
-      gx : groupX (L .wide) g ≡ v .x / 32
-      gx = group-x (L .wide) (L .high) (v .x) (v .y) (h .inX) (h .inY)
+      gx : groupX (L .bw) g ≡ v .x / 32
+      gx = group-x (L .bw) (L .bh) (v .x) (v .y) (h .inX) (h .inY)
 
-      gy : groupY (L .wide) g ≡ v .y / 32
-      gy = group-y (L .wide) (L .high) (v .x) (v .y) (h .inX) (h .inY)
+      gy : groupY (L .bw) g ≡ v .y / 32
+      gy = group-y (L .bw) (L .bh) (v .x) (v .y) (h .inX) (h .inY)
 
-      atX : 32 * groupX (L .wide) g + v .x % 32 ≡ v .x
+      atX : 32 * groupX (L .bw) g + v .x % 32 ≡ v .x
       atX = let e = gx in omega arith
 
-      atY : 32 * groupY (L .wide) g + v .y % 32 ≡ v .y
+      atY : 32 * groupY (L .bw) g + v .y % 32 ≡ v .y
       atY = let e = gy in omega arith
 
       there : moved L g p ≡ v
@@ -53,24 +53,24 @@ module _ (L : Lent) where
 
       inside : HasVarblock (groupOf L g) p
       inside =
-          let b = block-in (L .wide) (L .high) (v .x) (v .y) (h .inX) (h .inY) in
+          let b = block-in (L .bw) (L .bh) (v .x) (v .y) (h .inX) (h .inY) in
           record {
             inX = b .0;
             inY = b .1;
-            isType = cut-at (L .wide) (L .high) g (L .kinds) (v .x % 32) (v .y % 32) (b .0) (b .1) ∙ rw (atX, atY) (h .isType);
-            isMul = cut-at (L .wide) (L .high) g (L .muls) (v .x % 32) (v .y % 32) (b .0) (b .1) ∙ rw (atX, atY) (h .isMul);
+            isType = cut-at (L .bw) (L .bh) g (L .kinds) (v .x % 32) (v .y % 32) (b .0) (b .1) ∙ rw (atX, atY) (h .isType);
+            isHfMul = cut-at (L .bw) (L .bh) g (L .hfMul) (v .x % 32) (v .y % 32) (b .0) (b .1) ∙ rw (atX, atY) (h .isHfMul);
           }
 
       alone : (f : ℕ) (q : Varblock) → HasVarblock (groupOf L f) q → moved L f q ≡ v → (f ≡ g) × (q ≡ p)
       alone f q w e =
           let i = w .inX in let j = w .inY in let a = gx in let b = gy in
-          let ex : 32 * groupX (L .wide) f + q .x ≡ v .x = ap (λ (u : Varblock). u .x) e in
-          let ey : 32 * groupY (L .wide) f + q .y ≡ v .y = ap (λ (u : Varblock). u .y) e in
-          let fx : groupX (L .wide) f ≡ groupX (L .wide) g = omega arith in
-          let fy : groupY (L .wide) f ≡ groupY (L .wide) g = omega arith in
-          let k : groupY (L .wide) f * groups (L .wide) + groupX (L .wide) f ≡ groupY (L .wide) g * groups (L .wide) + groupX (L .wide) g = rw (fx, fy) in
+          let ex : 32 * groupX (L .bw) f + q .x ≡ v .x = ap (λ (u : Varblock). u .x) e in
+          let ey : 32 * groupY (L .bw) f + q .y ≡ v .y = ap (λ (u : Varblock). u .y) e in
+          let fx : groupX (L .bw) f ≡ groupX (L .bw) g = omega arith in
+          let fy : groupY (L .bw) f ≡ groupY (L .bw) g = omega arith in
+          let k : groupY (L .bw) f * groups (L .bw) + groupX (L .bw) f ≡ groupY (L .bw) g * groups (L .bw) + groupX (L .bw) g = rw (fx, fy) in
           let qx : q .x ≡ v .x % 32 = omega arith in
           let qy : q .y ≡ v .y % 32 = omega arith in
           let t : q .type ≡ v .type = ap (λ (u : Varblock). u .type) e in
-          let m : q .mul ≡ v .mul = ap (λ (u : Varblock). u .mul) e in
-          (index (L .wide) f ∙ k ∙ sym (index (L .wide) g), rw (← qx, ← qy, ← t, ← m))
+          let m : q .hfMul ≡ v .hfMul = ap (λ (u : Varblock). u .hfMul) e in
+          (index (L .bw) f ∙ k ∙ sym (index (L .bw) g), rw (← qx, ← qy, ← t, ← m))

@@ -14,7 +14,7 @@ use Rattle.layout.specs.Grid.{at}
 use Rattle.layout.specs.laws.Grid.{grid-length, grid-at, grid-is, place-lt}
 use Rattle.layout.specs.Valid.{Cells, Covers, Owned, Valid, Layout}
 use Rattle.layout.specs.laws.Same.{valid-same}
-use Rattle.layout.specs.Cut.{groups, groupX, groupY, hasGroup, side, cutCells, groupWide, groupHigh, cut}
+use Rattle.layout.specs.Cut.{groups, groupX, groupY, hasGroup, side, cutCells, groupBw, groupBh, cut}
 use Rattle.layout.specs.laws.CutLaws.{within}
 use Rattle.layout.specs.Rows.{rowsOf}
 
@@ -70,13 +70,13 @@ module _ (bw bh q : ℕ) where
         owned = λ x y i j. own x y i j (ok .owned x (32 * q + y) i (omega arith));
       }
 
-    pub rows-layout : (kinds muls : List ℕ) → Layout bw bh kinds muls → Layout bw (side bh q) (rowsOf bw bh q kinds) (rowsOf bw bh q muls)
-    rows-layout kinds muls ok = record {
+    pub rows-layout : (kinds hfMul : List ℕ) → Layout bw bh kinds hfMul → Layout bw (side bh q) (rowsOf bw bh q kinds) (rowsOf bw bh q hfMul)
+    rows-layout kinds hfMul ok = record {
       kindsLength = rows-length kinds (ok .kindsLength);
-      mulsLength = rows-length muls (ok .mulsLength);
-      valid = valid-same bw (side bh q) (below (at kinds bw)) (below (at muls bw)) (at (rowsOf bw bh q kinds) bw) (at (rowsOf bw bh q muls) bw)
-          (λ x y i j. sym (at-rows kinds x y i j)) (λ x y i j. sym (at-rows muls x y i j))
-          (rows-valid (at kinds bw) (at muls bw) (ok .valid));
+      hfMulLength = rows-length hfMul (ok .hfMulLength);
+      valid = valid-same bw (side bh q) (below (at kinds bw)) (below (at hfMul bw)) (at (rowsOf bw bh q kinds) bw) (at (rowsOf bw bh q hfMul) bw)
+          (λ x y i j. sym (at-rows kinds x y i j)) (λ x y i j. sym (at-rows hfMul x y i j))
+          (rows-valid (at kinds bw) (at hfMul bw) (ok .valid));
     }
 
   -- group p of the rows is the p-th group of the row of groups
@@ -101,7 +101,7 @@ module _ (bw bh q : ℕ) where
     same-high = omega arith
 
     -- it has the same sides, and is one of the groups of the rows
-    pub rows-sides : (groupWide bw p ≡ groupWide bw (q * groups bw + p)) × (groupHigh bw (side bh q) p ≡ groupHigh bw bh (q * groups bw + p))
+    pub rows-sides : (groupBw bw p ≡ groupBw bw (q * groups bw + p)) × (groupBh bw (side bh q) p ≡ groupBh bw bh (q * groups bw + p))
     rows-sides = (rw (first-x, there-x), rw (first-y, there-y, same-high))
 
     pub rows-has : 32 * q < bh → hasGroup bw (side bh q) p ≡ true

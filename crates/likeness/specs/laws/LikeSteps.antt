@@ -98,14 +98,14 @@ module _ (L N : Lent) where
             unfolding likeOf
             like-says f r g = rw (a, b, c, d, e, f, g)
 
-  pub unlike-wide : (L .wide ≡ N .wide → ⊥) → alike L N ≡ false
+  pub unlike-wide : (L .bw ≡ N .bw → ⊥) → alike L N ≡ false
   unfolding alike
-  unlike-wide n = rw (ne-eqb (L .wide) (N .wide) n)
+  unlike-wide n = rw (ne-eqb (L .bw) (N .bw) n)
 
-  pub unlike-high : L .wide ≡ N .wide → (L .high ≡ N .high → ⊥) → alike L N ≡ false
+  pub unlike-high : L .bw ≡ N .bw → (L .bh ≡ N .bh → ⊥) → alike L N ≡ false
   unfolding alike
-  unlike-high e n = rw (eq-eqb (L .wide) (N .wide) e, ne-eqb (L .high) (N .high) n)
+  unlike-high e n = rw (eq-eqb (L .bw) (N .bw) e, ne-eqb (L .bh) (N .bh) n)
 
-  pub alike-cells : L .wide ≡ N .wide → L .high ≡ N .high → alike L N ≡ alikeFrom (L .kinds) (L .muls) (N .kinds) (N .muls) (L .high * L .wide) 0
+  pub alike-cells : L .bw ≡ N .bw → L .bh ≡ N .bh → alike L N ≡ alikeFrom (L .kinds) (L .hfMul) (N .kinds) (N .hfMul) (L .bh * L .bw) 0
   unfolding alike
-  alike-cells e f = rw (eq-eqb (L .wide) (N .wide) e, eq-eqb (L .high) (N .high) f)
+  alike-cells e f = rw (eq-eqb (L .bw) (N .bw) e, eq-eqb (L .bh) (N .bh) f)

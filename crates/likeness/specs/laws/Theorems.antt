@@ -18,8 +18,8 @@ use Rattle.likeness.specs.Theorems.{Sound}
 
 sound : (L : Lent) → sided L ≡ true → filled L ≡ true → holdsLayout L ≡ true → Sound L
 sound L a b c =
-    let l = lengths-fit (L .wide) (L .high) (length (L .kinds)) (length (L .muls)) b in
-    record { sides = in-limits 256 (L .wide) (L .high) a; layout = layout-iff (L .wide) (L .high) (L .kinds) (L .muls) (l .0) (l .1) .0 c }
+    let l = lengths-fit (L .bw) (L .bh) (length (L .kinds)) (length (L .hfMul)) b in
+    record { sides = in-limits 256 (L .bw) (L .bh) a; layout = layout-iff (L .bw) (L .bh) (L .kinds) (L .hfMul) (l .0) (l .1) .0 c }
 
 module _ (L N : Lent) where
   tests : (r : Bool) → likeOf L N ≡ gives r → Sound L × Sound N × (alike L N ≡ r)
@@ -35,11 +35,11 @@ module _ (L N : Lent) where
 
   says : (r : Bool) → Sound L → Sound N → alike L N ≡ r → likeOf L N ≡ gives r
   says r s t e =
-      like-says L N (limits-in 256 (L .wide) (L .high) (s .sides)) (limits-in 256 (N .wide) (N .high) (t .sides))
-      (fit-lengths (L .wide) (L .high) (length (L .kinds)) (length (L .muls)) (s .layout .kindsLength) (s .layout .mulsLength))
-      (fit-lengths (N .wide) (N .high) (length (N .kinds)) (length (N .muls)) (t .layout .kindsLength) (t .layout .mulsLength))
-      (layout-iff (L .wide) (L .high) (L .kinds) (L .muls) (s .layout .kindsLength) (s .layout .mulsLength) .1 (s .layout))
-      (layout-iff (N .wide) (N .high) (N .kinds) (N .muls) (t .layout .kindsLength) (t .layout .mulsLength) .1 (t .layout)) r e
+      like-says L N (limits-in 256 (L .bw) (L .bh) (s .sides)) (limits-in 256 (N .bw) (N .bh) (t .sides))
+      (fit-lengths (L .bw) (L .bh) (length (L .kinds)) (length (L .hfMul)) (s .layout .kindsLength) (s .layout .hfMulLength))
+      (fit-lengths (N .bw) (N .bh) (length (N .kinds)) (length (N .hfMul)) (t .layout .kindsLength) (t .layout .hfMulLength))
+      (layout-iff (L .bw) (L .bh) (L .kinds) (L .hfMul) (s .layout .kindsLength) (s .layout .hfMulLength) .1 (s .layout))
+      (layout-iff (N .bw) (N .bh) (N .kinds) (N .hfMul) (t .layout .kindsLength) (t .layout .hfMulLength) .1 (t .layout)) r e
 
   same-alike : Sound L → Sound N → SameRectangles L N → alike L N ≡ true
   same-alike s t r =

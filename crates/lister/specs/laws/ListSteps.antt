@@ -16,13 +16,13 @@ use Rattle.refusal.specs.declared.Refusal.{Refusal}
 use Rattle.refusal.specs.Said.{said}
 use Rattle.layout.specs.Valid.{Layout}
 use Rattle.layout.specs.Varblocks.{varblocksOf, area}
-use Rattle.lf_group.specs.Blocks.{blocks, wideIn, highIn}
+use Rattle.lf_group.specs.Blocks.{blocks, bwIn, bhIn}
 use Rattle.hf_metadata.specs.declared.LayoutAnswer.the-variants.{Accepted, Refused}
 use Rattle.hf_metadata.specs.Call.{Outcome, leaves, inputs, layoutOf}
 use Rattle.accepted_layout.specs.laws.Theorems.{accepted-layout, accepted-area}
 use Rattle.filter_strength.specs.declared.Filter.the-variants.{Off}
 use Rattle.filter_strength.specs.Strength.{zero32}
-use Rattle.lister_job.specs.laws.Job.{prefixed}
+use Rattle.lister_job.specs.laws.JobSteps.{prefixed}
 use Rattle.lister_job.specs.Job.{width, height, columnPlace, columns, types, muls, hasSize, hasEnd}
 use Rattle.lister.specs.Texts.{acceptedText, refusedText, BAD-INPUT}
 use Rattle.lister.specs.Listing.{textBy, MODES, bwOf, bhOf, listed, outcome, layoutText, textOf}
@@ -30,11 +30,11 @@ use Rattle.lister.specs.Listing as listing
 
 -- at most 64 blocks each way
 pub few-wide : (w : ℕ) → w ≤ 512 → bwOf w ≤ 64
-unfolding wideIn
+unfolding bwIn
 few-wide w h = omega arith
 
 pub few-high : (n : ℕ) → n ≤ 512 → bhOf n ≤ 64
-unfolding highIn
+unfolding bhIn
 few-high n h = omega arith
 
 -- the layout call as the code makes it, over cleared buffers
@@ -61,7 +61,7 @@ module _ (w h : ℕ) (ts ms : List ℕ) (bw bh : ℕ) (p : bw ≡ bwOf w) (q : b
       let r = accepted-area (listed w h ts ms) (replicate n 0) (replicate n 0) (replicate n 0) used a in
       record {
         lengthK = ap length ek ∙ l .kindsLength ∙ rw (p, q);
-        lengthM = ap length em ∙ l .mulsLength ∙ rw (p, q);
+        lengthM = ap length em ∙ l .hfMulLength ∙ rw (p, q);
         full = rw (p, q) (ap (λ (u : List ℕ). area (varblocksOf (bwOf w) (bhOf h) u m)) ek ∙ ap (λ (u : List ℕ). area (varblocksOf (bwOf w) (bhOf h) (outcome w h ts ms .kinds) u)) em ∙ r);
         text = rw (p, q) (ap (λ (o : Outcome). textBy (bwOf w) (bhOf h) o (o .answer)) e);
       }

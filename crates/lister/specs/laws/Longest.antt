@@ -15,7 +15,7 @@ use Rattle.refusal.specs.declared.Said.{Said}
 use Rattle.layout.specs.Grid.{at}
 use Rattle.layout.specs.Valid.{Layout}
 use Rattle.layout.specs.Varblocks.{Varblock, varblocksOf, area, cornersRow, cornersFrom}
-use Rattle.hf_metadata.specs.Call.{Answer, accepted, refused}
+use Rattle.refusal.specs.Answer.{Answer, gives, refuses}
 use Rattle.accepted_layout.specs.laws.Theorems.{accepted-layout}
 use Rattle.text.specs.laws.Decimal.{ten}
 use Rattle.text.specs.Text.{digitsOf, decimal, Puts}
@@ -57,16 +57,16 @@ last-is : (n : ℕ) → length (last n) ≡ length (decimal n) + 1
 last-is n = length-append (decimal n) (10 ∷ [])
 
 -- a line: numbers below 100, and hf_mul below 10^10
-line-most : (v : Varblock) → v .x < 100 → v .y < 100 → v .type < 100 → v .mul < 10 ^ 10 → length (lineOf v) ≤ 20
+line-most : (v : Varblock) → v .x < 100 → v .y < 100 → v .type < 100 → v .hfMul < 10 ^ 10 → length (lineOf v) ≤ 20
 line-most v a b c d =
     let x = digits-most 19 1 (v .x) a in
     let y = digits-most 19 1 (v .y) b in
     let t = digits-most 19 1 (v .type) c in
-    let m = digits-most 19 9 (v .mul) d in
-    let l = length-append (spaced (v .x)) (spaced (v .y) ++ (spaced (v .type) ++ last (v .mul))) in
-    let l′ = length-append (spaced (v .y)) (spaced (v .type) ++ last (v .mul)) in
-    let l″ = length-append (spaced (v .type)) (last (v .mul)) in
-    omega (arith, spaced-is (v .x), spaced-is (v .y), spaced-is (v .type), last-is (v .mul))
+    let m = digits-most 19 9 (v .hfMul) d in
+    let l = length-append (spaced (v .x)) (spaced (v .y) ++ (spaced (v .type) ++ last (v .hfMul))) in
+    let l′ = length-append (spaced (v .y)) (spaced (v .type) ++ last (v .hfMul)) in
+    let l″ = length-append (spaced (v .type)) (last (v .hfMul)) in
+    omega (arith, spaced-is (v .x), spaced-is (v .y), spaced-is (v .type), last-is (v .hfMul))
 
 module _ (bw bh : ℕ) (kinds hfMul : List ℕ) (ok : Layout bw bh kinds hfMul) (wide : bw ≤ 64) (high : bh ≤ 64) where
   row-most : (n x y : ℕ) (l : List Varblock) → x + n ≤ bw → y < bh → length (linesOf (cornersRow (at kinds bw) (at hfMul bw) n x y l)) ≤ 20 * n + length (linesOf l)
@@ -81,8 +81,8 @@ module _ (bw bh : ℕ) (kinds hfMul : List ℕ) (ok : Layout bw bh kinds hfMul) 
           let f = ok .valid .fits x y (omega arith) j c in
           let k = f .known in
           let s = f .signed in
-          let m = line-most (record { x = x; y = y; type = at kinds bw x y - 2; mul = at hfMul bw x y }) (omega arith) (omega arith) (omega arith) (omega arith) in
-          let a = length-append (lineOf (record { x = x; y = y; type = at kinds bw x y - 2; mul = at hfMul bw x y })) (linesOf (cornersRow (at kinds bw) (at hfMul bw) n (x + 1) y l)) in
+          let m = line-most (record { x = x; y = y; type = at kinds bw x y - 2; hfMul = at hfMul bw x y }) (omega arith) (omega arith) (omega arith) (omega arith) in
+          let a = length-append (lineOf (record { x = x; y = y; type = at kinds bw x y - 2; hfMul = at hfMul bw x y })) (linesOf (cornersRow (at kinds bw) (at hfMul bw) n (x + 1) y l)) in
           rw (le-leb 2 (at kinds bw x y) c) (omega arith)
 
   rows-most : (n y : ℕ) → y + n ≤ bh → length (linesOf (cornersFrom (at kinds bw) (at hfMul bw) bw n y)) ≤ 20 * (n * bw)
@@ -116,9 +116,9 @@ refused-most r =
 layout-most : (w h : ℕ) (ts ms : List ℕ) → w ≤ 512 → h ≤ 512 → length (layoutText w h ts ms) ≤ 90000
 layout-most w h ts ms a b = go (outcome w h ts ms .answer) refl
   where
-    go : (r : Answer) → outcome w h ts ms .answer ≡ r → length (textBy (bwOf w) (bhOf h) (outcome w h ts ms) r) ≤ 90000
-    go (refused r) e = refused-most r
-    go (accepted used) e =
+    go : (r : Answer ℕ) → outcome w h ts ms .answer ≡ r → length (textBy (bwOf w) (bhOf h) (outcome w h ts ms) r) ≤ 90000
+    go (refuses r) e = refused-most r
+    go (gives used) e =
         accepted-most (bwOf w) (bhOf h) (outcome w h ts ms .kinds) (outcome w h ts ms .hfMul)
         (accepted-layout (listed w h ts ms) (replicate (blocks w h ts ms) 0) (replicate (blocks w h ts ms) 0) (replicate (blocks w h ts ms) 0) used e) (few-wide w a) (few-high h b)
 

@@ -21,7 +21,7 @@ use Rattle.layout.specs.Varblocks.{cornersRow, cornersFrom}
 use Rattle.block_sides.specs.Limits.{inLimits}
 use Rattle.block_context.specs.Record.{fit, fitOf, bsizeOf}
 use Rattle.block_context_index.specs.Contexts.{sizeOf, above, lfIndexIn, placeOf}
-use Rattle.hf_block_context.specs.Call.{stored as contextsOf}
+use Rattle.hf_block_context.specs.Call.{contextsOf}
 use Rattle.hf_pass_store.specs.Store.{PLACES}
 use Rattle.hf_coeff_walk.specs.Walk.{walk, coeffContext, FREQ, NUM-NONZERO}
 use Rattle.natural_order.specs.Places.{paired}

@@ -11,7 +11,7 @@ use Rattle.block_check.specs.laws.Theorems.{checked}
 use Rattle.block_record.specs.Calls.{group}
 use Rattle.block_record.specs.laws.Theorems.{cut-checks}
 use Rattle.hf_metadata.specs.Call.{layoutOf}
-use Rattle.accepted_layout.specs.Theorems.{bwOf, bhOf}
+use Rattle.accepted_layout.specs.Outcome.{bwOf, bhOf}
 use Rattle.hf_block_context.specs.laws.Accepted.{accepted-fit}
 use Rattle.hf_coeff_group.specs.Group.{Grids}
 use Rattle.hf_coeff.specs.Call.{Lent}
@@ -41,9 +41,9 @@ module _ (L : Lent) (given : Given L) where
   }
 
   -- one sequence and only one, from the calls' answers
-  pub one-sequence-by-calls : (W : Grids) → Filling L W → Words (theSequence L W) × ((s : List ℕ) → Words s → Fills L s W ↔ (s ≡ theSequence L W))
+  pub one-sequence-by-calls : (W : Grids) → Filling L W → Words (theSequence (L .pass) (L .grids) W) × ((s : List ℕ) → Words s → Fills L s W ↔ (s ≡ theSequence (L .pass) (L .grids) W))
   one-sequence-by-calls W filling = one-sequence L fixed-by-calls W filling
 
   -- and every other sequence fails
-  pub every-other-by-calls : (W : Grids) → Filling L W → (s : List ℕ) → Words s → Fails L s W ↔ (s ≡ theSequence L W → ⊥)
+  pub every-other-by-calls : (W : Grids) → Filling L W → (s : List ℕ) → Words s → Fails L s W ↔ (s ≡ theSequence (L .pass) (L .grids) W → ⊥)
   every-other-by-calls W filling = every-other L fixed-by-calls W filling

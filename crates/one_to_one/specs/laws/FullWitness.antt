@@ -1,57 +1,40 @@
 -- Laws: The premises of demand 3 met together with all that they speak of, as the calls themselves hand it on: M4's layout through the cut, thresholds on
+-- all four lists, LF grids, permuted orders, the last of three presets, starting grids that are not zero; and the symbols of a filling.
 use mathlib.Core.Path.{_≡_, refl, ap, sym, subst, _∙_}
 use mathlib.Core.Bool.{true}
 use mathlib.Core.List.{List, [], _∷_}
-use Prim.Native.Nat.{ℕ, zero, suc, _+_, _*_, _^_, _-_, _<_}
+use Prim.Native.Nat.{ℕ, zero, suc, _+_, _*_, _<_}
 use native.Mathlib.Omega.{arith}
 use lib.ListN.{length, getD, replicate, length-replicate}
-use lib.Ieee.{le, lt, eq}
 use borrow.Author.Tests.{eq-eqb}
-use lib.Dec.{T, ltb, ltb→lt}
-use lib.Ieee.Fits.{and-l, and-r}
-use Rattle.laws.specs.Tables.{every}
-use Rattle.bits.specs.Bits.{Value, readBits, readU32, bitsOf, valueOf}
-use Rattle.coded_numbers.specs.Exponent.{exponentFrom}
+use Rattle.bits.specs.Bits.{Value}
 use Rattle.coded_numbers.specs.Signed.{unpackSigned}
 use Rattle.block_sizes.specs.BlockSizes.{BLOCK-SIZES}
-use Rattle.dct_select.specs.Transforms.{TRANSFORMS, wide, high, orderOf, turns}
-use Rattle.natural_order.specs.Places.{flat, paired}
+use Rattle.natural_order.specs.Places.{flat}
 use Rattle.natural_order.specs.Natural.{natural}
-use Rattle.layout.specs.Walk.{cells, rows}
-use Rattle.layout.specs.Varblocks.{cornersRow, cornersFrom}
-use Rattle.layout.specs.Grid.{rowOf, gridFrom, fillFrom}
-use Rattle.layout.specs.Cut.{cut, groupX, groupY}
-use Rattle.layout.specs.Check.{clear, fitting, visitCell, checkRun}
-use Rattle.lf_group.specs.Blocks.{wideIn, highIn}
 use Rattle.filter_strength.specs.declared.Filter.the-variants.{Off}
-use Rattle.filter_strength.specs.Strength.{zero32, scaledBy, dividedBy}
-use Rattle.filter_strength.specs.Limits.{inLimits}
-use Rattle.layout_reading.specs.Scan.{takeCell, scan}
-use Rattle.layout_reading.specs.Reading.{place, judge, column, reading}
-use Rattle.hf_metadata.specs.Call.{Inputs, inputs, layoutOf, accepted}
-use Rattle.hf_pass_store.specs.Store.{PLACES, stored, stretch}
+use Rattle.filter_strength.specs.Strength.{zero32}
+use Rattle.hf_metadata.specs.Call.{Inputs, inputs, layoutOf}
+use Rattle.hf_pass_store.specs.Store.{PLACES, stretch}
 use Rattle.hf_pass.specs.declared.OrdersAnswer.the-variants as orderAnswer
-use Rattle.hf_pass.specs.Reading.{Given as GivenLists, digits, oneList, orders}
+use Rattle.hf_pass.specs.Orders.{Given as GivenLists, digits, oneList, orders}
 use Rattle.hf_pass.specs.Call as order
 use Rattle.hf_pass.specs.laws.Stretch.{store-length, stretch-list}
-use Rattle.hf_pass.specs.Wrote.{Wrote}
+use Rattle.hf_pass.specs.Call.{Wrote}
 use Rattle.block_context.specs.Record.{bsizeOf}
-use Rattle.thresholds.specs.Reading.{lfValue, qfValue, readValues, readList, readLists}
+use Rattle.thresholds.specs.Thresholds.{lfValue, qfValue, readValues, readList, readLists}
 use Rattle.hf_block_context.specs.Call as context
-use Rattle.hf_coeff_walk.specs.Places.{placesOf}
-use Rattle.hf_coeff_group.specs.Pass.{itemOf, itemsOf}
 use Rattle.hf_coeff.specs.Call.{lengthsFit, readPreset}
 use Rattle.refusal.specs.Answer.{gives}
-use Rattle.block_sides.specs.Limits.{inLimits as inLimits32, lengthsFit as lengthsFit2}
-use Rattle.block_record.specs.Calls.{group, outcome, cutCheck, cutOf}
+use Rattle.block_record.specs.Calls.{group, outcome, cutOf}
 use Rattle.block_record.specs.laws.CutSteps.{cut-done}
-use Rattle.accepted_layout.specs.Theorems.{bwOf, bhOf}
-use Rattle.one_to_one.specs.Filling.{cell, isLow, wanted, Fixed, Filling, Fills, Given}
-use Rattle.one_to_one.specs.Symbols.{symbol, pack}
-use Rattle.one_to_one.specs.Sequence.{differing, coeffs, sequence, theSequence}
+use Rattle.accepted_layout.specs.Outcome.{bwOf, bhOf}
+use Rattle.one_to_one.specs.Filling.{cell, wanted, Fixed, Filling, Fills, Given}
+use Rattle.one_to_one.specs.Sequence.{theSequence}
 use Rattle.one_to_one.specs.laws.Demand3.{one-sequence}
 use Rattle.one_to_one.specs.laws.Wanted.{wanted-filling}
 use Rattle.one_to_one.specs.laws.Chain.{fixed-by-calls}
+use Rattle.one_to_one.specs.laws.Computes.{layout-computes, cut-computes, bits-compute, sequence-computes, wanted-computes, below, cells-below}
 use Rattle.one_to_one.specs.FullWitness.{changed, contexts, full, kinds, lists, map, muls, pairs, start, store}
 
 abbrev digitSymbols : List ℕ
@@ -71,14 +54,14 @@ list-of k c h l = stretch-list 1 digitSymbols lists [] 6 lists-read k c h l
 
 -- bits 1, 1: a field of 13 bits; its lowest bit: order 0
 order-call : order.parsed (7 ∷ 0 ∷ []) digitSymbols (replicate (2 * PLACES) 0) ≡ order.outcome (orderAnswer.Accepted 6) store
-unfolding order.parsed readU32 readBits bitsOf valueOf store
+unfolding bits-compute order.parsed store
 order-call = rw (eq-eqb (length (replicate {A = ℕ} (2 * PLACES) 0)) (2 * PLACES) (length-replicate (2 * PLACES) 0), lists-read)
 
 store-wrote : Wrote store
 store-wrote = record { bytes = 7 ∷ 0 ∷ []; symbols = digitSymbols; earlier = replicate (2 * PLACES) 0; count = 6; call = order-call }
 
 contexts-read : context.parsed (2 ∷ 8 ∷ 38 ∷ 160 ∷ 32 ∷ []) 2 map ≡ context.accepted 39 contexts
-unfolding context.parsed context.judged readLists readList readValues lfValue qfValue readU32 readBits bitsOf valueOf unpackSigned bsizeOf pairs
+unfolding bits-compute context.parsed context.judged readLists readList readValues lfValue qfValue unpackSigned bsizeOf pairs
 contexts-read = refl
 
 -- The layout: 16 × 16 pixels, modes 0, columns (6,4) (0,0) (0,2), filter off.
@@ -88,45 +71,21 @@ columns = inputs 16 16 (0 ∷ 0 ∷ 0 ∷ []) (6 ∷ 0 ∷ 0 ∷ []) (4 ∷ 0 �
 abbrev four : List ℕ
 four = replicate 4 0
 
-layout-accepted : layoutOf columns four four four ≡ record { answer = accepted 3; kinds = kinds; hfMul = muls; sigma = four }
-unfolding layoutOf wideIn highIn inLimits le lt eq reading column judge place scan takeCell rows cells wide high TRANSFORMS scaledBy dividedBy
+layout-accepted : layoutOf columns four four four ≡ record { answer = gives 3; kinds = kinds; hfMul = muls; sigma = four }
+unfolding layout-computes
 layout-accepted = refl
 
-cut-checked : cutCheck (bwOf columns) (bhOf columns) kinds muls 0 4 4 ≡ gives tt
-unfolding cutCheck inLimits32 lengthsFit2 wideIn highIn groupX groupY checkRun rows cells visitCell fitting clear wide high TRANSFORMS fillFrom
-cut-checked = refl
-
 cut-accepted : cutOf (bwOf columns) (bhOf columns) kinds muls 0 four four ≡ outcome (gives (group 2 2)) kinds muls
-unfolding wideIn highIn groupX groupY cut gridFrom rowOf
-cut-accepted = cut-done (bwOf columns) (bhOf columns) kinds muls 0 four four cut-checked
+unfolding cut-computes
+cut-accepted = cut-done (bwOf columns) (bhOf columns) kinds muls 0 four four refl
 
 lengths-fit : lengthsFit full ≡ true
-unfolding context.stored
+unfolding context.contextsOf
 lengths-fit = rw (eq-eqb (length store) (2 * PLACES) store-long)
 
 two-bits : readPreset full ≡ Value 2 2
-unfolding readBits bitsOf valueOf exponentFrom
+unfolding bits-compute
 two-bits = refl
-
--- 32-bit numbers, by a test
-below : (l : List ℕ) → T (every (λ (v : ℕ). ltb v (2 ^ 32)) l) → (p : ℕ) → getD l p 0 < 2 ^ 32
-below [] t p = omega arith
-below (v ∷ l) t zero = ltb→lt v (2 ^ 32) (and-l (ltb v (2 ^ 32)) (every (λ (v : ℕ). ltb v (2 ^ 32)) l) t)
-below (v ∷ l) t (suc p) = below l (and-r (ltb v (2 ^ 32)) (every (λ (v : ℕ). ltb v (2 ^ 32)) l) t) p
-
-start-words : (c p : ℕ) → cell start c p < 2 ^ 32
-start-words zero p = below (getD start 0 []) tt p
-start-words (suc zero) p = below (getD start 1 []) tt p
-start-words (suc (suc zero)) p = below (getD start 2 []) tt p
-start-words (suc (suc (suc c))) p = omega arith
-
-are-bytes : (i : ℕ) → getD (2 ∷ 8 ∷ 38 ∷ 160 ∷ 32 ∷ []) i 0 < 256
-are-bytes zero = omega arith
-are-bytes (suc zero) = omega arith
-are-bytes (suc (suc zero)) = omega arith
-are-bytes (suc (suc (suc zero))) = omega arith
-are-bytes (suc (suc (suc (suc zero)))) = omega arith
-are-bytes (suc (suc (suc (suc (suc i))))) = omega arith
 
 -- what the calls gave
 pub given : Given full
@@ -142,7 +101,7 @@ given = record {
   outMuls = four;
   cutting = ap (λ o. cutOf (bwOf columns) (bhOf columns) (o .kinds) (o .hfMul) 0 four four) layout-accepted ∙ cut-accepted;
   bytes = 2 ∷ 8 ∷ 38 ∷ 160 ∷ 32 ∷ [];
-  areBytes = are-bytes;
+  areBytes = below 256 (omega arith) (2 ∷ 8 ∷ 38 ∷ 160 ∷ 32 ∷ []) tt;
   count = 2;
   map = map;
   bitsRead = 39;
@@ -157,7 +116,7 @@ given = record {
     below = omega arith;
     lengths = lengths-fit;
     three = refl;
-    start = start-words;
+    start = cells-below start tt;
     shift = refl;
   };
 }
@@ -166,19 +125,13 @@ given = record {
 pub fixed : Fixed full
 fixed = fixed-by-calls full given
 
-changed-words : (c p : ℕ) → cell changed c p < 2 ^ 32
-changed-words zero p = below (getD changed 0 []) tt p
-changed-words (suc zero) p = below (getD changed 1 []) tt p
-changed-words (suc (suc zero)) p = below (getD changed 2 []) tt p
-changed-words (suc (suc (suc c))) p = omega arith
-
 -- none of these cells is low-frequency
 changed-is : wanted full (cell changed) ≡ changed
-unfolding wanted isLow gridFrom rowOf cornersRow cornersFrom wide high TRANSFORMS
+unfolding wanted-computes
 changed-is = refl
 
 pub filling : Filling full changed
-filling = subst (Filling full) changed-is (wanted-filling full fixed (cell changed) changed-words)
+filling = subst (Filling full) changed-is (wanted-filling full fixed (cell changed) (cells-below changed tt))
 
 -- its symbols
 lists-0 : (c : ℕ) → c < 3 → getD lists (3 * 4 + c) [] ≡ natural 16 8
@@ -191,8 +144,8 @@ lists-0 (suc (suc (suc c))) l = absurd (omega arith)
 order-4 : (c : ℕ) → c < 3 → stretch store 4 c ≡ flat (natural 16 8)
 order-4 c l = list-of 4 c (omega arith) l ∙ ap flat (lists-0 c l)
 
-pub sequence-is : theSequence full changed ≡ 1 ∷ 6 ∷ 0 ∷ 1 ∷ 0 ∷ 14 ∷ 1 ∷ 0 ∷ 0 ∷ 3 ∷ 0 ∷ 0 ∷ 0 ∷ 1 ∷ 0 ∷ 2 ∷ 0 ∷ []
-unfolding theSequence sequence differing coeffs symbol pack itemsOf itemOf placesOf paired natural cornersRow cornersFrom orderOf turns wide high TRANSFORMS
+pub sequence-is : theSequence (full .pass) (full .grids) changed ≡ 1 ∷ 6 ∷ 0 ∷ 1 ∷ 0 ∷ 14 ∷ 1 ∷ 0 ∷ 0 ∷ 3 ∷ 0 ∷ 0 ∷ 0 ∷ 1 ∷ 0 ∷ 2 ∷ 0 ∷ []
+unfolding sequence-computes
 sequence-is =
     rw (
       order-4 0 (omega arith),

@@ -1,23 +1,24 @@
 -- A reading stays inside its lists, item by item: what that asks of items and of the reading before them, and what they leave.
 use mathlib.Core.Path.{_≡_, refl, _∙_}
 use mathlib.Core.Bool.{Bool, true, false, cond}
-use mathlib.Core.Logic.{inl, inr}
-use mathlib.Core.List.{List, [], _∷_}
+use mathlib.Core.List.{List, [], _∷_, List·Memᴰ·head as here, List·Memᴰ·tail as there}
 use Prim.Native.Nat.{ℕ, zero, suc, _+_, _*_, _-_, _/_, _<_, _≤_}
 use native.Mathlib.Omega.{arith}
 use native.Mathlib.Nat.{le-refl, div-lt-iff-lt-mul, mul-le-mul}
-use native.Mathlib.Decide.{ℕ-discrete}
-use lib.Dec.{ltb, leb}
+use lib.Dec.{leb}
 use lib.ListN.{length, getD, set, drop, length-set, length-drop}
-use lib.Seq.{length-take-le}
+use lib.Seq.{sets, length-sets, length-take-le}
 use borrow.Author.Tests.{leb-true, leb-false}
-use Rattle.refusal.specs.declared.Refusal.the-variants.{SymbolsEnd, TooManyZeros, Count}
-use Rattle.hf_coeff_walk.specs.Walk.{FREQ, NUM-NONZERO, Walked, ended, stopped, walk, coeffContext, flag, less, gain}
+use Rattle.refusal.specs.declared.Refusal.the-variants.{Count}
+use Rattle.hf_coeff_walk.specs.Walk.{FREQ, NUM-NONZERO, Walked, stopped, walk, coeffContext, flag, less, gain}
+use Rattle.hf_coeff_walk.specs.Kept.{length-gain}
+use Rattle.hf_coeff_walk.specs.Counts.{count-over}
 use Rattle.hf_coeff_walk.specs.Item.{Item, predicted, countIndex, countOver, rowOf, newRow, countCluster, coeffPart, counted}
 use Rattle.hf_coeff_group.specs.Group.{Grids, Reading, going, refused, after, item}
-use Rattle.one_to_one.specs.Places.{In}
-use Rattle.one_to_one.specs.laws.Premises.{put-here, put-there}
-use Rattle.one_to_one.specs.laws.Logging.{symbolsIn}
+use Rattle.one_to_one.specs.LowCells.{In}
+use Rattle.one_to_one.specs.laws.Walks.{End, ends, stops, walkedBy, gains, length-gains, run}
+use Rattle.one_to_one.specs.laws.Cells.{set-below, put-all}
+use Rattle.hf_coeff_group.specs.laws.Symbols.{symbolsIn}
 use Rattle.one_to_one.specs.Inside.{WalkInside, countEntry, CountInside, ItemInside, ReadInside}
 
 -- Coefficients of one channel.
@@ -28,10 +29,6 @@ below-63 blocks n pos h = div-lt-iff-lt-mul {k = blocks} {x = n} {y = 63} pos .1
 less-most : (u n m : ℕ) → suc n ≤ m → less u n ≤ m
 less-most zero n m h = h
 less-most (suc u) n m h = omega arith
-
-gain-long : (shift : ℕ) (g : List ℕ) (p u : ℕ) → length (gain shift g p u) ≡ length g
-gain-long shift g p zero = refl
-gain-long shift g p (suc u) = length-set g p _
 
 module _ (shift blocks : ℕ) (part : List ℕ) (pos : 0 < blocks) (long : length part ≡ 458) where
   tables : (n i : ℕ) → n < 63 * blocks → i < 63 * blocks → (n / blocks < length NUM-NONZERO) × (i / blocks < length FREQ)
@@ -49,52 +46,23 @@ module _ (shift blocks : ℕ) (part : List ℕ) (pos : 0 < blocks) (long : lengt
     λ h. (
       omega arith,
       omega arith,
-      omega (arith, d p (inl refl)),
+      omega (arith, d p (here refl)),
       walk-inside ps (i + 1) (flag u) (less u n) us (at + 1) (set log at (getD part (coeffContext blocks n i prev) 0)) (gain shift g p u) (omega arith)
           (less-most u n (63 * blocks) b) (rw (length-set log at (getD part (coeffContext blocks n i prev) 0)) (omega arith))
-          (λ (q : ℕ). λ (j : In q ps). rw (gain-long shift g p u) (d q (inr j))),
+          (λ (q : ℕ). λ (j : In q ps). rw (length-gain shift g p u) (d q (there j))),
     ),
   )
-
--- what a walk leaves: lists of the same lengths, so many symbols read at most
-abbrev After : ℕ → ℕ → ℕ → Walked → Type 0
-After most long cells (ended us at log g left) = (at ≤ most) × (length log ≡ long) × (length g ≡ cells)
-After most long cells (stopped why at log g) = Unit
-
-either : (b : Bool) (most long cells : ℕ) (w v : Walked) → After most long cells w → After most long cells v → After most long cells (cond b w v)
-either true most long cells w v a b = a
-either false most long cells w v a b = b
-
-onward : (m n l k c d : ℕ) (w : Walked) → m ≡ n → l ≡ k → c ≡ d → After m l c w → After n k d w
-onward m n l k c d w e f g a = rw (← e, ← f, ← g) a
-
-module _ (shift blocks : ℕ) (part : List ℕ) where
-  walk-after : (ps : List ℕ) (i prev n : ℕ) (us : List ℕ) (at : ℕ) (log g : List ℕ)
-      → After (at + length ps) (length log) (length g) (walk shift blocks part ps i prev n us at log g)
-  unfolding walk
-  walk-after [] i prev n us at log g = (omega arith, refl, refl)
-  walk-after (p ∷ ps) i prev zero us at log g = (omega arith, refl, refl)
-  walk-after (p ∷ ps) i prev (suc n) [] at log g =
-      either (ltb (coeffContext blocks n i prev) 458) (at + suc (length ps)) (length log) (length g) (stopped SymbolsEnd at log g) (stopped TooManyZeros at log g) tt tt
-  walk-after (p ∷ ps) i prev (suc n) (u ∷ us) at log g =
-      let log₁ = set log at (getD part (coeffContext blocks n i prev) 0) in
-      let g₁ = gain shift g p u in
-      let w = walk shift blocks part ps (i + 1) (flag u) (less u n) us (at + 1) log₁ g₁ in
-      either (ltb (coeffContext blocks n i prev) 458) (at + suc (length ps)) (length log) (length g) w (stopped TooManyZeros at log g)
-      (onward (at + 1 + length ps) (at + suc (length ps)) (length log₁) (length log) (length g₁) (length g) w (omega arith) (length-set log at (getD part (coeffContext blocks n i prev) 0)) (gain-long shift g p u)
-      (walk-after ps (i + 1) (flag u) (less u n) us (at + 1) log₁ g₁))
-      tt
 
 -- Rows of counts.
 
 -- each number up to 63
 abbrev pub Small : List ℕ → Type 0
-Small row = (i : ℕ) → getD row i 0 ≤ 63
+Small row = (i : ℕ) → getD row i 0 < 64
 
 predicted-small : (row : List ℕ) (x y : ℕ) → Small row → predicted row x y ≤ 63
 predicted-small row zero zero s = omega arith
-predicted-small row (suc x) zero s = s x
-predicted-small row zero (suc y) s = s 0
+predicted-small row (suc x) zero s = omega (arith, s x)
+predicted-small row zero (suc y) s = omega (arith, s 0)
 predicted-small row (suc x) (suc y) s = omega (arith, s (suc x), s x)
 
 index-most : (p : ℕ) → p ≤ 63 → countIndex p ≤ 35
@@ -104,27 +72,13 @@ index-most p h = go (leb 8 p) refl
     go true e = omega arith
     go false e = omega (arith, leb-false 8 p e)
 
-over-most : (n blocks : ℕ) → 0 < blocks → n ≤ 63 * blocks → countOver n blocks ≤ 63
-over-most n blocks pos h = let a : countOver n blocks < 64 = div-lt-iff-lt-mul {k = blocks} {x = n + blocks - 1} {y = 64} pos .1 (omega arith) in omega arith
-
-set-small : (row : List ℕ) (x v : ℕ) → v ≤ 63 → Small row → Small (set row x v)
-set-small [] x v h s i = s i
-set-small (a ∷ row) zero v h s zero = h
-set-small (a ∷ row) zero v h s (suc i) = s (suc i)
-set-small (a ∷ row) (suc x) v h s zero = s 0
-set-small (a ∷ row) (suc x) v h s (suc i) = set-small row x v h (λ (j : ℕ). s (suc j)) i
-
 row-small : (row : List ℕ) (x n v : ℕ) → v ≤ 63 → Small row → Small (rowOf row x n v)
 row-small row x zero v h s = s
-row-small row x (suc n) v h s = row-small (set row x v) (x + 1) n v h (set-small row x v h s)
+row-small row x (suc n) v h s = row-small (set row x v) (x + 1) n v h (λ i. set-below row x v i 64 (omega arith) (s i))
 
 row-long : (row : List ℕ) (x n v : ℕ) → length (rowOf row x n v) ≡ length row
 row-long row x zero v = refl
 row-long row x (suc n) v = row-long (set row x v) (x + 1) n v ∙ length-set row x v
-
-new-long : (it : Item) (row us : List ℕ) → length (newRow it row us) ≡ length row
-new-long it row [] = refl
-new-long it row (n ∷ us) = row-long row (it .x) (it .wide) (countOver n (it .blocks))
 
 -- Items.
 
@@ -137,10 +91,6 @@ pub record Sound (width cells clusters : ℕ) (it : Item) : Type 0 where
   pub context : it .context < clusters
   pub size : length (it .places) ≡ 63 * it .blocks
   pub places : (p : ℕ) → In p (it .places) → p < cells
-
-abbrev pub AllSound : ℕ → ℕ → ℕ → List Item → Type 0
-AllSound width cells clusters [] = Unit
-AllSound width cells clusters (it ∷ its) = Sound width cells clusters it × AllSound width cells clusters its
 
 -- a reading with three grids of so many cells, three rows as wide as the group, and room in the log for so many more symbols
 pub record Sane (width many due at : ℕ) (log : List ℕ) (grids rows : Grids) : Type 0 where
@@ -198,39 +148,23 @@ module _ (shift clusters : ℕ) (stretch : List ℕ) (whole : length stretch ≡
           count-inside (getD rows c []) us at log (getD grids c []) (f .small c h) (f .cells c h) (omega arith),
         )
 
-    -- what the item leaves: after its walk w, whose row was rewritten with numbers up to 63 if it ended
-    after-fine : (rest at : ℕ) (grids rows : Grids) (left : ℕ) (row : List ℕ) (log : List ℕ) (w : Walked)
-        → Sane width cells (suc (length (it .places)) + rest) at log grids rows
-        → After (at + suc (length (it .places))) (length log) cells w → length row ≡ width → Small row
-        → Fine width cells rest (after (it .channel) grids (set rows (it .channel) row) left w)
-    after-fine rest at grids rows left row log (stopped why at′ log′ g) f a e m = tt
-    after-fine rest at grids rows left row log (ended us′ at′ log′ g n) f a e m =
-        let c = it .channel in
+    -- what the item leaves, however its walk ended, with its row rewritten
+    after-fine : (rest at : ℕ) (grids rows : Grids) (left : ℕ) (row log : List ℕ) (e : End) (at′ : ℕ) (log′ g : List ℕ) → Sane width cells (suc (length (it .places)) + rest) at log grids rows
+        → at′ ≤ at + suc (length (it .places)) → length log′ ≡ length log → length g ≡ cells → length row ≡ width → Small row
+        → Fine width cells rest (after (it .channel) grids (set rows (it .channel) row) left (walkedBy e at′ log′ g))
+    after-fine rest at grids rows left row log (stops why) at′ log′ g f a b c e m = tt
+    after-fine rest at grids rows left row log (ends us n) at′ log′ g f a b c e m =
+        let d = it .channel in
         let h = s .channel in
-        let x = f .three in let y = f .rows3 in
-        let here : c < length grids = omega arith in
-        let there : c < length rows = omega arith in
-        let k = f .room in let p = a .0 in let q = a .1 in
+        let x = f .three in let y = f .rows3 in let k = f .room in
         record {
-          three = rw (length-set grids c g) (f .three);
-          cells = λ (d : ℕ). λ (l : d < 3). at-cell d l (ℕ-discrete d c) here;
-          rows3 = length-set rows c row ∙ f .rows3;
-          wide = λ (d : ℕ). λ (l : d < 3). at-row d l (ℕ-discrete d c) there;
-          small = λ (d : ℕ). λ (l : d < 3). small-row d l (ℕ-discrete d c) there;
+          three = rw (length-set grids d g) (f .three);
+          cells = put-all (λ l. length l ≡ cells) grids d g (omega arith) c (f .cells);
+          rows3 = length-set rows d row ∙ f .rows3;
+          wide = put-all (λ l. length l ≡ width) rows d row (omega arith) e (f .wide);
+          small = put-all Small rows d row (omega arith) m (f .small);
           room = omega arith;
         }
-      where
-        at-cell : (d : ℕ) → d < 3 → Dec (d ≡ it .channel) → it .channel < length grids → length (getD (set grids (it .channel) g) d []) ≡ cells
-        at-cell d l (yes q) h = rw (q, put-here grids (it .channel) g h) (a .2)
-        at-cell d l (no n) h = rw (put-there grids (it .channel) g d n) (f .cells d l)
-
-        at-row : (d : ℕ) → d < 3 → Dec (d ≡ it .channel) → it .channel < length rows → length (getD (set rows (it .channel) row) d []) ≡ width
-        at-row d l (yes q) h = rw (q, put-here rows (it .channel) row h) e
-        at-row d l (no n) h = rw (put-there rows (it .channel) row d n) (f .wide d l)
-
-        small-row : (d : ℕ) → d < 3 → Dec (d ≡ it .channel) → it .channel < length rows → Small (getD (set rows (it .channel) row) d [])
-        small-row d l (yes q) h = rw (q, put-here rows (it .channel) row h) m
-        small-row d l (no n) h = rw (put-there rows (it .channel) row d n) (f .small d l)
 
     item-fine : (rest : ℕ) (r : Reading) → Fine width cells (suc (length (it .places)) + rest) r → Fine width cells rest (item shift clusters stretch it r)
     unfolding item counted
@@ -250,21 +184,25 @@ module _ (shift clusters : ℕ) (stretch : List ℕ) (whole : length stretch ≡
         log₁ : List ℕ
         log₁ = set log at (countCluster clusters stretch it row)
 
+        flag₀ : ℕ
+        flag₀ = cond (leb n (4 * it .blocks)) 1 0
+
         w : Walked
-        w = walk shift (it .blocks) (coeffPart clusters stretch it) (it .places) 0 (cond (leb n (4 * it .blocks)) 1 0) n us (at + 1) log₁ g
+        w = walk shift (it .blocks) (coeffPart clusters stretch it) (it .places) 0 flag₀ n us (at + 1) log₁ g
 
         test : (b : Bool) → leb n (63 * it .blocks) ≡ b → Fine width cells rest (after c grids (set rows c (newRow it row (n ∷ us))) left (cond b w (stopped Count (at + 1) log₁ g)))
         test false e = tt
         test true e =
             let v = countOver n (it .blocks) in
-            after-fine rest at grids rows left (rowOf row (it .x) (it .wide) v) log w f
-            (onward (at + 1 + length (it .places)) (at + suc (length (it .places))) (length log₁) (length log) (length g) cells w (omega arith)
-            (length-set log at (countCluster clusters stretch it row)) (f .cells c (s .channel))
-            (walk-after shift (it .blocks) (coeffPart clusters stretch it) (it .places) 0 (cond (leb n (4 * it .blocks)) 1 0) n us (at + 1) log₁ g))
+            let r = run (it .blocks) (coeffPart clusters stretch it) (it .places) 0 flag₀ n us in
+            let k = r .few in
+            rw (r .is shift (at + 1) log₁ g)
+            (after-fine rest at grids rows left (rowOf row (it .x) (it .wide) v) log (r .end) (at + 1 + length (r .clusters)) (sets log₁ (at + 1) (r .clusters)) (gains shift g (it .places) (r .ds)) f (omega arith)
+            (length-sets log₁ (at + 1) (r .clusters) ∙ length-set log at (countCluster clusters stretch it row)) (length-gains shift g (it .places) (r .ds) ∙ f .cells c (s .channel))
             (row-long row (it .x) (it .wide) v ∙ f .wide c (s .channel))
-            (row-small row (it .x) (it .wide) v (over-most n (it .blocks) (s .blocks) (leb-true n (63 * it .blocks) e)) (f .small c (s .channel)))
+            (row-small row (it .x) (it .wide) v (count-over n (it .blocks) (s .blocks) (leb-true n (63 * it .blocks) e)) (f .small c (s .channel))))
 
-  pub read-inside : (its : List Item) (r : Reading) → AllSound width cells clusters its → Fine width cells (symbolsIn its) r → ReadInside shift clusters stretch its r
+  pub read-inside : (its : List Item) (r : Reading) → ((it : Item) → In it its → Sound width cells clusters it) → Fine width cells (symbolsIn its) r → ReadInside shift clusters stretch its r
   read-inside [] r a f = tt
   read-inside (it ∷ its) r a f =
-      (item-inside it (a .0) (symbolsIn its) r f, read-inside its (item shift clusters stretch it r) (a .1) (item-fine it (a .0) (symbolsIn its) r f))
+      (item-inside it (a it (here refl)) (symbolsIn its) r f, read-inside its (item shift clusters stretch it r) (λ t i. a t (there i)) (item-fine it (a it (here refl)) (symbolsIn its) r f))

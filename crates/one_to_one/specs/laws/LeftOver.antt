@@ -3,22 +3,15 @@ use mathlib.Core.Path.{_≡_, refl, ap, _∙_}
 use mathlib.Core.List.{List, [], _∷_}
 use Prim.Native.Nat.{ℕ}
 use native.Mathlib.Omega.{arith}
-use Rattle.dct_select.specs.Transforms.{TRANSFORMS, wide, high, orderOf, turns}
-use Rattle.natural_order.specs.Places.{paired}
-use Rattle.natural_order.specs.Natural.{natural}
-use Rattle.layout.specs.Varblocks.{cornersRow, cornersFrom}
 use Rattle.layout.specs.laws.Theorems.{layout-check}
-use Rattle.block_context_index.specs.Contexts.{sizeOf, above, lfIndexIn, placeOf}
-use Rattle.hf_block_context.specs.Call.{stored as contextsOf}
-use Rattle.hf_coeff_walk.specs.Walk.{walk, coeffContext, FREQ, NUM-NONZERO}
-use Rattle.hf_coeff_walk.specs.Places.{placesOf}
-use Rattle.hf_coeff_walk.specs.Item.{counted}
-use Rattle.hf_coeff_group.specs.Pass.{varblocks, itemOf, itemsOf}
-use Rattle.hf_coeff_group.specs.Group.{Grids, Reading, going, leftOf, item, read, group-items}
+use Rattle.hf_block_context.specs.Call.{contextsOf}
+use Rattle.hf_coeff_group.specs.Pass.{varblocks, itemsOf}
+use Rattle.hf_coeff_group.specs.Group.{Grids, Reading, going, leftOf, read, group-items}
 use Rattle.hf_pass.specs.laws.Wrote.{wrote-fits}
 use Rattle.hf_coeff.specs.CallLaws.{call-reads}
 use Rattle.hf_coeff.specs.Call.{Lent, reads, Outcome, presetMap, reading, outcome, leftoverAt, leftover, call}
 use Rattle.one_to_one.specs.Filling.{withSymbols, Fails, leftOver}
+use Rattle.one_to_one.specs.laws.Computes.{reading-computes}
 use Rattle.one_to_one.specs.laws.Plain.{order-0}
 use Rattle.one_to_one.specs.Witness.{one}
 use Rattle.one_to_one.specs.laws.Witness.{fixed, no-bits}
@@ -29,13 +22,9 @@ module _ (stretch : List ℕ) where
   abbrev end : Reading
   end = read 0 15 stretch (itemsOf (one .pass) (varblocks (one .pass))) (going leaving 0 (one .log) (one .grids) ((0 ∷ []) ∷ (0 ∷ []) ∷ (0 ∷ []) ∷ []) 0)
 
-  left-of : leftOf end ≡ 1
-  unfolding itemsOf itemOf placesOf paired natural cornersRow cornersFrom orderOf turns wide high TRANSFORMS read item counted walk coeffContext FREQ NUM-NONZERO contextsOf sizeOf above lfIndexIn placeOf
-  left-of = rw (order-0 0 (omega arith), order-0 1 (omega arith), order-0 2 (omega arith))
-
-  answer-of : outcome end .answer ≡ reads 66
-  unfolding itemsOf itemOf placesOf paired natural cornersRow cornersFrom orderOf turns wide high TRANSFORMS read item counted walk coeffContext FREQ NUM-NONZERO contextsOf sizeOf above lfIndexIn placeOf
-  answer-of = rw (order-0 0 (omega arith), order-0 1 (omega arith), order-0 2 (omega arith))
+  end-is : (leftOf end ≡ 1) × (outcome end .answer ≡ reads 66)
+  unfolding reading-computes
+  end-is = rw (order-0 0 (omega arith), order-0 1 (omega arith), order-0 2 (omega arith)) (refl, refl)
 
 abbrev L : Lent
 L = withSymbols one leaving
@@ -51,11 +40,11 @@ left-accepted =
     ap (λ (o : Outcome). o .answer)
     (call-reads L (fixed .sides) refl (fixed .contexts) (fixed .rest .lengths) (layout-check (P .width) (P .height) (P .kinds) (P .muls) (fixed .layout)) (wrote-fits (P .store) (fixed .orders))
     0 0 no-bits (omega arith))
-    ∙ ap (λ (r : Reading). outcome r .answer) by-items ∙ answer-of (presetMap L 0)
+    ∙ ap (λ (r : Reading). outcome r .answer) by-items ∙ end-is (presetMap L 0) .1
 
 -- and the count is left over
 pub left-over : leftover (withSymbols one leaving) ≡ 1
-left-over = ap (leftoverAt L) no-bits ∙ ap leftOf by-items ∙ left-of (presetMap L 0)
+left-over = ap (leftoverAt L) no-bits ∙ ap leftOf by-items ∙ end-is (presetMap L 0) .0
 
 -- so these symbols fill no grids in the sense of demand 3
 pub left-fails : (W : Grids) → Fails one leaving W

@@ -9,7 +9,6 @@ use native.Mathlib.Nat.{mul-mul-mul-comm}
 use native.Mathlib.Decide.{ℕ-discrete, decLt}
 use borrow.Author.Tests.{le-leb}
 use lib.ListN.{length, getD, List·getD-eq-default}
-use Rattle.layout.specs.Grid.{at}
 use Rattle.layout.specs.laws.Theorems.{layout-check}
 use Rattle.hf_pass.specs.laws.Wrote.{wrote-fits}
 use Rattle.hf_coeff_walk.specs.Item.{Item}
@@ -19,9 +18,8 @@ use Rattle.hf_coeff.specs.Call.{Lent, Answer, reads, refuses, Outcome, clusters
 use Rattle.hf_coeff.specs.CallLaws.{call-reads}
 use Rattle.hf_coeff.specs.Fits.{lengths-fit}
 use Rattle.one_to_one.specs.Filling.{Sized, Fixed, Filling, withSymbols, Fills, Fails, symbolsRead, refused, unread, leftOver, otherGrids}
-use Rattle.one_to_one.specs.laws.Premises.{Shape}
-use Rattle.one_to_one.specs.laws.Corners.{corners-apart}
-use Rattle.one_to_one.specs.laws.Items.{wrote-ordered, Ordered, fits-all, disjoint-all, off-low}
+use Rattle.one_to_one.specs.laws.Cells.{Shape}
+use Rattle.one_to_one.specs.laws.Items.{wrote-ordered, Ordered, item-size, cells-apart, cells-fit, place-or-same}
 use Rattle.one_to_one.specs.laws.OneToOne as over
 use Rattle.one_to_one.specs.laws.SymbolsRead.{never-more}
 
@@ -60,12 +58,13 @@ module _ (L : Lent) (fixed : Fixed L) where
   module _ (W : Grids) (filling : Filling L W) where
     pub group : over.Group items (L .grids) W
     group = record {
-      fit = fits-all P (fixed .layout) ordered (L .grids) start-sized (varblocks P) (λ v i. i);
-      disjoint = disjoint-all P (fixed .layout) ordered (varblocks P) (λ v i. i) (corners-apart (at (P .kinds) (P .width)) (at (P .muls) (P .width)) (P .width) (P .height));
-      start = λ c p h. fixed .rest .start c p;
-      wanted = λ c p h. filling .words c p;
+      few = λ it i. let z = item-size P (fixed .layout) ordered it i in let a = z .0 in let b = z .1 in omega arith;
+      sized = λ it i. item-size P (fixed .layout) ordered it i .1;
+      distinct = cells-apart P (fixed .layout) ordered;
+      fit = cells-fit P (fixed .layout) ordered (L .grids) start-sized (fixed .rest .start);
+      wanted = filling .words;
       shape = shapes P (L .grids) W start-sized (filling .sized);
-      low = off-low P (fixed .layout) ordered (L .grids) W start-sized (filling .sized) (filling .low);
+      kept = place-or-same P (fixed .layout) ordered (L .grids) W start-sized (filling .sized) (filling .low);
     }
       where
         ordered : Ordered P

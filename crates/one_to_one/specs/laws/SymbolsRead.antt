@@ -1,86 +1,26 @@
 -- How many symbols a coefficient call reads, and what it logs (document 01, Coefficients: "the number of symbols read, never above
 -- 192 × blocks, and one logged cluster for each of them"). Of every input, refused ones too.
 use mathlib.Core.Path.{_≡_, refl, ap, sym, _∙_}
-use mathlib.Core.Bool.{Bool}
-use mathlib.Core.Logic.{inl, inr}
-use mathlib.Core.List.{List, [], _∷_, _++_}
-use Prim.Native.Nat.{ℕ, _+_, _*_, _/_, _<_, _≤_}
+use mathlib.Core.List.{List, [], _++_}
+use Prim.Native.Nat.{ℕ, _+_, _*_, _≤_}
 use native.Mathlib.Omega.{arith}
-use native.Mathlib.Nat.{mul-mul-mul-comm, mul-comm}
-use lib.Pow.{pow-pos}
 use lib.ListN.{length, drop, length-drop, length-append}
 use lib.Seq.{sets, sets-eq, drop-at}
 use Rattle.refusal.specs.declared.Refusal.{Refusal}
 use Rattle.refusal.specs.declared.Said.{Said}
 use Rattle.refusal.specs.Said.{said}
 use Rattle.refusal.specs.Said as refusals
-use Rattle.dct_select.specs.Transforms.{wide, high, orderOf, turns}
-use Rattle.block_sizes.specs.BlockSizes.{widthOf, heightOf}
-use Rattle.layout.specs.Grid.{at}
-use Rattle.layout.specs.Varblocks.{Varblock, area}
-use Rattle.layout.specs.laws.Theorems.{layout-iff, layout-area}
-use Rattle.hf_pass_store.specs.Store.{PLACES, stretch}
-use Rattle.natural_order.specs.Places.{paired}
-use Rattle.natural_order.specs.laws.Flat.{length-paired}
-use Rattle.hf_coeff_walk.specs.PlaceLaws.{length-places}
-use Rattle.hf_coeff_walk.specs.Item.{Item}
-use Rattle.hf_coeff_group.specs.Pass.{Pass, varblocks, blocksOf, placesAt, itemOf, channels, itemsOf}
-use Rattle.hf_coeff_group.specs.Group.{Reading, going, refused, read, readOf, group-items}
-use Rattle.hf_coeff_group.specs.Sizes.{logOf, order-lt, log-blocks, Sides, swapped, straight, sides-of}
-use Rattle.hf_coeff_group.specs.Stored.{stretch-long}
-use Rattle.hf_coeff.specs.Call.{Lent, refuses, Outcome, blocks, clustersOf, rowsOf, presetMap, reading, outcome, refuse, call}
+use Rattle.layout.specs.laws.Theorems.{layout-iff}
+use Rattle.hf_coeff_group.specs.Pass.{varblocks, itemsOf}
+use Rattle.hf_coeff_group.specs.laws.Symbols.{most-symbols}
+use Rattle.hf_coeff.specs.Call.{Lent, refuses, Outcome, blocks, reading, outcome, refuse, call}
 use Rattle.hf_coeff.specs.CallSteps.{Passed}
 use Rattle.hf_coeff.specs.Fits.{lengths-fit}
-use Rattle.one_to_one.specs.laws.Rectangles.{known}
-use Rattle.one_to_one.specs.Filling.{InV, LaidOut, withLog, told, symbolsRead}
-use Rattle.one_to_one.specs.laws.Ways.{Way, before, work, way}
-use Rattle.one_to_one.specs.laws.Logging.{loggingAll, TellsAll, LogsAll, symbolsIn, read-logs}
-
--- A varblock's symbols: at most 64 for each of its blocks in each channel.
-symbols-both : (xs ys : List Item) → symbolsIn (xs ++ ys) ≡ symbolsIn xs + symbolsIn ys
-symbols-both [] ys = omega arith
-symbols-both (x ∷ xs) ys = let e : symbolsIn (xs ++ ys) ≡ symbolsIn xs + symbolsIn ys = symbols-both xs ys in omega arith
-
-area-by : (turn : Bool) (w h bw bh : ℕ) → Sides turn w h bw bh → bw * bh ≡ 64 * (w * h)
-area-by turn w h bw bh (swapped e a b) = rw (a, b) (mul-mul-mul-comm 8 h 8 w ∙ ap (λ (n : ℕ). 64 * n) (mul-comm h w))
-area-by turn w h bw bh (straight e a b) = rw (a, b) (mul-mul-mul-comm 8 w 8 h)
-
-module _ (P : Pass) (lay : LaidOut P) (whole : length (P .store) ≡ 2 * PLACES) where
-  pub places-many : (v : Varblock) → v .type < 27 → (c : ℕ) → c < 3 → length (placesAt P v c) ≡ 63 * blocksOf v
-  places-many v h c hc =
-      let t = v .type in
-      let s = stretch (P .store) (orderOf t) c in
-      let a : length s ≡ 2 * (widthOf (orderOf t) * heightOf (orderOf t)) = stretch-long (P .store) whole (orderOf t) c (order-lt t h) hc in
-      let b : widthOf (orderOf t) * heightOf (orderOf t) ≡ 64 * (wide t * high t) = area-by (turns t) (wide t) (high t) (widthOf (orderOf t)) (heightOf (orderOf t)) (sides-of t h) in
-      let p : length (paired s) ≡ length s / 2 = length-paired s in
-      length-places (turns t) (8 * P .width) (8 * v .x) (8 * v .y) (drop (blocksOf v) (paired s)) ∙ length-drop (blocksOf v) (paired s) ∙ omega arith
-
-  pub some-blocks : (v : Varblock) → v .type < 27 → 1 ≤ blocksOf v
-  some-blocks v h = let a = log-blocks (v .type) h in let b = pow-pos (logOf (v .type)) in omega arith
-
-  varblock-symbols : (v : Varblock) → v .type < 27 → symbolsIn (channels P v) ≤ 192 * blocksOf v
-  unfolding itemOf
-  varblock-symbols v h =
-      let a = places-many v h 1 (omega arith) in
-      let b = places-many v h 0 (omega arith) in
-      let c = places-many v h 2 (omega arith) in
-      let s = some-blocks v h in
-      omega arith
-
-  group-symbols : (vs : List Varblock) → ((v : Varblock) → InV v vs → InV v (varblocks P)) → symbolsIn (itemsOf P vs) ≤ 192 * area vs
-  unfolding itemsOf area
-  group-symbols [] f = omega arith
-  group-symbols (v ∷ vs) f =
-      let a : symbolsIn (channels P v) ≤ 192 * blocksOf v = varblock-symbols v (known P lay v (f v (inl refl))) in
-      let b : symbolsIn (itemsOf P vs) ≤ 192 * area vs = group-symbols vs (λ u j. f u (inr j)) in
-      rw (symbols-both (channels P v) (itemsOf P vs)) (omega arith)
-
-  pub most-symbols : symbolsIn (itemsOf P (varblocks P)) ≤ 192 * blocks P
-  most-symbols =
-      let a = group-symbols (varblocks P) (λ v i. i) in
-      let b : area (varblocks P) ≡ P .width * P .height = layout-area (P .width) (P .height) (P .kinds) (P .muls) lay in
-      let c : P .width * P .height ≡ P .height * P .width = mul-comm (P .width) (P .height) in
-      omega arith
+use Rattle.one_to_one.specs.Filling.{relent, withLog, told, symbolsRead}
+use Rattle.one_to_one.specs.LowCells.{cellsOf}
+use Rattle.one_to_one.specs.laws.Cells.{adds}
+use Rattle.one_to_one.specs.laws.Reads.{End, ends, stops, Tells, joined}
+use Rattle.one_to_one.specs.laws.Ways.{Way, before, work, way, did, answerBy, outcome-by}
 
 -- What holds of every call, whatever the log held before.
 pub record Tied (L : Lent) : Type 0 where
@@ -97,9 +37,9 @@ number-of : (a b : Said) → refuses a ≡ refuses b → a .number ≡ b .number
 number-of a b e = let f : a ≡ b = cc in ap (λ (s : Said). s .number) f
 
 by-refusal : (L : Lent) (why : Refusal) → told (said why) ≡ 0 → (said why .number ≡ 15 → ⊥)
-    → ((log : List ℕ) → length log ≡ length (L .log) → call (withLog L log) ≡ refuse (withLog L log) why) → Tied L
+    → ((symbols log : List ℕ) → length log ≡ length (L .log) → call (relent L symbols log) ≡ refuse (relent L symbols log) why) → Tied L
 by-refusal L why t n e =
-    let c : call L ≡ refuse L why = e (L .log) refl in
+    let c : call L ≡ refuse L why = e (L .symbols) (L .log) refl in
     record {
       clusters = [];
       each = sym (ap (λ (o : Outcome). symbolsRead (o .answer)) c ∙ t);
@@ -107,69 +47,50 @@ by-refusal L why t n e =
       there = omega arith;
       room = omega arith;
       none = λ m f. absurd (n (number-of (said why) (refusals.at 15 m 0) (sym (ap (λ (o : Outcome). o .answer) c) ∙ f)));
-      logs = λ log l. e log l ∙ ap (λ (o : Outcome). record { answer = o .answer; log = log; grids = o .grids }) (sym c);
+      logs = λ log l. e (L .symbols) log l ∙ ap (λ (o : Outcome). record { answer = o .answer; log = log; grids = o .grids }) (sym c);
     }
 
-outcome-log : (log : List ℕ) (r : Reading) → outcome (loggingAll log r) ≡ record { answer = outcome r .answer; log = log; grids = outcome r .grids }
-outcome-log log (going us at l G rows left) = refl
-outcome-log log (refused why at l G) = refl
+-- what the end of a reading tells
+told-by : (e : End) (us : List ℕ) (k : ℕ) (dss : List (List ℕ)) → Tells us 0 k dss e → symbolsRead (answerBy e (0 + k)) ≡ k
+told-by (ends us′ rows left) us k dss t = omega arith
+told-by (stops why) us k dss t = t .tells (0 + k) ∙ omega arith
 
-outcome-read : (all : ℕ) (r : Reading) → TellsAll all r → symbolsRead (outcome r .answer) ≡ readOf r
-outcome-read all (going us at l G rows left) t = refl
-outcome-read all (refused why at l G) t = t .tells
+there-by : (e : End) (us : List ℕ) (k : ℕ) (dss : List (List ℕ)) → Tells us 0 k dss e → k ≤ length us
+there-by (ends us′ rows left) us k dss t = omega (arith, t .read)
+there-by (stops why) us k dss t = t .there
 
-outcome-there : (all : ℕ) (r : Reading) → TellsAll all r → readOf r ≤ all
-outcome-there all (going us at l G rows left) t = omega arith
-outcome-there all (refused why at l G) t = t .there
+last-by : (e : End) (us : List ℕ) (k : ℕ) (dss : List (List ℕ)) → Tells us 0 k dss e → (n : ℕ) → answerBy e (0 + k) ≡ refuses (refusals.at 15 n 0) → n ≡ length us
+last-by (ends us′ rows left) us k dss t n e = absurd (let z : _≡_ {A = ℕ} 0 1 = cc in omega arith)
+last-by (stops why) us k dss t n e =
+    let a : said (why (0 + k)) ≡ refusals.at 15 n 0 = cc in
+    sym (ap told a) ∙ t .tells (0 + k) ∙ omega arith ∙ t .last (0 + k) (ap (λ (s : Said). s .number) a)
 
-outcome-none : (all : ℕ) (r : Reading) → TellsAll all r → (n : ℕ) → outcome r .answer ≡ refuses (refusals.at 15 n 0) → n ≡ all
-outcome-none all (going us at l G rows left) t n e = absurd (let z : _≡_ {A = ℕ} 0 1 = cc in omega arith)
-outcome-none all (refused why at l G) t n e =
-    let a : said (why at) ≡ refusals.at 15 n 0 = cc in
-    let b : at ≡ all = t .none (ap (λ (s : Said). s .number) a) in
-    sym (ap told a) ∙ t .tells ∙ b
-
-module _ (L : Lent) (passed : Passed L) where
-  by-reading : (preset : ℕ) → ((log : List ℕ) → length log ≡ length (L .log) → call (withLog L log) ≡ outcome (reading (withLog L log) preset)) → Tied L
-  unfolding reading
-  by-reading preset e =
-      let P = L .pass in
-      let l = lengths-fit L (passed .lengths) in
-      let lay : LaidOut P = layout-iff (P .width) (P .height) (P .kinds) (P .muls) (l .kinds) (l .muls) .0 (passed .layout) in
-      let m : symbolsIn (itemsOf P (varblocks P)) ≤ 192 * blocks P = most-symbols P lay (l .store) in
-      let long : 192 * blocks P ≤ length (L .log) = l .log in
-      let r = read-logs (L .shift) (clustersOf P) (presetMap L preset) (itemsOf P (varblocks P)) (L .symbols) 0 (L .grids) (rowsOf P) 0 in
-      let few : length (r .clusters) ≤ symbolsIn (itemsOf P (varblocks P)) = r .few in
-      let start : (log : List ℕ) → length log ≡ length (L .log) → call (withLog L log) ≡ outcome (loggingAll (sets log 0 (r .clusters)) (r .to)) =
-      λ log k. e log k ∙ ap outcome (group-items (L .shift) (clustersOf P) (presetMap L preset) P (varblocks P) (going (L .symbols) 0 log (L .grids) (rowsOf P) 0) ∙ r .is log) in
-      whole r few m long start
-    where
-      whole : (r : LogsAll (symbolsIn (itemsOf (L .pass) (varblocks (L .pass)))) (0 + length (L .symbols)) 0
-          (λ log. read (L .shift) (clustersOf (L .pass)) (presetMap L preset) (itemsOf (L .pass) (varblocks (L .pass))) (going (L .symbols) 0 log (L .grids) (rowsOf (L .pass)) 0)))
-          → length (r .clusters) ≤ symbolsIn (itemsOf (L .pass) (varblocks (L .pass))) → symbolsIn (itemsOf (L .pass) (varblocks (L .pass))) ≤ 192 * blocks (L .pass)
-          → 192 * blocks (L .pass) ≤ length (L .log)
-          → ((log : List ℕ) → length log ≡ length (L .log) → call (withLog L log) ≡ outcome (loggingAll (sets log 0 (r .clusters)) (r .to))) → Tied L
-      whole r few m long start =
-          let c : call L ≡ record { answer = outcome (r .to) .answer; log = sets (L .log) 0 (r .clusters); grids = outcome (r .to) .grids } =
-          start (L .log) refl ∙ outcome-log (sets (L .log) 0 (r .clusters)) (r .to) in
-          let a : call L .answer ≡ outcome (r .to) .answer = ap (λ (o : Outcome). o .answer) c in
-          let g : call L .grids ≡ outcome (r .to) .grids = ap (λ (o : Outcome). o .grids) c in
-          let n : readOf (r .to) ≡ 0 + length (r .clusters) = r .each in
-          let t : readOf (r .to) ≤ 0 + length (L .symbols) = outcome-there (0 + length (L .symbols)) (r .to) (r .tells) in
-          record {
-            clusters = r .clusters;
-            each = sym (ap symbolsRead a ∙ outcome-read (0 + length (L .symbols)) (r .to) (r .tells) ∙ n ∙ omega arith);
-            most = omega arith;
-            there = omega arith;
-            room = omega arith;
-            none = λ k f. outcome-none (0 + length (L .symbols)) (r .to) (r .tells) k (sym a ∙ f) ∙ omega arith;
-            logs = λ log k.
-                start log k ∙ outcome-log (sets log 0 (r .clusters)) (r .to)
-                ∙ rw (← a, ← g) (ap (λ (l : List ℕ). record { answer = call L .answer; log = l; grids = call L .grids }) (front log (r .clusters) (omega arith)));
-          }
-        where
-          front : (log ks : List ℕ) → length ks ≤ length log → sets log 0 ks ≡ ks ++ drop (length ks) log
-          front log ks h = let z : 0 + length ks ≡ length ks = omega arith in sets-eq ks log 0 (omega arith) ∙ rw z
+by-reading : (L : Lent) → Passed L → (preset : ℕ) → ((symbols log : List ℕ) → length log ≡ length (L .log) → call (relent L symbols log) ≡ outcome (reading (relent L symbols log) preset)) → Tied L
+by-reading L passed preset e =
+    let P = L .pass in
+    let l = lengths-fit L (passed .lengths) in
+    let d = did L preset in
+    let ks = d .clusters in
+    let G = adds (L .shift) (L .grids) (cellsOf (itemsOf P (varblocks P))) (joined (d .dss)) in
+    let most : length ks ≤ 192 * blocks P =
+    omega (arith, d .few, most-symbols P (l .store) (layout-iff (P .width) (P .height) (P .kinds) (P .muls) (l .kinds) (l .muls) .0 (passed .layout))) in
+    let room : length ks ≤ length (L .log) = omega (arith, l .log) in
+    let start : (log : List ℕ) → length log ≡ length (L .log) → call (withLog L log) ≡ record { answer = answerBy (d .end) (0 + length ks); log = sets log 0 ks; grids = G } =
+    λ log k. e (L .symbols) log k ∙ ap outcome (d .is log) ∙ outcome-by (d .end) (0 + length ks) (sets log 0 ks) G in
+    let a : call L .answer ≡ answerBy (d .end) (0 + length ks) = ap (λ (o : Outcome). o .answer) (start (L .log) refl) in
+    let g : call L .grids ≡ G = ap (λ (o : Outcome). o .grids) (start (L .log) refl) in
+    record {
+      clusters = ks;
+      each = sym (ap symbolsRead a ∙ told-by (d .end) (L .symbols) (length ks) (d .dss) (d .tells));
+      most = most;
+      there = there-by (d .end) (L .symbols) (length ks) (d .dss) (d .tells);
+      room = room;
+      none = λ k f. last-by (d .end) (L .symbols) (length ks) (d .dss) (d .tells) k (sym a ∙ f);
+      logs = λ log k. start log k ∙ rw (← a, ← g) (ap (λ (m : List ℕ). record { answer = call L .answer; log = m; grids = call L .grids }) (front log ks (omega arith)));
+    }
+  where
+    front : (log ks : List ℕ) → length ks ≤ length log → sets log 0 ks ≡ ks ++ drop (length ks) log
+    front log ks h = let z : 0 + length ks ≡ length ks = omega arith in sets-eq ks log 0 (omega arith) ∙ rw z
 
 module _ (L : Lent) where
   by-way : Way L → Tied L

@@ -14,13 +14,14 @@ use Rattle.dct_select.specs.Transforms.{wide, high}
 use Rattle.layout.specs.Grid.{at}
 use Rattle.layout.specs.laws.Grid.{grid-length, grid-at, Cell, cell-at}
 use Rattle.layout.specs.Varblocks.{Varblock}
+use Rattle.layout.specs.Listed.{Among, first, later}
 use Rattle.hf_coeff_group.specs.Pass.{Pass, varblocks}
 use Rattle.hf_coeff_group.specs.Group.{Grids}
 use Rattle.hf_coeff.specs.Call.{Lent}
 use Rattle.hf_coeff.specs.Fits.{lengths-fit}
-use Rattle.one_to_one.specs.Filling.{cell, InV, Low, LowKept, lowIn, lowInSome, isLow, Sized, Fixed, Filling, asked, gridWanted, wanted, Words, Fills, Fails}
+use Rattle.one_to_one.specs.Filling.{cell, Low, LowKept, lowIn, lowInSome, isLow, Sized, Fixed, Filling, asked, gridWanted, wanted, Words, Fills, Fails}
 use Rattle.one_to_one.specs.Sequence.{theSequence}
-use Rattle.one_to_one.specs.laws.Premises.{same-shape}
+use Rattle.one_to_one.specs.laws.Cells.{same-shape}
 use Rattle.one_to_one.specs.laws.Demand3.{one-sequence, every-other}
 use Rattle.one_to_one.specs.Wanted.{many}
 
@@ -63,18 +64,17 @@ module _ (x y : ℕ) where
         lt-ltb y (8 * v .y + high (v .type)) (i .bottom),
       )
 
-  in-some : (vs : List Varblock) → lowInSome x y vs ≡ true → (v : Varblock) × InV v vs × In x y v
+  in-some : (vs : List Varblock) → lowInSome x y vs ≡ true → (v : Varblock) × Among v vs × In x y v
   in-some [] e = absurd (let z : _≡_ {A = ℕ} 0 1 = cc in omega arith)
   in-some (v ∷ vs) e = go (or-true (lowIn x y v) (lowInSome x y vs) e) (in-some vs)
     where
-      go : (lowIn x y v ≡ true) ⊎ (lowInSome x y vs ≡ true) → (lowInSome x y vs ≡ true → (u : Varblock) × InV u vs × In x y u) → (u : Varblock) × InV u (v ∷ vs) × In x y u
-      go (inl a) f = (v, inl refl, in-one v a)
-      go (inr b) f = let r = f b in (r .0, inr (r .1), r .2)
+      go : (lowIn x y v ≡ true) ⊎ (lowInSome x y vs ≡ true) → (lowInSome x y vs ≡ true → (u : Varblock) × Among u vs × In x y u) → (u : Varblock) × Among u (v ∷ vs) × In x y u
+      go (inl a) f = (v, first refl, in-one v a)
+      go (inr b) f = let r = f b in (r .0, later (r .1), r .2)
 
-  some-in : (vs : List Varblock) (v : Varblock) → InV v vs → In x y v → lowInSome x y vs ≡ true
-  some-in [] v i h = absurd i
-  some-in (u ∷ vs) v (inl e) h = or-either (lowIn x y u) (lowInSome x y vs) (inl (one-in u (rw e at h)))
-  some-in (u ∷ vs) v (inr i) h = or-either (lowIn x y u) (lowInSome x y vs) (inr (some-in vs v i h))
+  some-in : (vs : List Varblock) (v : Varblock) → Among v vs → In x y v → lowInSome x y vs ≡ true
+  some-in (u ∷ vs) v (first e) h = or-either (lowIn x y u) (lowInSome x y vs) (inl (one-in u (rw (← e) at h)))
+  some-in (u ∷ vs) v (later i) h = or-either (lowIn x y u) (lowInSome x y vs) (inr (some-in vs v i h))
 
 module _ (P : Pass) (p : ℕ) where
   pub is-low : isLow P p ≡ true → Low P p
@@ -184,9 +184,9 @@ module _ (L : Lent) (fixed : Fixed L) (f : ℕ → ℕ → ℕ) (words : (c p : 
       at-cell c p (no n) h = no-channel W (filling .sized .three) c p n ∙ sym (no-channel (wanted L f) (three L f) c p n)
 
   -- Demand 3: whatever 32-bit numbers the cells that are not low-frequency are to hold, these 32-bit symbols fill them so, and no others do.
-  pub one-sequence-for-any : Words (theSequence L (wanted L f)) × ((s : List ℕ) → Words s → Fills L s (wanted L f) ↔ (s ≡ theSequence L (wanted L f)))
+  pub one-sequence-for-any : Words (theSequence (L .pass) (L .grids) (wanted L f)) × ((s : List ℕ) → Words s → Fills L s (wanted L f) ↔ (s ≡ theSequence (L .pass) (L .grids) (wanted L f)))
   one-sequence-for-any = one-sequence L fixed (wanted L f) wanted-filling
 
   -- every other sequence fails, and that one does not
-  pub every-other-for-any : (s : List ℕ) → Words s → Fails L s (wanted L f) ↔ (s ≡ theSequence L (wanted L f) → ⊥)
+  pub every-other-for-any : (s : List ℕ) → Words s → Fails L s (wanted L f) ↔ (s ≡ theSequence (L .pass) (L .grids) (wanted L f) → ⊥)
   every-other-for-any = every-other L fixed (wanted L f) wanted-filling
