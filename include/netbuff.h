@@ -188,7 +188,7 @@ enum {
     NETBUFF_CHANNELS = 3
 };
 
-/* The kind of a block in a layout; the corner of a varblock of type t has NETBUFF_KIND_CORNER + t. */
+/* The kind of a block in a layout: NETBUFF_KIND_CORNER + t where a varblock of type t begins. */
 enum { NETBUFF_KIND_FREE = 0, NETBUFF_KIND_OCCUPIED = 1, NETBUFF_KIND_CORNER = 2 };
 
 /* ---- Limits and lengths ---- */
@@ -216,7 +216,7 @@ enum {
 #define NETBUFF_STORE_LENGTH 787968
 enum { NETBUFF_ORDERS = 13 };
 
-/* Sides in blocks of an LF group: pixels divided by 8, rounded up, made even where a mode halves. */
+/* Sides in blocks of an LF group: pixels divided by 8, rounded up, made even where a mode says. */
 static inline size_t netbuff_lf_bw(uint32_t width, uint32_t mode0, uint32_t mode1, uint32_t mode2)
 {
     size_t bw = ((size_t)width + 7) / 8;
