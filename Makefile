@@ -38,7 +38,7 @@ INSTALLED_LIBRARY := $(HEADERS:include/%=$(INCLUDEDIR)/%) $(LIBDIR)/libnetbuff.a
 	$(LIBDIR)/libnetbuff.so $(LIBDIR)/libnetbuff.so.$(SOVERSION) \
 	$(LIBDIR)/libnetbuff.so.$(VERSION) $(LIBDIR)/pkgconfig/netbuff.pc \
 	$(LIBDIR)/cmake/netbuff/netbuffConfig.cmake $(LIBDIR)/cmake/netbuff/netbuffConfigVersion.cmake \
-	$(MANDIR)/man3/netbuff.3 $(LICENCES:%=$(DOCDIR)/%)
+	$(MANDIR)/man3/netbuff.3 $(DOCDIR)/example.c $(LICENCES:%=$(DOCDIR)/%)
 INSTALLED_PROGRAMS := $(PROGRAMS:%=$(BINDIR)/%) $(PROGRAMS:%=$(MANDIR)/man1/%.1)
 
 .PHONY: all library programs check install install-library install-programs uninstall version
@@ -85,7 +85,7 @@ install-library: library
 	$(filled) packaging/netbuffConfigVersion.cmake.in \
 		> $(DESTDIR)$(LIBDIR)/cmake/netbuff/netbuffConfigVersion.cmake
 	$(INSTALL) -m 644 man/netbuff.3 $(DESTDIR)$(MANDIR)/man3
-	$(INSTALL) -m 644 $(LICENCES) $(DESTDIR)$(DOCDIR)
+	$(INSTALL) -m 644 $(LICENCES) examples/c/example.c $(DESTDIR)$(DOCDIR)
 
 install-programs: programs
 	$(INSTALL) -d $(sort $(dir $(INSTALLED_PROGRAMS:%=$(DESTDIR)%)))

@@ -389,9 +389,14 @@ uint32_t netbuff_alike(size_t bw, size_t bh, const uint8_t *kinds, size_t kinds_
 
 /*
  * The block contexts of a frame. First bit 1: the default contexts, 15 clusters; num_clusters and
- * map are not looked at (lend 0 and a list of none). First bit 0: the thresholds follow in the
- * bytes, and the decoded cluster map is lent: 39 bytes for each of bsize (the product of the four
- * list lengths, each plus 1, at most 64), all below num_clusters, 1 to 16.
+ * map are not looked at (lend 0 and a list of none). First bit 0: four lists of thresholds follow
+ * in the bytes, and the decoded cluster map is lent: 39 bytes for each of bsize (the product of the
+ * four list lengths, each plus 1, at most 64), all below num_clusters, 1 to 16.
+ *
+ * A list is its length, four bits, then that many U32. LF thresholds (channels 0, 1, 2) are packed
+ * signed: 4 bits, 16 + 8 bits, 272 + 16 bits, 65808 + 32 bits. qf thresholds are 1 more than: 2
+ * bits, 4 + 3 bits, 12 + 5 bits, 44 + 8 bits. netbuff_scan_contexts of netbuff_structs.h tells the
+ * lengths and where the lists end, so that the map can be decoded and lent.
  *
  * The record is handed out whole, unused places 0: the number of clusters; the lengths of the LF
  * lists of channels 0, 1, 2 and of the qf list; the LF thresholds of channel c from 15 * c on; the

@@ -353,6 +353,33 @@ static inline struct netbuff_refusal netbuff_layouts_alike(const struct netbuff_
     return no;
 }
 
+/*
+ * How long the map is that netbuff_read_contexts has to be lent, and how many bits come before its
+ * own: walks over the lists of thresholds. The length is 0 for default contexts. Refused: 3, with
+ * the bits read.
+ */
+static inline struct netbuff_refusal netbuff_scan_contexts(const struct netbuff_bytes *bytes,
+                                                           size_t *map_length, size_t *bits_read)
+{
+    static const struct netbuff_u32_choice choices[2][4] = {
+        {{0, 4}, {16, 8}, {272, 16}, {65808, 32}}, {{0, 2}, {4, 3}, {12, 5}, {44, 8}}};
+    struct netbuff_bit_place place = {0, 0};
+    uint32_t first, value, lengths[4] = {0, 0, 0, 0};
+    struct netbuff_refusal no = netbuff_take_bits(bytes, &place, 1, &first);
+    for (int list = 0; list < 4 && no.number == 0 && first == 0; list++) {
+        no = netbuff_take_bits(bytes, &place, 4, &lengths[list]);
+        for (uint32_t k = 0; k < lengths[list] && no.number == 0; k++)
+            no = netbuff_take_u32(bytes, &place, choices[list == 3], &value);
+    }
+    no.x += no.number == 0 ? 0 : 8 * place.byte + place.bit;
+    if (no.number != 0)
+        return no;
+    *map_length =
+        first == 1 ? 0 : netbuff_context_map_length(lengths[0], lengths[1], lengths[2], lengths[3]);
+    *bits_read = 8 * place.byte + place.bit;
+    return no;
+}
+
 static inline struct netbuff_refusal netbuff_read_contexts(const struct netbuff_bytes *bytes,
                                                            const struct netbuff_context_map *map,
                                                            struct netbuff_contexts *contexts,

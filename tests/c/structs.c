@@ -63,7 +63,7 @@ static const char *const names[CALLS] = {"transform", "bits",        "u32",     
                                          "layout",    "cut",         "likeness", "contexts",
                                          "orders",    "coefficients"};
 static unsigned answers[CALLS][NETBUFF_REFUSALS_END];
-static unsigned nulls;
+static unsigned nulls, threshold_records;
 
 static void hold(enum call call, bool same, const char *what)
 {
@@ -294,19 +294,40 @@ static void try_alike(void)
     hold(ALIKE, a == b, "results");
 }
 
+/* Bits of the four lists of a context record, with some thresholds; the length of its map. */
+static size_t write_thresholds(uint8_t *data, size_t bytes)
+{
+    static const uint32_t widths[2][4] = {{4, 8, 16, 32}, {2, 3, 5, 8}};
+    size_t at = 1, map_length = 39;
+    for (size_t k = 0; k < bytes; k++)
+        data[k] = (uint8_t)below(256);
+    data[0] &= 0xfe;
+    for (int list = 0; list < 4; list++) {
+        uint32_t length = below(3) * once_in(2);
+        map_length *= length + 1;
+        for (uint32_t bit = 0; bit < 4; bit++, at++)
+            data[at / 8] =
+                (uint8_t)((data[at / 8] & ~(1U << at % 8)) | (length >> bit & 1) << at % 8);
+        for (; length > 0; length--) {
+            uint32_t selector =
+                (data[at / 8] >> at % 8 & 1U) | (data[(at + 1) / 8] >> (at + 1) % 8 & 1U) << 1;
+            at += 2 + widths[list == 3][selector];
+        }
+    }
+    return map_length;
+}
+
 static void try_contexts(void)
 {
-    uint8_t data[8], entries[LIST_MOST];
-    for (size_t k = 0; k < sizeof data; k++)
-        data[k] = (uint8_t)below(once_in(2) ? 256 : 2);
-    if (once_in(2))
-        data[0] = (uint8_t)(once_in(2) ? 1 : 32 * below(8));
+    uint8_t data[48], entries[LIST_MOST];
+    size_t wanted = write_thresholds(data, sizeof data);
+    data[0] |= once_in(5);
     for (size_t k = 0; k < LIST_MOST; k++)
         entries[k] = (uint8_t)below(once_in(900) ? 16 : 4);
-    struct netbuff_bytes bytes = {MAYBE(data), below(9)};
-    struct netbuff_context_map map = {below(18), MAYBE(entries), 39 * below(4) + once_in(9)};
-    if (once_in(3))
-        map.length = 39;
+    struct netbuff_bytes bytes = {MAYBE(data), once_in(3) ? below(sizeof data) : sizeof data};
+    struct netbuff_context_map map = {below(18), MAYBE(entries), length_near(wanted)};
+    if (map.length > LIST_MOST)
+        map.length = LIST_MOST;
     fill_lent();
     struct netbuff_contexts *c = &base.contexts;
     struct netbuff_refusal no = {0, 0, 0};
@@ -316,6 +337,16 @@ static void try_contexts(void)
         c->lf_thresholds, c->qf_thresholds, c->block_ctx_map, &base.first, &no.x, &no.y);
     hold_answer(CONTEXTS, netbuff_read_contexts(&bytes, &map, &layer.contexts, &layer.first), no);
     hold_lent(CONTEXTS);
+    size_t map_length = 0, bits_read = 0;
+    struct netbuff_refusal scanned = netbuff_scan_contexts(&bytes, &map_length, &bits_read);
+    hold(CONTEXTS, (no.number == 3) == (scanned.number == 3), "ends of bits");
+    hold(CONTEXTS, scanned.x == (no.number == 3 ? no.x : 0) && scanned.y == 0, "positions of 3");
+    if (no.number == 0)
+        hold(CONTEXTS, bits_read == layer.first && map_length <= LIST_MOST, "scanned bits");
+    if (no.number == 0 && bits_read > 1)
+        hold(CONTEXTS, map_length == map.length && ++threshold_records, "scanned lengths");
+    if (no.number == 1)
+        hold(CONTEXTS, map_length != (map.data ? map.length : 0), "scanned lengths of 1");
 }
 
 /* Two whole stores, so that they can be written and compared. */
@@ -376,7 +407,9 @@ static void try_coefficients(void)
     int32_t hf_mul[BLOCKS_MOST + 1], lf[3][BLOCKS_MOST + 1];
     uint32_t numbers[LIST_MOST];
     for (size_t k = 0; k < LIST_MOST; k++)
-        numbers[k] = once_in(3) ? below(once_in(200) ? 70 : 9) : 0;
+        numbers[k] = once_in(3) ? below(9) : 0;
+    if (once_in(10))
+        numbers[0] = below(200); /* a count that is too large, by times */
     for (size_t at = 0; at + 8 <= sizeof cluster_map; at += 8)
         memcpy(cluster_map + at, &(uint64_t){next()}, 8);
     memset(lf, 3, sizeof lf);
@@ -508,6 +541,7 @@ int main(void)
             try_orders();
     }
     hold_counts();
+    hold(CONTEXTS, threshold_records > 100, "too few accepted records with thresholds: they");
     unsigned accepted = 0, all = 0;
     for (int call = 0; call < CALLS; call++)
         for (uint32_t number = 0; number < NETBUFF_REFUSALS_END; number++) {
