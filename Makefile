@@ -30,6 +30,7 @@ VERSION := $(MAJOR).$(MINOR).$(call number,PATCH)
 SOVERSION := $(if $(filter 0,$(MAJOR)),$(MAJOR).$(MINOR),$(MAJOR))
 
 ARCHIVE := target/staticlib/libnetbuff.a
+VERSIONED := target/staticlib/versioned
 SHARED := target/lib/libnetbuff.so.$(VERSION)
 SOURCES := $(wildcard crates/*/src/*.rt crates/*/specs/*.antt crates/*/specs/*/*.antt) crates.txt
 
@@ -43,13 +44,20 @@ INSTALLED_PROGRAMS := $(PROGRAMS:%=$(BINDIR)/%) $(PROGRAMS:%=$(MANDIR)/man1/%.1)
 
 .PHONY: all library programs check install install-library install-programs uninstall version
 all: library programs
-library: $(ARCHIVE) $(SHARED)
+library: $(VERSIONED) $(SHARED)
 programs: $(PROGRAMS:%=target/bin/%)
 
-$(ARCHIVE): $(SOURCES) c/version.c include/netbuff.h .ci/archive
+$(ARCHIVE): $(SOURCES)
 	bash .ci/archive
 
-$(SHARED): $(ARCHIVE) c/netbuff.map
+# The one object that is not proved is made anew without the others.
+$(VERSIONED): $(ARCHIVE) c/version.c include/netbuff.h
+	$(CC) -std=c99 -O2 -fPIC -Wall -Wextra -Wpedantic -Werror -Iinclude -c c/version.c \
+		-o target/staticlib/netbuff_version.o
+	$(AR) r $(ARCHIVE) target/staticlib/netbuff_version.o
+	touch $@
+
+$(SHARED): $(VERSIONED) c/netbuff.map
 	@mkdir -p $(@D)
 	$(CC) -shared -o $@ -Wl,-soname,libnetbuff.so.$(SOVERSION) -Wl,--version-script=c/netbuff.map \
 		-Wl,-z,defs -Wl,-z,relro -Wl,-z,now $(LDFLAGS) \

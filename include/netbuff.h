@@ -29,7 +29,8 @@
  *
  * WHAT THE CALLER SEES TO. Every pointer is valid, not null and aligned for its type, that of a
  * list for all its elements. What a call writes overlaps nothing else that is lent to it. What it
- * only reads may overlap. A bool is 0 or 1.
+ * only reads may overlap. A bool is 0 or 1. Filter strengths are computed in the floating-point
+ * environment that a C program starts with: rounding to nearest, nothing flushed to zero.
  *
  * BLOCKS AND CELLS. A block is 8 x 8 cells (pixels). Lists with one place for each block are row by
  * row: block (x, y) of a grid bw blocks wide stands at y * bw + x. A coefficient grid of bw x bh
