@@ -380,9 +380,12 @@ static void try_orders(void)
          "fits");
 }
 
-/* The natural store, one with a place that is none, and default contexts, for coefficients. */
+/*
+ * The natural store, one with a place that is none, default contexts, and contexts with a threshold
+ * in each list, for coefficients.
+ */
 static uint16_t natural[NETBUFF_STORE_LENGTH], spoilt[NETBUFF_STORE_LENGTH];
-static struct netbuff_contexts usual;
+static struct netbuff_contexts usual, rich;
 
 static void prepare(void)
 {
@@ -397,6 +400,13 @@ static void prepare(void)
     hold(ORDERS, netbuff_read_orders(&bytes, &none, &store, &read).number == 0, "natural orders");
     memcpy(spoilt, natural, sizeof natural);
     spoilt[3] = 8;
+    rich.num_block_clusters = 15;
+    for (size_t list = 0; list < 4; list++)
+        rich.lengths[list] = 1;
+    rich.lf_thresholds[0] = rich.lf_thresholds[15] = rich.lf_thresholds[30] = 5;
+    rich.qf_thresholds[0] = 9;
+    for (size_t k = 0; k < 39 * 16; k++)
+        rich.block_ctx_map[k] = (uint8_t)below(15);
 }
 
 static void try_coefficients(void)
@@ -412,13 +422,15 @@ static void try_coefficients(void)
         numbers[0] = below(200); /* a count that is too large, by times */
     for (size_t at = 0; at + 8 <= sizeof cluster_map; at += 8)
         memcpy(cluster_map + at, &(uint64_t){next()}, 8);
-    memset(lf, 3, sizeof lf);
+    for (size_t k = 0; k <= BLOCKS_MOST; k++)
+        for (size_t channel = 0; channel < 3; channel++)
+            lf[channel][k] = (int32_t)below(11);
     const uint8_t data[1] = {(uint8_t)below(4)};
     struct netbuff_coefficients_input in;
     memset(&in, 0, sizeof in);
     in.group = any_blocks(kinds, hf_mul);
     size_t blocks = in.group.bw * in.group.bh > BLOCKS_MOST ? 1 : in.group.bw * in.group.bh;
-    in.contexts = once_in(20) ? (once_in(2) ? NULL : &unfit) : &usual;
+    in.contexts = once_in(20) ? (once_in(2) ? NULL : &unfit) : once_in(2) ? &usual : &rich;
     bool there = once_in(2);
     for (size_t c = 0; c < 3 && there; c++) {
         in.lf[c].data = MAYBE(lf[c]);
@@ -465,6 +477,45 @@ static void try_coefficients(void)
     hold_answer(COEFFICIENTS, netbuff_read_coefficients(&in, &out), no);
     hold(COEFFICIENTS, out.symbols_read == read, "symbols read");
     hold_lent(COEFFICIENTS);
+}
+
+/* The names of transforms say their size, and the header the sizes of the orders. */
+static void try_names(void)
+{
+    static const struct {
+        uint32_t number;
+        size_t high, wide;
+    } sizes[NETBUFF_TRANSFORMS] = {
+        {NETBUFF_DCT8, 8, 8},       {NETBUFF_HORNUSS, 8, 8},        {NETBUFF_DCT2, 8, 8},
+        {NETBUFF_DCT4, 8, 8},       {NETBUFF_DCT16, 16, 16},        {NETBUFF_DCT32, 32, 32},
+        {NETBUFF_DCT16X8, 16, 8},   {NETBUFF_DCT8X16, 8, 16},       {NETBUFF_DCT32X8, 32, 8},
+        {NETBUFF_DCT8X32, 8, 32},   {NETBUFF_DCT32X16, 32, 16},     {NETBUFF_DCT16X32, 16, 32},
+        {NETBUFF_DCT4X8, 8, 8},     {NETBUFF_DCT8X4, 8, 8},         {NETBUFF_AFV0, 8, 8},
+        {NETBUFF_AFV1, 8, 8},       {NETBUFF_AFV2, 8, 8},           {NETBUFF_AFV3, 8, 8},
+        {NETBUFF_DCT64, 64, 64},    {NETBUFF_DCT64X32, 64, 32},     {NETBUFF_DCT32X64, 32, 64},
+        {NETBUFF_DCT128, 128, 128}, {NETBUFF_DCT128X64, 128, 64},   {NETBUFF_DCT64X128, 64, 128},
+        {NETBUFF_DCT256, 256, 256}, {NETBUFF_DCT256X128, 256, 128}, {NETBUFF_DCT128X256, 128, 256}};
+    static const size_t orders[NETBUFF_ORDERS][2] = {
+        {8, 8},   {8, 8},   {16, 16},   {32, 32},  {16, 8},    {32, 8},   {32, 16},
+        {64, 64}, {64, 32}, {128, 128}, {128, 64}, {256, 256}, {256, 128}};
+    struct netbuff_order_store store = {natural, NETBUFF_STORE_LENGTH};
+    for (uint32_t k = 0; k < NETBUFF_TRANSFORMS; k++) {
+        struct netbuff_transform_info info;
+        hold(FIND, sizes[k].number == k && netbuff_find_transform(k, &info).number == 0, "numbers");
+        hold(FIND, 8 * info.wide == sizes[k].wide && 8 * info.high == sizes[k].high, "sizes");
+    }
+    for (size_t order = 0; order < NETBUFF_ORDERS; order++) {
+        struct netbuff_order_list list = netbuff_find_order(&store, order, NETBUFF_CHANNEL_B);
+        size_t wide = 0, high = 0;
+        for (size_t k = 0; k < list.places; k++) {
+            wide = list.data[2 * k] >= wide ? list.data[2 * k] + 1U : wide;
+            high = list.data[2 * k + 1] >= high ? list.data[2 * k + 1] + 1U : high;
+        }
+        hold(ORDERS, list.places == orders[order][0] * orders[order][1], "places");
+        hold(ORDERS, wide == orders[order][0] && high == orders[order][1], "sizes of orders");
+    }
+    for (uint32_t number = 1; number < NETBUFF_REFUSALS_END; number++)
+        hold(FIND, strcmp(netbuff_refusal_text(number), netbuff_refusal_text(99)) != 0, "texts");
 }
 
 /* Structs of zeros alone are refused, and nothing is looked at. */
@@ -528,6 +579,7 @@ int main(void)
 {
     prepare();
     try_zeros();
+    try_names();
     for (unsigned round = 0; round < ROUNDS; round++) {
         try_transform();
         try_bits();
