@@ -1,6 +1,7 @@
 //! Holds the declarations of the calls against each other: the C header, the Rust wrapper's
 //! `extern "C"` blocks, and the exported functions of the Rattle crates. Name, order and type of
-//! every parameter and the type of the answer have to be the same in all three.
+//! every parameter and the type of the answer have to be the same in all three. So do the numbers of
+//! the refusals, in the header's table and in the crate that numbers them.
 //!
 //!     declarations ROOT
 //!
@@ -8,7 +9,7 @@
 //! whichever Rust file below ROOT/bindings declares `extern "C"`. Ends with 1 and one line for each
 //! difference. `rustc --test` makes the tests of this program itself.
 
-use std::collections::BTreeMap;
+use std::collections::{BTreeMap, BTreeSet};
 use std::path::{Path, PathBuf};
 use std::{env, fmt, fs, process};
 
@@ -187,7 +188,9 @@ fn of_header(text: &str) -> Result<Calls, String> {
     while let Some(at) = rest.find("netbuff_") {
         let head = rest[..at].rsplit(['\n', ';', '}']).next().unwrap().trim();
         let tail = &rest[at..];
-        let end = tail.find(|c: char| !c.is_alphanumeric() && c != '_').unwrap_or(tail.len());
+        let end = tail
+            .find(|c: char| !c.is_alphanumeric() && c != '_')
+            .unwrap_or(tail.len());
         let (name, tail) = tail.split_at(end);
         rest = tail;
         let words: Vec<&str> = head.split_whitespace().collect();
@@ -201,8 +204,15 @@ fn of_header(text: &str) -> Result<Calls, String> {
         let flat = inside.split_whitespace().collect::<Vec<_>>().join(" ");
         let given = if flat == "void" { vec![] } else { parts(&flat) };
         let read: Result<_, _> = given.iter().map(|part| c_parameter(part)).collect();
-        let answer = if words[0] == "void" { None } else { Some(c_type(words[0])?) };
-        let call = Call { parameters: read.map_err(|e| format!("{name}: {e}"))?, answer };
+        let answer = if words[0] == "void" {
+            None
+        } else {
+            Some(c_type(words[0])?)
+        };
+        let call = Call {
+            parameters: read.map_err(|e| format!("{name}: {e}"))?,
+            answer,
+        };
         if calls.insert(name.to_string(), call).is_some() {
             return Err(format!("{name} is declared twice"));
         }
@@ -214,7 +224,10 @@ fn of_header(text: &str) -> Result<Calls, String> {
 
 /// A type behind `&` or `*const` and the like; lists of Rattle are told apart by the caller.
 fn pointed(constant: bool, of: &str) -> Result<Type, String> {
-    if let Some(inner) = of.strip_prefix('[').and_then(|inner| inner.strip_suffix(']')) {
+    if let Some(inner) = of
+        .strip_prefix('[')
+        .and_then(|inner| inner.strip_suffix(']'))
+    {
         let (of, count) = array(inner)?;
         return Ok(Type::Pointer(constant, of, Some(count)));
     }
@@ -255,18 +268,24 @@ fn signatures(text: &str) -> Result<Vec<Signature>, String> {
     let mut rest = text;
     while let Some(at) = rest.find("fn netbuff_") {
         let tail = &rest[at + 3..];
-        let end = tail.find(|c: char| !c.is_alphanumeric() && c != '_').unwrap_or(tail.len());
+        let end = tail
+            .find(|c: char| !c.is_alphanumeric() && c != '_')
+            .unwrap_or(tail.len());
         let name = tail[..end].to_string();
         let (inside, behind) = bracketed(tail, '(', ')').ok_or(format!("{name}: no list"))?;
         let mut parameters = Vec::new();
         for part in parts(inside) {
-            let (name, of) = part.split_once(':').ok_or(format!("no parameter: {part}"))?;
+            let (name, of) = part
+                .split_once(':')
+                .ok_or(format!("no parameter: {part}"))?;
             let of = of.split_whitespace().collect::<Vec<_>>().join(" ");
             parameters.push((name.trim().to_string(), of));
         }
         let answer = behind.trim_start().strip_prefix("->").map(|said| {
             let word = said.trim_start();
-            let end = word.find(|c: char| !c.is_alphanumeric()).unwrap_or(word.len());
+            let end = word
+                .find(|c: char| !c.is_alphanumeric())
+                .unwrap_or(word.len());
             word[..end].to_string()
         });
         all.push((name, parameters, answer));
@@ -287,7 +306,10 @@ fn of_rust(text: &str, calls: &mut Calls) -> Result<(), String> {
                 let of = rust_type(&of).map_err(|e| format!("{name}: {e}"))?;
                 parameters.push((called, of));
             }
-            if calls.insert(name.clone(), Call { parameters, answer }).is_some() {
+            if calls
+                .insert(name.clone(), Call { parameters, answer })
+                .is_some()
+            {
                 return Err(format!("{name} is declared twice"));
             }
         }
@@ -314,7 +336,9 @@ fn rattle_parameter(name: &str, of: &str) -> Result<Vec<(String, Type)>, String>
     let lent = unlived(lent);
     let constant = !lent.starts_with("mut ");
     let lent = lent.strip_prefix("mut ").unwrap_or(lent).trim();
-    let slice = lent.strip_prefix('[').and_then(|inner| inner.strip_suffix(']'));
+    let slice = lent
+        .strip_prefix('[')
+        .and_then(|inner| inner.strip_suffix(']'));
     if let Some(of) = slice.filter(|inner| !inner.contains(';')) {
         let list = Type::Pointer(constant, read_as(&name, of.trim()), None);
         let length = (format!("{name}_length"), Type::Value("usize".to_string()));
@@ -342,7 +366,10 @@ fn of_rattle(text: &str, calls: &mut Calls) -> Result<(), String> {
             parameters.extend(rattle_parameter(&called, &of).map_err(|e| format!("{name}: {e}"))?);
         }
         let answer = answer.map(|of| read_as(&name, &of));
-        if calls.insert(name.clone(), Call { parameters, answer }).is_some() {
+        if calls
+            .insert(name.clone(), Call { parameters, answer })
+            .is_some()
+        {
             return Err(format!("{name} is exported twice"));
         }
     }
@@ -352,10 +379,19 @@ fn of_rattle(text: &str, calls: &mut Calls) -> Result<(), String> {
 // ---- The comparison
 
 /// One line for each difference between two languages.
-fn differences(ours: &Calls, mine: &str, theirs: &Calls, other: &str, free: &[&str]) -> Vec<String> {
+fn differences(
+    ours: &Calls,
+    mine: &str,
+    theirs: &Calls,
+    other: &str,
+    free: &[&str],
+) -> Vec<String> {
     let mut said = Vec::new();
-    let names: std::collections::BTreeSet<&String> = ours.keys().chain(theirs.keys()).collect();
-    for name in names.into_iter().filter(|name| !free.contains(&name.as_str())) {
+    let names: BTreeSet<&String> = ours.keys().chain(theirs.keys()).collect();
+    for name in names
+        .into_iter()
+        .filter(|name| !free.contains(&name.as_str()))
+    {
         match (ours.get(name), theirs.get(name)) {
             (Some(a), Some(b)) if a == b => {}
             (Some(a), Some(b)) => said.push(difference(name, a, mine, b, other)),
@@ -383,8 +419,31 @@ fn difference(name: &str, a: &Call, mine: &str, b: &Call, other: &str) -> String
     format!("{name}: {mine} has {a}, {other} has {b}")
 }
 
+/// The numbers behind each `open`, in front of the next comma: refusals as header and Rattle have them.
+fn numbers(text: &str, open: &str, skipped: usize) -> BTreeSet<u32> {
+    let pieces = text.split(open).skip(1);
+    let fields = pieces.filter_map(|piece| piece.split([',', ')']).nth(skipped));
+    fields
+        .filter_map(|field| field.trim().parse().ok())
+        .collect()
+}
+
+fn refusals(header: &str, rattle: &str) -> Vec<String> {
+    let ours = numbers(header, "refusal(", 1);
+    let theirs = numbers(rattle, " at(", 0);
+    if ours.is_empty() || theirs.is_empty() {
+        return vec!["no refusals found in the header, or none in Rattle".to_string()];
+    }
+    let apart = ours.symmetric_difference(&theirs);
+    apart
+        .map(|number| format!("refusal {number} is not in both, header and Rattle"))
+        .collect()
+}
+
 fn files(folder: &Path, ending: &str, found: &mut Vec<PathBuf>) {
-    let Ok(entries) = fs::read_dir(folder) else { return };
+    let Ok(entries) = fs::read_dir(folder) else {
+        return;
+    };
     for path in entries.flatten().map(|entry| entry.path()) {
         if path.is_dir() && path.file_name().is_some_and(|name| name != "target") {
             files(&path, ending, found);
@@ -399,14 +458,23 @@ fn text_of(path: &Path) -> Result<String, String> {
 }
 
 fn check(root: &Path) -> Result<Vec<String>, String> {
-    let header = of_header(&text_of(&root.join("include/netbuff.h"))?)?;
+    let header_text = uncommented(&text_of(&root.join("include/netbuff.h"))?);
+    let header = of_header(&header_text)?;
+    let mut numbered = String::new();
     let (mut rattle, mut rust) = (Calls::new(), Calls::new());
     let (mut crates, mut bindings) = (Vec::new(), Vec::new());
     files(&root.join("crates"), "rt", &mut crates);
     files(&root.join("bindings"), "rs", &mut bindings);
     let named = |path: &Path, e: String| format!("{}: {e}", path.display());
-    for path in crates.iter().filter(|path| path.iter().any(|part| part == "src")) {
-        of_rattle(&text_of(path)?, &mut rattle).map_err(|e| named(path, e))?;
+    for path in crates
+        .iter()
+        .filter(|path| path.iter().any(|part| part == "src"))
+    {
+        let text = text_of(path)?;
+        of_rattle(&text, &mut rattle).map_err(|e| named(path, e))?;
+        if text.contains("pub enum Refusal ") {
+            numbered += &uncommented(&text);
+        }
     }
     for path in &bindings {
         of_rust(&text_of(path)?, &mut rust).map_err(|e| named(path, e))?;
@@ -416,10 +484,11 @@ fn check(root: &Path) -> Result<Vec<String>, String> {
     }
     let mut said = differences(&header, "the header", &rattle, "Rattle", &IN_C);
     said.extend(differences(&header, "the header", &rust, "Rust", &IN_C));
+    said.extend(refusals(&header_text, &numbered));
     if said.is_empty() {
         let parameters: usize = header.values().map(|call| call.parameters.len()).sum();
         println!(
-            "declarations: {} calls with {parameters} parameters, the same in header, Rust and Rattle",
+            "declarations: {} calls with {parameters} parameters, the same in header, Rust and Rattle; so are the refusals",
             header.len()
         );
     }
@@ -435,7 +504,8 @@ fn main() {
     match check(Path::new(root)) {
         Ok(said) if said.is_empty() => {}
         Ok(said) => {
-            said.iter().for_each(|line| eprintln!("declarations: {line}"));
+            said.iter()
+                .for_each(|line| eprintln!("declarations: {line}"));
             process::exit(1);
         }
         Err(why) => {
@@ -449,7 +519,8 @@ fn main() {
 mod tests {
     use super::*;
 
-    const HEADER: &str = "uint32_t netbuff_a(size_t bw, const int32_t *hf_mul, size_t hf_mul_length, \
+    const HEADER: &str =
+        "uint32_t netbuff_a(size_t bw, const int32_t *hf_mul, size_t hf_mul_length, \
         const uint32_t lengths[4], uint8_t *log, size_t log_length, bool *yes);\n\
         static inline int netbuff_b(int x) { return netbuff_c(x); }\nint32_t netbuff_c(float m);\n";
     const RUST: &str = "extern \"C\" { pub fn netbuff_a(bw: usize, hf_mul: *const i32, \
@@ -465,7 +536,8 @@ mod tests {
         of_rust(rust, &mut r).unwrap();
         of_rattle(rattle, &mut t).unwrap();
         assert_eq!(header.len(), 2);
-        differences(&header, "h", &t, "t", &[]).len() + differences(&header, "h", &r, "r", &[]).len()
+        differences(&header, "h", &t, "t", &[]).len()
+            + differences(&header, "h", &r, "r", &[]).len()
     }
 
     fn changed(text: &str, from: &str, to: &str) -> String {
@@ -479,6 +551,16 @@ mod tests {
     }
 
     #[test]
+    fn numbers_of_refusals() {
+        let header = "refusal(LENGTH, 1, \"a\", \"0\") refusal(SIZE, 2, \"b\", \"0\")";
+        let rattle = "Refusal::Length => at(1, 0, 0), Refusal::Size => at(2, 0, 0)";
+        assert!(refusals(header, rattle).is_empty());
+        assert_eq!(refusals(header, &changed(rattle, "at(2", "at(3")).len(), 2);
+        assert_eq!(refusals(&changed(header, ", 2,", ", 1,"), rattle).len(), 1);
+        assert_eq!(refusals("", rattle).len(), 1);
+    }
+
+    #[test]
     fn header_changed() {
         for (from, to) in [
             ("const int32_t *hf_mul", "const uint32_t *hf_mul"),
@@ -486,7 +568,10 @@ mod tests {
             ("const int32_t *hf_mul", "const int32_t *mul"),
             ("lengths[4]", "lengths[5]"),
             ("bool *yes", "bool yes"),
-            ("uint8_t *log, size_t log_length", "size_t log_length, uint8_t *log"),
+            (
+                "uint8_t *log, size_t log_length",
+                "size_t log_length, uint8_t *log",
+            ),
             ("size_t bw", "uint32_t bw"),
             ("uint32_t netbuff_a", "int32_t netbuff_a"),
             ("float m", "uint32_t m"),
@@ -515,7 +600,10 @@ mod tests {
             ("hf_mul: &'a [u32]", "hf_mul: &'a mut [u32]"),
             ("hf_mul: &'a [u32]", "hf_mul: &'a [u16]"),
             ("&[u32; 4]", "&[u32]"),
-            ("bw: usize, hf_mul: &'a [u32]", "hf_mul: &'a [u32], bw: usize"),
+            (
+                "bw: usize, hf_mul: &'a [u32]",
+                "hf_mul: &'a [u32], bw: usize",
+            ),
             ("netbuff_c", "netbuff_d"),
         ] {
             assert!(said(HEADER, RUST, &changed(RATTLE, from, to)) > 0, "{from}");
