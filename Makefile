@@ -18,7 +18,8 @@ DOCDIR ?= $(PREFIX)/share/doc/netbuff
 DESTDIR ?=
 INSTALL ?= install
 
-PROGRAMS ?= layout_lister
+# Programs as rt makes them, and commands made of them in C; each has a page man/NAME.1.
+PROGRAMS := target/bin/layout_lister $(patsubst %.c,target/%,$(wildcard tools/*.c))
 HEADERS := include/netbuff.h include/netbuff_structs.h
 LICENCES := LICENSE LICENSE-MIT LICENSE-APACHE NOTICE
 
@@ -40,12 +41,13 @@ INSTALLED_LIBRARY := $(HEADERS:include/%=$(INCLUDEDIR)/%) $(LIBDIR)/libnetbuff.a
 	$(LIBDIR)/libnetbuff.so.$(VERSION) $(LIBDIR)/pkgconfig/netbuff.pc \
 	$(LIBDIR)/cmake/netbuff/netbuffConfig.cmake $(LIBDIR)/cmake/netbuff/netbuffConfigVersion.cmake \
 	$(MANDIR)/man3/netbuff.3 $(DOCDIR)/example.c $(LICENCES:%=$(DOCDIR)/%)
-INSTALLED_PROGRAMS := $(PROGRAMS:%=$(BINDIR)/%) $(PROGRAMS:%=$(MANDIR)/man1/%.1)
+INSTALLED_PROGRAMS := $(addprefix $(BINDIR)/,$(notdir $(PROGRAMS))) \
+	$(patsubst %,$(MANDIR)/man1/%.1,$(notdir $(PROGRAMS)))
 
 .PHONY: all library programs check install install-library install-programs uninstall version
 all: library programs
 library: $(VERSIONED) $(SHARED)
-programs: $(PROGRAMS:%=target/bin/%)
+programs: $(PROGRAMS)
 
 $(ARCHIVE): $(SOURCES)
 	bash .ci/archive
@@ -68,6 +70,12 @@ $(SHARED): $(VERSIONED) c/netbuff.map
 target/bin/%: $(SOURCES)
 	rt check $*
 	touch $@
+
+# The proved program's object, with the command's own start, reads and writes around it.
+target/tools/layout-lister: tools/layout-lister.c target/bin/layout_lister include/netbuff.h
+	@mkdir -p $(@D)
+	$(CC) -std=c11 -D_GNU_SOURCE -O2 -Wall -Wextra -Werror -DNETBUFF_VERSION='"$(VERSION)"' -o $@ $< \
+		target/obj/layout_lister.o -Wl,--wrap=main,--wrap=read,--wrap=write
 
 check: all
 	bash .ci/declarations
@@ -97,8 +105,8 @@ install-library: library
 
 install-programs: programs
 	$(INSTALL) -d $(sort $(dir $(INSTALLED_PROGRAMS:%=$(DESTDIR)%)))
-	$(INSTALL) -m 755 $(PROGRAMS:%=target/bin/%) $(DESTDIR)$(BINDIR)
-	$(INSTALL) -m 644 $(PROGRAMS:%=man/%.1) $(DESTDIR)$(MANDIR)/man1
+	$(INSTALL) -m 755 $(PROGRAMS) $(DESTDIR)$(BINDIR)
+	$(INSTALL) -m 644 $(patsubst %,man/%.1,$(notdir $(PROGRAMS))) $(DESTDIR)$(MANDIR)/man1
 
 uninstall:
 	rm -f $(INSTALLED_LIBRARY:%=$(DESTDIR)%) $(INSTALLED_PROGRAMS:%=$(DESTDIR)%)
