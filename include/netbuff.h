@@ -417,8 +417,8 @@ uint32_t netbuff_block_context(const uint8_t *bytes, size_t bytes_length, uint32
  * The orders of a pass. The bytes hold one U32 with the choices 95, 19, 0 and 13 bits: bit k is set
  * where order k is permuted. (A byte of 2 says: none.) The symbols hold, for each permuted order, a
  * permutation for channels 0, 1, 2: a length, then that many digits of the Lehmer code over the
- * places behind the low-frequency ones. Orders that are not permuted are natural and use no symbols.
- * Surplus symbols are accepted. *symbols_read receives the symbols read.
+ * places behind the low-frequency ones. Orders that are not permuted are natural and use no
+ * symbols. Surplus symbols are accepted. *symbols_read receives the symbols read.
  *
  * Sizes of the orders 0 to 12, in cells: 8x8, 8x8, 16x16, 32x32, 16x8, 32x8, 32x16, 64x64, 64x32,
  * 128x128, 128x64, 256x256, 256x128 (width x height). A place is two numbers of the store, x and y.
@@ -455,9 +455,9 @@ bool netbuff_places_fit(const uint16_t *store, size_t store_length);
  * preset.
  *
  * The symbols: corners row by row, and for each corner channel 1, then 0, then 2. A channel has a
- * count of its coefficients that are not 0; then, if that is not 0, one symbol for each place of its
- * order behind the low-frequency places, until as many as the count says were not 0, or places end.
- * Coefficients are packed signed (netbuff_unpack_signed), counts are not. A coefficient is shifted
+ * count of its coefficients that are not 0; then, if that is not 0, one symbol for each place of
+ * its order behind the low-frequency places, until as many as the count says were not 0, or places
+ * end. Coefficients are packed signed (netbuff_unpack_signed), counts are not. A coefficient is shifted
  * left (shift is 0 to 3) and added to the grid of its channel, modulo 2^32: at place (px, py), or
  * (py, px) where the transform turns, it is cell (8 * x + px, 8 * y + py), for the corner (x, y).
  * Low-frequency cells are never touched. Surplus symbols and a count that is not used up are
