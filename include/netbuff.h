@@ -457,12 +457,12 @@ bool netbuff_places_fit(const uint16_t *store, size_t store_length);
  * The symbols: corners row by row, and for each corner channel 1, then 0, then 2. A channel has a
  * count of its coefficients that are not 0; then, if that is not 0, one symbol for each place of
  * its order behind the low-frequency places, until as many as the count says were not 0, or places
- * end. Coefficients are packed signed (netbuff_unpack_signed), counts are not. A coefficient is shifted
- * left (shift is 0 to 3) and added to the grid of its channel, modulo 2^32: at place (px, py), or
- * (py, px) where the transform turns, it is cell (8 * x + px, 8 * y + py), for the corner (x, y).
- * Low-frequency cells are never touched. Surplus symbols and a count that is not used up are
- * accepted. *symbols_read receives the symbols read; log[i] receives the cluster that the map names
- * for symbol i.
+ * end. Coefficients are packed signed (netbuff_unpack_signed), counts are not. A coefficient is
+ * shifted left (shift is 0 to 3) and added to the grid of its channel, modulo 2^32: at place (px,
+ * py), or (py, px) where the transform turns, it is cell (8 * x + px, 8 * y + py), for the corner
+ * (x, y). Low-frequency cells are never touched. Surplus symbols and a count that is not used up
+ * are accepted. *symbols_read receives the symbols read; log[i] receives the cluster that the map
+ * names for symbol i.
  *
  * Lengths that fit: wide * high for kinds, hf_mul and each LF grid that is there;
  * NETBUFF_STORE_LENGTH for the store; 495 * num_block_clusters * presets (0 to 256) for the cluster
