@@ -3,6 +3,7 @@
  * (--wrap); HOSTILE_PLANT is the number of the fault, 0 for none. .ci/hostile tries each.
  */
 #include "netbuff.h"
+#include "promise.h"
 
 #include <stdlib.h>
 #include <string.h>
