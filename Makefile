@@ -6,6 +6,7 @@
 #   make install        PREFIX=/usr/local, DESTDIR= and the like as usual
 #   make uninstall      removes what install wrote
 #   make install-library, make install-programs
+#   make clean          removes what was built, and keeps the proofs
 #
 # The version stands in include/netbuff.h alone.
 
@@ -44,7 +45,9 @@ INSTALLED_LIBRARY := $(HEADERS:include/%=$(INCLUDEDIR)/%) $(LIBDIR)/libnetbuff.a
 INSTALLED_PROGRAMS := $(addprefix $(BINDIR)/,$(notdir $(PROGRAMS))) \
 	$(patsubst %,$(MANDIR)/man1/%.1,$(notdir $(PROGRAMS)))
 
-.PHONY: all library programs check install install-library install-programs uninstall version
+.PHONY: all library programs check install install-library install-programs uninstall clean version
+# Two runs of rt at a time would share files in target/.
+.NOTPARALLEL:
 all: library programs
 library: $(VERSIONED) $(SHARED)
 programs: $(PROGRAMS)
@@ -110,7 +113,11 @@ install-programs: programs
 
 uninstall:
 	rm -f $(INSTALLED_LIBRARY:%=$(DESTDIR)%) $(INSTALLED_PROGRAMS:%=$(DESTDIR)%)
-	-rmdir $(DESTDIR)$(LIBDIR)/cmake/netbuff $(DESTDIR)$(DOCDIR)
+	rmdir $(DESTDIR)$(LIBDIR)/cmake/netbuff $(DESTDIR)$(DOCDIR) 2> /dev/null || true
+
+# What is proved stays proved.
+clean:
+	rm -rf target/c target/declarations target/lib target/library target/staticlib target/tools
 
 version:
 	@echo $(VERSION)
