@@ -8,12 +8,11 @@ use borrow.Author.Tests.{ltb-true, leb-true, eqb-true, lt-ltb, le-leb, eq-eqb}
 use lib.Dec.{ltb, leb, eqb}
 use lib.ListN.{length, getD, drop}
 use lib.Pow.{pow-pos}
-use Rattle.laws.specs.Cases.{and-true}
+use Rattle.laws.specs.laws.Cases.{and-true}
 use Rattle.refusal.specs.declared.Refusal.the-variants.{Length}
 use Rattle.block_sizes.specs.BlockSizes.{widthOf, heightOf}
 use Rattle.hf_pass_store.specs.declared.Stretch.{Stretch}
-use Rattle.hf_pass_store.specs.Store.{PLACES}
-use Rattle.hf_pass_store.specs.Offsets.{from}
+use Rattle.hf_pass_store.specs.Store.{PLACES, from}
 use Rattle.hf_pass_store.specs.LookedUp.{stretchFrom, stretchAt}
 use Rattle.hf_coeff_walk.specs.declared.Walk.the-variants.{Stopped}
 use Rattle.hf_coeff_group.specs.declared.plan.Plan.{Plan}

@@ -7,7 +7,7 @@ ghost use Prim.Native.Nat.{_+_, _*_, _≤_, _<_};
 ghost use lib.ListN.{length};
 ghost use lib.Seq.{paste};
 ghost use Rattle.block_sizes.specs.BlockSizes.{widthOf, heightOf};
-ghost use Rattle.hf_pass_naturals.specs.Naturals.{wholeStore, naturalStore, threeOf};
+ghost use Rattle.hf_pass_naturals.specs.laws.Naturals.{wholeStore, naturalStore, threeOf};
 
 // The first n numbers, written again from `to` on.
 fn copy_to(list: &mut [u16], to: usize, n: usize)
@@ -44,9 +44,9 @@ pub fn fill_natural_orders(store: &mut [u16]) -> bool
     let mut k = 0;
     while k < 13 {
         let size = block_size(k);
-        let bw = size.wide;
-        let bh = size.high;
-        let n = 2 * (bw * bh);
+        let width = size.wide;
+        let height = size.high;
+        let n = 2 * (width * height);
         let e = start + 3 * n;
         fill_order(&mut store[start..e], k, n);
         start = e;

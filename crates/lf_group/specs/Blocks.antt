@@ -1,10 +1,9 @@
--- The size of an LF group in pixels and in blocks (document 01, Layout and filter strength).
+-- The size of an LF group in pixels and in blocks, and the lengths lent for its layout (document 01, Layout and filter strength; Refused, 1).
 use mathlib.Core.Bool.{Bool, cond, _&&_, _||_}
 use mathlib.Core.List.{List}
 use Prim.Native.Nat.{ℕ, _+_, _*_, _/_}
 use lib.Dec.{leb, eqb}
 use lib.ListN.{getD}
-use Rattle.lf_group.specs.declared.Blocks.{Blocks}
 
 -- width and height, 1 to 2,048
 abbrev pub sizeFits : ℕ → ℕ → Bool
@@ -29,11 +28,12 @@ abbrev pub evenIf : Bool → ℕ → ℕ
 evenIf even n = cond even ((n + 1) / 2 * 2) n
 
 -- bw is made even if a mode is 1 or 2, bh if one is 1 or 3
-unfoldable pub wideIn : ℕ → List ℕ → ℕ
-wideIn width modes = evenIf (anyEither modes 1 2) (blocks width)
+unfoldable pub bwIn : ℕ → List ℕ → ℕ
+bwIn width modes = evenIf (anyEither modes 1 2) (blocks width)
 
-unfoldable pub highIn : ℕ → List ℕ → ℕ
-highIn height modes = evenIf (anyEither modes 1 3) (blocks height)
+unfoldable pub bhIn : ℕ → List ℕ → ℕ
+bhIn height modes = evenIf (anyEither modes 1 3) (blocks height)
 
-abbrev pub blocksOf : ℕ → ℕ → List ℕ → Blocks
-blocksOf width height modes = record { bw = wideIn width modes; bh = highIn height modes }
+-- the lengths lent for a layout of n blocks: a mul for each type; a sharpness number, a kind, an hf_mul and a sigma for each block
+abbrev pub countsFit : ℕ → ℕ → ℕ → ℕ → ℕ → ℕ → ℕ → Bool
+countsFit types muls sharpness kinds hfMul sigma n = eqb muls types && eqb sharpness n && eqb kinds n && eqb hfMul n && eqb sigma n

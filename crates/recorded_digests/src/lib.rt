@@ -3,7 +3,7 @@
 ghost use mathlib.Core.Path.{_≡_};
 ghost use Rattle.recorded_digests.specs.Digest.{digest, digested};
 
-fn wide(x: u32) -> usize
+fn to_usize(x: u32) -> usize
     ensures { λ r. ⌜ r ≡ x ⌝ }
 {
     x as usize
@@ -15,13 +15,13 @@ pub fn with(h: u32, element: u32) -> u32
     ((16777619 * (h as u64) + (element as u64)) % 0x1_0000_0000) as u32
 }
 
-fn wide_byte(x: u8) -> u32
+fn byte_to_u32(x: u8) -> u32
     ensures { λ r. ⌜ r ≡ x ⌝ }
 {
     x as u32
 }
 
-fn wide_short(x: u16) -> u32
+fn short_to_u32(x: u16) -> u32
     ensures { λ r. ⌜ r ≡ x ⌝ }
 {
     x as u32
@@ -33,10 +33,10 @@ pub fn of_bytes(list: &[u8]) -> usize
     let mut h = 0;
     let mut i = 0;
     while i < list.len() {
-        h = with(h, wide_byte(list[i]));
+        h = with(h, byte_to_u32(list[i]));
         i += 1;
     }
-    wide(h)
+    to_usize(h)
 }
 
 pub fn of_shorts(list: &[u16]) -> usize
@@ -45,10 +45,10 @@ pub fn of_shorts(list: &[u16]) -> usize
     let mut h = 0;
     let mut i = 0;
     while i < list.len() {
-        h = with(h, wide_short(list[i]));
+        h = with(h, short_to_u32(list[i]));
         i += 1;
     }
-    wide(h)
+    to_usize(h)
 }
 
 pub fn of_words(list: &[u32]) -> usize
@@ -60,5 +60,5 @@ pub fn of_words(list: &[u32]) -> usize
         h = with(h, list[i]);
         i += 1;
     }
-    wide(h)
+    to_usize(h)
 }

@@ -1,8 +1,9 @@
-use Rattle.hf_pass_naturals.specs.Naturals.{part-length, naturals, fromOrder, order-start, order-at, order-laid, all-written, none-written}
+use Rattle.hf_pass_naturals.specs.Naturals.{naturals}
+use Rattle.hf_pass_naturals.specs.laws.Naturals.{part-length, fromOrder, order-start, order-at, order-laid, all-written, none-written}
 use borrow.Rule.Slice.PartMut.{putMid}
 use mathlib.Core.Path.{refl, _≡_, _∙_, sym}
-use Rattle.hf_pass_store.specs.Offsets.{from, from-start}
-use Rattle.hf_pass_store.specs.Store.{stored}
+use Rattle.hf_pass_store.specs.Store.{from, stored}
+use Rattle.hf_pass_store.specs.laws.Offsets.{from-start}
 use Rattle.block_sizes.specs.BlockSizes.{BLOCK-SIZES}
 use lib.Seq.{sets}
 use borrow.Author.Needs.{needs}
@@ -30,9 +31,6 @@ returns c = none-written (c .before .before .args .store .now) (c .if1 .taken)
 
 loop-holds : tie.Need-loop-holds Inv-loop μ-loop
 loop-holds c = (omega arith, c .if1 .left, c .if1 .left, sym from-start, rw order-start)
-
-block-size-requires : tie.Need-block-size-requires Inv-loop μ-loop
-block-size-requires c κs = search needs
 
 mul-n : tie.Need-mul-n Inv-loop μ-loop
 mul-n c =
@@ -69,12 +67,6 @@ mul-fill-order c =
     let o = order-at (l .k) (omega arith) (t .result) (t .ensures) (l .start) (l .inv .3) in
     omega (arith, o .room, l .inv .1)
 
-sub-fill-order : tie.Need-sub-fill-order Inv-loop μ-loop
-sub-fill-order c = search needs
-
-part-fill-order-start : tie.Need-part-fill-order-start Inv-loop μ-loop
-part-fill-order-start c = search needs
-
 part-fill-order-end : tie.Need-part-fill-order-end Inv-loop μ-loop
 part-fill-order-end c =
     let l = c .before .before .loop in
@@ -89,12 +81,6 @@ fill-order-requires c κs =
     let o = order-at (l .k) (omega arith) (t .result) (t .ensures) (l .start) (l .inv .3) in
     (omega arith, o .size, part-length (l .store) (l .start) (3 * (2 * (t .result .wide * t .result .high))) (omega (arith, o .room, l .inv .1)))
 
-add-k : tie.Need-add-k Inv-loop μ-loop
-add-k c = search needs
-
-loop-less : tie.Need-loop-less Inv-loop μ-loop
-loop-less c = search needs
-
 loop-again : tie.Need-loop-again Inv-loop μ-loop
 loop-again c =
     let l = c .before .before .before .before .before .before .loop in
@@ -104,9 +90,6 @@ loop-again c =
     let e = l .start + 3 * (2 * (t .result .wide * t .result .high)) in
     (omega arith, search needs, l .inv .2, o .next, order-laid (l .k) (omega arith) (t .result) (t .ensures) (l .start) (l .inv .3) (l .store) (putMid (l .start) (e - l .start) (l .store) (f .last .0)) (f .last .0) (l .inv .1) (f .ensures) refl ∙ l .inv .4)
 
-same-length : tie.Need-same-length Inv-loop μ-loop
-same-length c = search needs
-
 returns-2 : tie.Need-returns-2 Inv-loop μ-loop
 returns-2 c =
     let l = c .before .loop in
@@ -114,24 +97,6 @@ returns-2 c =
 
 pub fill-natural-orders-spec : {M : Type 1} → statement M
 fill-natural-orders-spec =
-    tie.close
-    (tie.spec
-    Inv-loop
-    μ-loop
-    returns
-    loop-holds
-    block-size-requires
-    mul-n
-    mul-n-2
-    mul-e
-    add-e
-    mul-fill-order
-    sub-fill-order
-    part-fill-order-start
-    part-fill-order-end
-    fill-order-requires
-    add-k
-    loop-less
-    loop-again
-    same-length
-    returns-2)
+    tie.close (tie.spec Inv-loop μ-loop returns loop-holds (λ c κs. search needs) mul-n mul-n-2 mul-e add-e mul-fill-order
+    (λ c. search needs) (λ c. search needs) part-fill-order-end fill-order-requires (λ c. search needs)
+    (λ c. search needs) loop-again (λ c. search needs) returns-2)

@@ -1,4 +1,4 @@
-use Rattle.recorded_digests.specs.DigestLaws.{digest-step, digest-all}
+use Rattle.recorded_digests.specs.laws.DigestLaws.{digest-step, digest-all}
 use Rattle.recorded_digests.specs.Digest.{digest}
 use borrow.Author.Needs.{needs}
 use native.Mathlib.Omega.{arith}
@@ -14,49 +14,18 @@ Inv-loop list h₀ i₀ h i = (i ≤ length list) × (digest h (drop i list) ≡
 abbrev μ-loop : tie.MeasureT-loop
 μ-loop list h₀ i₀ h i = length list - i
 
-loop-holds : tie.Need-loop-holds Inv-loop μ-loop
-loop-holds c = search needs
-
-shared-slice-read-wide-byte : tie.Need-shared-slice-read-wide-byte Inv-loop μ-loop
-shared-slice-read-wide-byte c = search needs
-
-wide-byte-requires : tie.Need-wide-byte-requires Inv-loop μ-loop
-wide-byte-requires c κs = search needs
-
-with-requires : tie.Need-with-requires Inv-loop μ-loop
-with-requires c κs = search needs
-
-add-i : tie.Need-add-i Inv-loop μ-loop
-add-i c = search needs
-
-loop-less : tie.Need-loop-less Inv-loop μ-loop
-loop-less c = search needs
-
 loop-again : tie.Need-loop-again Inv-loop μ-loop
 loop-again c =
     let at = c .before .before .before .before in
-    (omega arith, rw (c .with .ensures, c .before .wide-byte .ensures) (sym (digest-step (at .loop .h) (at .before .before .args .list .now) (at .loop .i) (omega arith)) ∙ at .loop .inv .1))
-
-wide-requires : tie.Need-wide-requires Inv-loop μ-loop
-wide-requires c κs = search needs
+    (omega arith, rw (c .with .ensures, c .before .byte-to-u32 .ensures) (sym (digest-step (at .loop .h) (at .before .before .args .list .now) (at .loop .i) (omega arith)) ∙ at .loop .inv .1))
 
 returns : tie.Need-returns Inv-loop μ-loop
 returns c =
     let at = c .before .before in
-    c .wide .ensures ∙ sym (digest-all (at .loop .h) (at .before .before .args .list .now) (at .loop .i) (omega arith)) ∙ at .loop .inv .1
+    c .to-usize .ensures ∙ sym (digest-all (at .loop .h) (at .before .before .args .list .now) (at .loop .i) (omega arith)) ∙ at .loop .inv .1
 
 pub of-bytes-spec : {M : Type 1} → statement M
 of-bytes-spec =
-    tie.close
-    (tie.spec
-    Inv-loop
-    μ-loop
-    loop-holds
-    shared-slice-read-wide-byte
-    wide-byte-requires
-    with-requires
-    add-i
-    loop-less
-    loop-again
-    wide-requires
+    tie.close (tie.spec Inv-loop μ-loop (λ c. search needs) (λ c. search needs) (λ c κs. search needs)
+    (λ c κs. search needs) (λ c. search needs) (λ c. search needs) loop-again (λ c κs. search needs)
     returns)

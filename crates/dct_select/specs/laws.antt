@@ -1,0 +1,4 @@
+-- what is proved from the definitions
+pub mod Rules
+pub mod Sides
+pub mod LookUp
