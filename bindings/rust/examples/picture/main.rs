@@ -48,7 +48,7 @@ fn run(options: Options) -> Result<(), Problem> {
     let job =
         Job::read(&contents(name)?).map_err(|words| Problem(1, format!("{name}: {words}")))?;
     let symbols = options.symbols.as_deref().map(contents).transpose()?;
-    let picture = draw(name, &job, options.group, symbols)?;
+    let picture = draw(shown, &job, options.group, symbols)?;
     match options.output.as_deref() {
         None => write(&mut io::stdout(), "standard output", &picture),
         Some(file) => {
