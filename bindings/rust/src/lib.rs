@@ -4,9 +4,9 @@
 //!
 //! Every call answers every input with a result or one numbered [`Refusal`]. Memory is lent, of
 //! whatever length: a call judges the lengths itself, and none of them panics, allocates or keeps
-//! anything. There is no state behind the calls, so they may be made from any number of threads.
-//! Entropy decoding is left to the caller: where the format has coded numbers, a call takes
-//! *symbols*, numbers of 32 bits that are already decoded.
+//! anything. There is no state behind the calls, so they may be made from any number of threads; a
+//! call takes less than 16 KiB of stack. Entropy decoding is left to the caller: where the format
+//! has coded numbers, a call takes *symbols*, numbers of 32 bits that are already decoded.
 //!
 //! # Words
 //!
@@ -20,7 +20,7 @@
 //! | hf_mul | mul + 1, of a varblock |
 //! | sigma | a block's filter strength |
 //! | kind | of a block: 0 free, 1 occupied, 2 + transform number at a corner |
-//! | channel | 0, 1, 2; coefficients of channel 1 are read first, then 0, then 2 |
+//! | channel | 0, 1, 2: X, Y, B of an XYB frame, Cb, Y, Cr of a YCbCr frame; coefficients of channel 1 are read first, then 0, then 2 |
 //! | cell | a place of a grid of coefficients; a group of bw × bh blocks has rows of 8 × bw cells |
 //! | order | one of 13 lists of places that say where the coefficients of a varblock go |
 //! | cluster | the number of a distribution; the log of a reading holds that of each symbol |
@@ -78,22 +78,28 @@
 //! | 2 | [`Size`](Refusal::Size) | 0, 0 |
 //! | 3 | [`BitsEnd`](Refusal::BitsEnd) | bits read, 0 |
 //! | 4 | [`ColumnsEnd`](Refusal::ColumnsEnd) | x, y of the free block |
-//! | 5 | [`UnknownTransform`](Refusal::UnknownTransform) | x, y of the free block |
+//! | 5 | [`Transform`](Refusal::Transform) | x, y of the free block |
 //! | 6 | [`HfMul`](Refusal::HfMul) | x, y of the free block |
 //! | 7 | [`Border`](Refusal::Border) | x, y of the free block |
 //! | 8 | [`Overlap`](Refusal::Overlap) | x, y of the free block |
 //! | 9 | [`Outside`](Refusal::Outside) | x, y of the free block |
 //! | 10 | [`Sharpness`](Refusal::Sharpness) | x, y of the free block |
-//! | 11 | [`Limits`](Refusal::Limits) | 0, 0 |
-//! | 12 | [`Contexts`](Refusal::Contexts) | 0, 0 |
+//! | 11 | [`Parameter`](Refusal::Parameter) | 0, 0 |
+//! | 12 | [`Context`](Refusal::Context) | 0, 0 |
 //! | 13 | [`Order`](Refusal::Order), [`StoredPlace`](Refusal::StoredPlace) | symbols read, 0; 0, 0 |
 //! | 14 | [`Preset`](Refusal::Preset) | bits read, 0 |
 //! | 15 | [`SymbolsEnd`](Refusal::SymbolsEnd) | symbols read, 0 |
 //! | 16 | [`Count`](Refusal::Count) | symbols read, 0 |
 //! | 17 | [`CoefficientContext`](Refusal::CoefficientContext) | symbols read, 0 |
-//! | 18 | [`NoLayout`](Refusal::NoLayout) | 0, 0 |
+//! | 18 | [`Layout`](Refusal::Layout) | 0, 0 |
 //!
 //! Where several apply, the one that a call names first under *Errors* is given.
+//!
+//! # Linking
+//!
+//! The library is `libnetbuff.a`, machine code for Linux on x86-64. It is looked for in the folder
+//! that `NETBUFF_LIB_DIR` names when the crate is built, or else in `target/staticlib` of the
+//! repository, where `.ci/archive` writes it.
 //!
 //! # Features
 //!

@@ -13,7 +13,7 @@ pub type Result<T> = core::result::Result<T, Refusal>;
 /// use netbuff::{transform, Refusal};
 ///
 /// let refused = transform(27).unwrap_err();
-/// assert_eq!(refused, Refusal::UnknownTransform { x: 0, y: 0 });
+/// assert_eq!(refused, Refusal::Transform { x: 0, y: 0 });
 /// assert_eq!((refused.number(), refused.position()), (5, (0, 0)));
 /// assert_eq!(refused.to_string(), "transform unknown at 0, 0 (refusal 5)");
 /// ```
@@ -37,7 +37,7 @@ pub enum Refusal {
         y: usize,
     },
     /// 5: there is no such transform.
-    UnknownTransform {
+    Transform {
         /// Of the free block; 0 where a number is looked up by itself.
         x: usize,
         /// Of the free block; 0 where a number is looked up by itself.
@@ -79,9 +79,9 @@ pub enum Refusal {
         y: usize,
     },
     /// 11: scale, mode, float, shift or presets are outside their limits.
-    Limits,
+    Parameter,
     /// 12: a context record is unfit.
-    Contexts,
+    Context,
     /// 13: an order's length or digit is too large.
     Order {
         /// Symbols read, the refused one included.
@@ -110,7 +110,7 @@ pub enum Refusal {
         symbols_read: usize,
     },
     /// 18: a lent layout or group is none.
-    NoLayout,
+    Layout,
     /// What this version of the crate has no name for.
     Other {
         /// The refusal's number.
@@ -131,21 +131,21 @@ impl Refusal {
             (2, 0, 0) => Self::Size,
             (3, _, 0) => Self::BitsEnd { bits_read },
             (4, ..) => Self::ColumnsEnd { x, y },
-            (5, ..) => Self::UnknownTransform { x, y },
+            (5, ..) => Self::Transform { x, y },
             (6, ..) => Self::HfMul { x, y },
             (7, ..) => Self::Border { x, y },
             (8, ..) => Self::Overlap { x, y },
             (9, ..) => Self::Outside { x, y },
             (10, ..) => Self::Sharpness { x, y },
-            (11, 0, 0) => Self::Limits,
-            (12, 0, 0) => Self::Contexts,
+            (11, 0, 0) => Self::Parameter,
+            (12, 0, 0) => Self::Context,
             (13, 0, 0) => Self::StoredPlace,
             (13, _, 0) => Self::Order { symbols_read },
             (14, _, 0) => Self::Preset { bits_read },
             (15, _, 0) => Self::SymbolsEnd { symbols_read },
             (16, _, 0) => Self::Count { symbols_read },
             (17, _, 0) => Self::CoefficientContext { symbols_read },
-            (18, 0, 0) => Self::NoLayout,
+            (18, 0, 0) => Self::Layout,
             _ => Self::Other { number, x, y },
         }
     }
@@ -157,20 +157,20 @@ impl Refusal {
             Self::Size => 2,
             Self::BitsEnd { .. } => 3,
             Self::ColumnsEnd { .. } => 4,
-            Self::UnknownTransform { .. } => 5,
+            Self::Transform { .. } => 5,
             Self::HfMul { .. } => 6,
             Self::Border { .. } => 7,
             Self::Overlap { .. } => 8,
             Self::Outside { .. } => 9,
             Self::Sharpness { .. } => 10,
-            Self::Limits => 11,
-            Self::Contexts => 12,
+            Self::Parameter => 11,
+            Self::Context => 12,
             Self::Order { .. } | Self::StoredPlace => 13,
             Self::Preset { .. } => 14,
             Self::SymbolsEnd { .. } => 15,
             Self::Count { .. } => 16,
             Self::CoefficientContext { .. } => 17,
-            Self::NoLayout => 18,
+            Self::Layout => 18,
             Self::Other { number, .. } => number,
         }
     }
@@ -180,7 +180,7 @@ impl Refusal {
     pub fn position(self) -> (usize, usize) {
         match self {
             Self::ColumnsEnd { x, y }
-            | Self::UnknownTransform { x, y }
+            | Self::Transform { x, y }
             | Self::HfMul { x, y }
             | Self::Border { x, y }
             | Self::Overlap { x, y }
@@ -194,10 +194,10 @@ impl Refusal {
             | Self::CoefficientContext { symbols_read } => (symbols_read, 0),
             Self::Length
             | Self::Size
-            | Self::Limits
-            | Self::Contexts
+            | Self::Parameter
+            | Self::Context
             | Self::StoredPlace
-            | Self::NoLayout => (0, 0),
+            | Self::Layout => (0, 0),
         }
     }
 
@@ -208,21 +208,21 @@ impl Refusal {
             Self::Size => "a size is outside its limits",
             Self::BitsEnd { .. } => "bits end",
             Self::ColumnsEnd { .. } => "columns end",
-            Self::UnknownTransform { .. } => "transform unknown",
+            Self::Transform { .. } => "transform unknown",
             Self::HfMul { .. } => "hf_mul not positive",
-            Self::Border { .. } => "a varblock crosses a 32-block border",
+            Self::Border { .. } => "varblock crosses a 32-block border",
             Self::Overlap { .. } => "varblocks overlap",
-            Self::Outside { .. } => "a varblock leaves the LF group",
+            Self::Outside { .. } => "varblock leaves the LF group",
             Self::Sharpness { .. } => "sharpness not 0 to 7",
-            Self::Limits => "scale, mode, float, shift or presets outside limits",
-            Self::Contexts => "context record unfit",
+            Self::Parameter => "scale, mode, float, shift or presets outside limits",
+            Self::Context => "context record unfit",
             Self::Order { .. } => "order length or digit too large",
-            Self::StoredPlace => "a stored place is outside its order's size",
+            Self::StoredPlace => "stored place outside its order's size",
             Self::Preset { .. } => "preset number not below presets",
             Self::SymbolsEnd { .. } => "symbols end",
             Self::Count { .. } => "count above 63 x blocks",
             Self::CoefficientContext { .. } => "coefficient context 458 or more",
-            Self::NoLayout => "a lent layout or group is none",
+            Self::Layout => "lent layout or group is none",
             Self::Other { .. } => "refused",
         }
     }
@@ -288,7 +288,7 @@ mod tests {
         assert_eq!(said(3, 5, 0), "bits end after 5 bits (refusal 3)");
         assert_eq!(said(8, 0, 1), "varblocks overlap at 0, 1 (refusal 8)");
         assert_eq!(said(15, 4, 0), "symbols end after 4 symbols (refusal 15)");
-        assert!(said(13, 0, 0).starts_with("a stored place"));
+        assert!(said(13, 0, 0).starts_with("stored place"));
         assert_eq!(said(99, 1, 2), "refused at 1, 2 (refusal 99)");
     }
 

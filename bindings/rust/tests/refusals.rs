@@ -74,10 +74,7 @@ impl LayoutTry {
 #[test]
 fn transforms_above_26_are_unknown() {
     for number in [27, 28, u32::MAX] {
-        assert_eq!(
-            transform(number),
-            Err(Refusal::UnknownTransform { x: 0, y: 0 })
-        );
+        assert_eq!(transform(number), Err(Refusal::Transform { x: 0, y: 0 }));
     }
 }
 
@@ -123,11 +120,11 @@ fn sizes_and_limits_come_before_lengths_and_write_nothing() {
     }
     let mut modes = right();
     modes.group.modes[2] = 4;
-    assert_eq!(column_count(&[0; 8], modes.group), Err(Refusal::Limits));
+    assert_eq!(column_count(&[0; 8], modes.group), Err(Refusal::Parameter));
     limits.push(modes);
     for mut wrong in limits {
         wrong.lengths = [7; 3];
-        assert_eq!(wrong.refused(), (Refusal::Limits, "untouched"));
+        assert_eq!(wrong.refused(), (Refusal::Parameter, "untouched"));
     }
 }
 
@@ -168,7 +165,7 @@ fn columns_that_are_refused_leave_zeros() {
         ),
         (
             LayoutTry::new(8, 8, &[(27, 0)]),
-            Refusal::UnknownTransform { x: 0, y: 0 },
+            Refusal::Transform { x: 0, y: 0 },
         ),
         (
             LayoutTry::new(8, 8, &[(0, -1)]),
@@ -237,8 +234,8 @@ fn cut_and_likeness_refuse_what_is_no_layout() {
             kinds,
             hf_mul,
         };
-        assert_eq!(cut_try(wrong, 0, [2, 2]), Err(Refusal::NoLayout));
-        assert_eq!(alike(right, wrong), Err(Refusal::NoLayout));
+        assert_eq!(cut_try(wrong, 0, [2, 2]), Err(Refusal::Layout));
+        assert_eq!(alike(right, wrong), Err(Refusal::Layout));
     }
     for bw in [0, 257, usize::MAX] {
         let wrong = Layout {
@@ -283,9 +280,9 @@ fn contexts_that_are_refused_leave_the_record() {
         Err(Refusal::BitsEnd { bits_read: 5 })
     );
     assert_eq!(read(&plain, 1, &[0; 38]), Err(Refusal::Length));
-    assert_eq!(read(&plain, 0, &[0; 39]), Err(Refusal::Contexts));
-    assert_eq!(read(&plain, 17, &[0; 39]), Err(Refusal::Contexts));
-    assert_eq!(read(&plain, 15, &[15; 39]), Err(Refusal::Contexts));
+    assert_eq!(read(&plain, 0, &[0; 39]), Err(Refusal::Context));
+    assert_eq!(read(&plain, 17, &[0; 39]), Err(Refusal::Context));
+    assert_eq!(read(&plain, 15, &[15; 39]), Err(Refusal::Context));
     assert_eq!(read(&plain, 16, &[15; 39]), Ok(17));
     // Four lists, 15 and 4 long among them: bsize is 16 x 5 = 80.
     let mut bits = vec![false];
@@ -294,7 +291,7 @@ fn contexts_that_are_refused_leave_the_record() {
         // U32 with selector 0 and four bits for each LF value.
         bits.extend((0..6 * length).map(|_| false));
     }
-    assert_eq!(read(&packed(&bits), 1, &[0; 39]), Err(Refusal::Contexts));
+    assert_eq!(read(&packed(&bits), 1, &[0; 39]), Err(Refusal::Context));
 }
 
 fn packed(bits: &[bool]) -> Vec<u8> {
@@ -427,19 +424,19 @@ fn coefficient_calls_refused_before_work_write_nothing() {
     };
     assert_eq!(tried(|call| call.sides.bw = 33), Refusal::Size);
     assert_eq!(tried(|call| call.sides.bh = 0), Refusal::Size);
-    assert_eq!(tried(|call| call.shift = 4), Refusal::Limits);
-    assert_eq!(tried(|call| call.presets = 257), Refusal::Limits);
+    assert_eq!(tried(|call| call.shift = 4), Refusal::Parameter);
+    assert_eq!(tried(|call| call.presets = 257), Refusal::Parameter);
     assert_eq!(
         tried(|call| call.contexts = BlockContexts::ZERO),
-        Refusal::Contexts
+        Refusal::Context
     );
     assert_eq!(
         tried(|call| call.contexts.lengths[3] = 16),
-        Refusal::Contexts
+        Refusal::Context
     );
     assert_eq!(
         tried(|call| call.contexts.block_ctx_map[38] = 15),
-        Refusal::Contexts
+        Refusal::Context
     );
     assert_eq!(tried(|call| call.kinds.push(1)), Refusal::Length);
     assert_eq!(
@@ -456,7 +453,7 @@ fn coefficient_calls_refused_before_work_write_nothing() {
         tried(|call| call.lf = Some([vec![0], vec![0], vec![]])),
         Refusal::Length
     );
-    assert_eq!(tried(|call| call.kinds[0] = 0), Refusal::NoLayout);
+    assert_eq!(tried(|call| call.kinds[0] = 0), Refusal::Layout);
     assert_eq!(tried(|call| call.store[1] = 8), Refusal::StoredPlace);
 }
 

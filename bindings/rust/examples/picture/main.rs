@@ -45,8 +45,12 @@ fn run(options: Options) -> Result<(), Problem> {
         return write(&mut io::stdout(), "standard output", HELP);
     }
     let name = options.job.as_deref().unwrap_or("-");
-    let job =
-        Job::read(&contents(name)?).map_err(|words| Problem(1, format!("{name}: {words}")))?;
+    let bytes = contents(name)?;
+    let shown = match name {
+        "-" => "standard input",
+        file => file,
+    };
+    let job = Job::read(&bytes).map_err(|words| Problem(1, format!("{shown}: {words}")))?;
     let symbols = options.symbols.as_deref().map(contents).transpose()?;
     let picture = draw(shown, &job, options.group, symbols)?;
     match options.output.as_deref() {
