@@ -108,6 +108,33 @@ impl<'a> Layout<'a> {
         (bh > 0).then_some((x, y, Sides { bw, bh }))
     }
 
+    /// The rows of blocks that the pass group with this index lies in, and the group's index among
+    /// the groups of these rows. They are a layout by themselves, as no varblock crosses a 32-block
+    /// border. A cut judges all that it is lent, so whoever cuts all groups lends each cut no more
+    /// than these. None for an index outside the layout, or lists that do not fit.
+    ///
+    /// ```
+    /// use netbuff::{Layout, Sides};
+    ///
+    /// let sides = Sides { bw: 40, bh: 33 };
+    /// let layout = Layout { sides, kinds: &[2; 1320], hf_mul: &[1; 1320] };
+    /// let (rows, index) = layout.rows_of(3).expect("it has four groups");
+    /// assert_eq!((rows.sides, index), (Sides { bw: 40, bh: 1 }, 1));
+    /// assert_eq!(rows.cut(index)?, layout.cut(3)?);
+    /// # Ok::<(), netbuff::Refusal>(())
+    /// ```
+    pub fn rows_of(&self, index: usize) -> Option<(Self, usize)> {
+        let (x, y, group) = self.group_at(index)?;
+        let bw = self.sides.bw;
+        let blocks = bw.checked_mul(y)?..bw.checked_mul(y + group.bh)?;
+        let rows = Self {
+            sides: Sides { bw, bh: group.bh },
+            kinds: self.kinds.get(blocks.clone())?,
+            hf_mul: self.hf_mul.get(blocks)?,
+        };
+        Some((rows, x / Self::GROUP_SIDE))
+    }
+
     /// Cuts the pass group with this index into memory of its own.
     ///
     /// # Errors
@@ -196,8 +223,7 @@ impl GroupBuf {
 /// places as the group has blocks.
 ///
 /// All that is lent is judged, so whoever cuts all groups lends just the rows of blocks that a
-/// group lies in (32, fewer at the lower edge): they are a layout themselves, and the index is then
-/// counted within them.
+/// group lies in ([`Layout::rows_of`]).
 ///
 /// # Errors
 ///
