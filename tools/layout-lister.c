@@ -15,8 +15,8 @@
 #include <string.h>
 #include <unistd.h>
 
-#ifndef LISTER_VERSION
-#define LISTER_VERSION "0.1.0"
+#ifndef NETBUFF_VERSION
+#define NETBUFF_VERSION "0.1.0"
 #endif
 
 enum { LISTED = 0, NOT_LISTED = 1, FAILED = 2 };
@@ -125,7 +125,7 @@ int __wrap_main(int count, char **words)
     if (option == 'h')
         return say(help);
     if (option == 'V')
-        return say("layout-lister (Netbuff) " LISTER_VERSION "\n");
+        return say("layout-lister (Netbuff) " NETBUFF_VERSION "\n");
     if (option != -1) {
         fputs("Try 'layout-lister --help'.\n", stderr);
         return FAILED;
