@@ -69,17 +69,14 @@ impl LfGroupBuffers {
 
     /// Fills the record of a pass group.
     fn cut(&mut self, call: &LfGroupCall, index: usize, group: &PassGroup) -> Answer<()> {
-        let (wide, high) = call.sides();
+        let (bw, bh) = call.sides();
         let (rows, index) = match self.cut_of {
-            CutOf::Layout => (0..high, index),
+            CutOf::Layout => (0..bh, index),
             CutOf::Rows => (group.rows.clone(), group.columns.start / PassGroup::SIDE),
         };
-        let cells = rows.start * wide..rows.end * wide;
+        let cells = rows.start * bw..rows.end * bw;
         let lent = Layout {
-            sides: Sides {
-                bw: wide,
-                bh: rows.len(),
-            },
+            sides: Sides { bw, bh: rows.len() },
             kinds: &self.layout.kinds[cells.clone()],
             hf_mul: &self.layout.hf_mul[cells],
         };
@@ -89,7 +86,7 @@ impl LfGroupBuffers {
         for (own, numbers) in lf.iter_mut().zip(&call.lf) {
             own.clear();
             for row in group.rows.clone() {
-                own.extend_from_slice(&numbers[row * wide..][group.columns.clone()]);
+                own.extend_from_slice(&numbers[row * bw..][group.columns.clone()]);
             }
         }
         Ok(())

@@ -146,8 +146,8 @@ fn lent(layout: &calls::Layout) -> netbuff::Layout<'_> {
 
 fn sides(layout: &calls::Layout) -> Sides {
     Sides {
-        bw: layout.wide,
-        bh: layout.high,
+        bw: layout.bw,
+        bh: layout.bh,
     }
 }
 
