@@ -84,6 +84,7 @@ check: all
 	bash .ci/declarations
 	bash .ci/library
 	bash .ci/install
+	bash tools/test
 
 install: install-library install-programs
 

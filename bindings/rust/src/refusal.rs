@@ -280,6 +280,26 @@ mod tests {
         assert!((1..=18).all(named) && !named(19));
     }
 
+    /// Its rows are refusal(NAME, number, "text", "position"); 13 has two texts here.
+    #[test]
+    #[cfg(feature = "std")]
+    fn names_and_texts_are_the_headers() {
+        let header = include_str!("../../../include/netbuff.h");
+        let rows = header.lines().filter_map(|line| {
+            let mut fields = line.trim().strip_prefix("refusal(")?.splitn(3, ", ");
+            let name = fields.next()?.replace('_', "").to_lowercase();
+            Some((name, fields.next()?.parse().ok()?, fields.next()?))
+        });
+        let rows: Vec<(_, u32, _)> = rows.collect();
+        assert!(rows.len() >= 18);
+        for (name, number, rest) in rows {
+            let refused = Refusal::of(number, usize::from(number == 13), 0);
+            let named = format!("{refused:?} ").to_lowercase();
+            assert_eq!(named.split(' ').next(), Some(&name[..]), "{number}");
+            assert!(number == 13 || rest.contains(refused.text()), "{number}");
+        }
+    }
+
     #[test]
     #[cfg(feature = "std")]
     fn words_tell_what_and_where() {
