@@ -9,7 +9,7 @@ use Rattle.refusal.specs.declared.Said.{Said}
 use Rattle.refusal.specs.Said as refusals
 use Rattle.layout.specs.Grid.{at}
 use Rattle.layout.specs.Valid.{Cells, Covers, Fits, Owned}
-use Rattle.layout.specs.Order.{Before}
+use Rattle.layout.specs.Walk.{Before}
 use Rattle.lf_group.specs.Blocks.{sizeFits}
 use Rattle.layout_reading.specs.Reading.{Job, Placed, Stopped, column}
 use Rattle.hf_metadata.specs.Call.{Inputs, jobOf, parametersFit, lengthsFit, layoutOf}

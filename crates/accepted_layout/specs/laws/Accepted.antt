@@ -1,4 +1,4 @@
--- Laws: An accepted reading has written a layout.
+-- An accepted reading has written a layout.
 use mathlib.Core.Path.{_≡_, refl, _∙_}
 use mathlib.Core.Bool.{Bool, true, false, cond}
 use mathlib.Core.Logic.{_⊎_, inl, inr}
@@ -15,7 +15,7 @@ use Rattle.layout.specs.laws.Walk.{forward}
 use Rattle.layout.specs.Grid.{at}
 use Rattle.layout.specs.laws.Grid.{place-lt}
 use Rattle.layout.specs.Valid.{Cells, Covers, Fits, Owned, Layout}
-use Rattle.layout.specs.Order.{Before}
+use Rattle.layout.specs.Walk.{Before}
 use Rattle.layout.specs.laws.Order.{Here, later, last}
 use Rattle.layout_reading.specs.Reading.{Job, Placed, Placing, Going, Stopped, nextType, nextHfMul, column, visit, start, reading}
 use Rattle.accepted_layout.specs.laws.Took.{InRect}
@@ -218,7 +218,7 @@ module _ (J : Job) where
       fwd a b (inl g) = inl (omega arith)
       fwd a b (inr g) = inl (omega arith)
 
-  blank : (a b : ℕ) → a < J .bw → b < J .bh → at (start J .kinds) (J .bw) a b ≡ 0
+  pub blank : (a b : ℕ) → a < J .bw → b < J .bh → at (start J .kinds) (J .bw) a b ≡ 0
   blank a b i j = getD-replicate {A = ℕ} (J .bh * J .bw) (b * J .bw + a) 0 0 (place-lt (J .bw) (J .bh) a b i j)
 
   pub begun : (Sofar J) 0 0 (start J)

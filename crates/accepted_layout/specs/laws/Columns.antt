@@ -1,4 +1,5 @@
--- Laws: The columns of an accepted layout call (document 01, Layout and filter strength): a free block takes the next column, surplus columns are
+-- The columns of an accepted layout call (document 01, Layout and filter strength): a free block takes the next column, surplus columns
+-- decide nothing.
 use mathlib.Core.Path.{_≡_, refl, ap, sym, _∙_}
 use mathlib.Core.Bool.{Bool, true, false, cond, _&&_}
 use mathlib.Core.Logic.{_⊎_, inl, inr}
@@ -6,16 +7,15 @@ use mathlib.Core.List.{List, [], _∷_, _++_, map}
 use Prim.Native.Nat.{ℕ, zero, suc, _+_, _*_, _-_, _≤_, _<_, min}
 use native.Mathlib.Omega.{arith}
 use lib.Dec.{leb, eqb}
-use lib.ListN.{length, getD, take, length-map, length-take, getD-replicate}
+use lib.ListN.{length, getD, take, length-map, length-take}
 use lib.Seq.{take-suc, getD-take, length-take-le}
 use borrow.Author.Tests.{le-leb, lt-leb, lt-ltb, eqb-false, eq-eqb}
 use Rattle.laws.specs.laws.Cases.{eq-or-ne, le-or-lt}
 use Rattle.dct_select.specs.Transforms.{wide, high}
 use Rattle.layout.specs.laws.Walk.{beside}
 use Rattle.layout.specs.Grid.{at}
-use Rattle.layout.specs.laws.Grid.{place-lt}
 use Rattle.layout.specs.Valid.{Cells}
-use Rattle.layout.specs.Order.{Before}
+use Rattle.layout.specs.Walk.{Before}
 use Rattle.layout.specs.laws.Order.{Here, From, from-start}
 use Rattle.layout.specs.Varblocks.{Varblock, addVarblock, cornersRow, cornersFrom, varblocksOf}
 use Rattle.layout_column.specs.Columns.{lowEight, hfMulOf}
@@ -25,7 +25,7 @@ use Rattle.hf_metadata.specs.Call.{outcomeOf, Inputs, jobOf, lengthsFit, layout
 use Rattle.lf_group.specs.laws.Counts.{counts}
 use Rattle.accepted_layout.specs.laws.Puts.{Column, Spot, corner, body, beyond, spot, column-put}
 use Rattle.accepted_layout.specs.Refused.{Sofar}
-use Rattle.accepted_layout.specs.laws.Accepted.{passing, placing, turned, begun, along}
+use Rattle.accepted_layout.specs.laws.Accepted.{passing, placing, turned, blank, begun, along}
 use Rattle.accepted_layout.specs.Outcome.{bhOf, bwOf, varblocksLeft, withColumns}
 use Rattle.accepted_layout.specs.laws.Theorems.{works, Read, accepted-read}
 
@@ -136,10 +136,7 @@ module _ (J : Job) (pairs : length (J .muls) ≡ length (J .types)) where
   begin = record { enough = omega arith; typesAre = ap (map (λ (v : Varblock). v .type)) nothing; mulsAre = ap (map (λ (v : Varblock). v .hfMul)) nothing }
     where
       nothing : varblocks (start J) ≡ []
-      nothing = rows-none (J .bw) (J .bh) 0 0 (at (start J .kinds) (J .bw)) (at (start J .hfMul) (J .bw)) (λ a b i j f. blank a b i j) (J .bh) 0 (omega arith) (from-start 0 0)
-        where
-          blank : (a b : ℕ) → a < J .bw → b < J .bh → at (start J .kinds) (J .bw) a b < 2
-          blank a b i j = let z = getD-replicate {A = ℕ} (J .bh * J .bw) (b * J .bw + a) 0 0 (place-lt (J .bw) (J .bh) a b i j) in omega arith
+      nothing = rows-none (J .bw) (J .bh) 0 0 (at (start J .kinds) (J .bw)) (at (start J .hfMul) (J .bw)) (λ a b i j f. let z = blank J a b i j in omega arith) (J .bh) 0 (omega arith) (from-start 0 0)
 
   module _ (x y : ℕ) (p q : Placed) (hx : x < J .bw) (hy : y < J .bh) (more : p .used < length (J .types)) (o : Sofar J x y p) where
     abbrev type : ℕ

@@ -1,4 +1,4 @@
--- Laws: What a refused layout call hands back and leaves (document 01, Refused): 1, 2 and 11 write nothing; 4 to 10 hand back the free block
+-- What a refused layout call hands back and leaves (document 01, Refused).
 use mathlib.Core.Path.{_≡_, refl, ap, sym, _∙_}
 use mathlib.Core.Bool.{Bool, true, false, cond, _&&_}
 use mathlib.Core.List.{List}

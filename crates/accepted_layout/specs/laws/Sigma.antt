@@ -1,4 +1,4 @@
--- Laws: The filter strength that an accepted layout call leaves at each block (document 01, Layout and filter strength).
+-- The filter strength that an accepted layout call leaves at each block (document 01, Layout and filter strength).
 use mathlib.Core.Path.{_≡_, refl, ap, sym, _∙_}
 use mathlib.Core.Bool.{Bool, true, false, _&&_}
 use mathlib.Core.Logic.{_⊎_, inl, inr}
@@ -20,7 +20,7 @@ use Rattle.layout.specs.laws.Walk.{forward}
 use Rattle.layout.specs.Grid.{at}
 use Rattle.layout.specs.laws.Grid.{place-lt, place-col, place-row}
 use Rattle.layout.specs.Valid.{Covers}
-use Rattle.layout.specs.Order.{Before}
+use Rattle.layout.specs.Walk.{Before}
 use Rattle.layout.specs.laws.Order.{Here, last, later, never}
 use Rattle.filter_strength.specs.declared.Filter.{Filter}
 use Rattle.filter_strength.specs.declared.Filter.the-variants.{Off, On}
@@ -40,7 +40,7 @@ use Rattle.hf_metadata.specs.Call.{Inputs, jobOf, layoutOf}
 use Rattle.accepted_layout.specs.laws.Took.{InRect, passed, cell-took}
 use Rattle.accepted_layout.specs.laws.Puts.{Column, Spot, corner, body, beyond, spot}
 use Rattle.accepted_layout.specs.Refused.{Sofar}
-use Rattle.accepted_layout.specs.laws.Accepted.{after, along}
+use Rattle.accepted_layout.specs.laws.Accepted.{after, blank, along}
 use Rattle.accepted_layout.specs.Outcome.{bhOf, bwOf, sigmaAt, strengthAt}
 use Rattle.accepted_layout.specs.laws.Theorems.{Read, accepted-read, accepted-layout}
 
@@ -249,12 +249,9 @@ module _ (J : Job) where
   begin = record {
     lengthS = length-replicate {A = ℕ} (J .bh * J .bw) 0;
     free = λ a b i j e. getD-replicate {A = ℕ} (J .bh * J .bw) (b * J .bw + a) 0 0 (place-lt (J .bw) (J .bh) a b i j);
-    taken = λ a b c d i j v. absurd (let z = blank c d (let w = v .fromX in omega arith) (let w = v .fromY in omega arith) in let w = v .corner in omega arith);
-    sharp = λ a b i j l. absurd (let z = blank a b i j in omega arith);
+    taken = λ a b c d i j v. absurd (let z = blank J c d (let w = v .fromX in omega arith) (let w = v .fromY in omega arith) in let w = v .corner in omega arith);
+    sharp = λ a b i j l. absurd (let z = blank J a b i j in omega arith);
   }
-    where
-      blank : (a b : ℕ) → a < J .bw → b < J .bh → at (start J .kinds) (J .bw) a b ≡ 0
-      blank a b i j = getD-replicate {A = ℕ} (J .bh * J .bw) (b * J .bw + a) 0 0 (place-lt (J .bw) (J .bh) a b i j)
 
   module _ (x y t h : ℕ) (p q : Placed) (hx : x < J .bw) (hy : y < J .bh) (o : Sofar J x y p) (c : Column J x y p q t h) (r : Strengths p) where
     seen : (a b : ℕ) (i : a < J .bw) (j : b < J .bh)

@@ -1,4 +1,4 @@
--- Laws: The layout call as a whole: what an accepted one has written.
+-- The layout call as a whole: what an accepted one has written.
 use mathlib.Core.Path.{_≡_, refl, ap, sym, _∙_}
 use mathlib.Core.Bool.{true, false}
 use mathlib.Core.List.{List}

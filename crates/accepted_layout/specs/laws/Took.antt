@@ -13,7 +13,7 @@ use Rattle.laws.specs.laws.Cases.{eq-or-ne}
 use Rattle.layout.specs.laws.Walk.{forward}
 use Rattle.layout.specs.Grid.{at}
 use Rattle.layout.specs.laws.Grid.{set-same, set-other}
-use Rattle.layout.specs.Order.{Before}
+use Rattle.layout.specs.Walk.{Before}
 use Rattle.layout.specs.laws.Order.{Here, last}
 use Rattle.filter_strength.specs.declared.DividedFilter.{DividedFilter}
 use Rattle.filter_strength.specs.declared.DividedFilter.the-variants.{Off}

@@ -1,4 +1,4 @@
--- Laws: Filter off: sharpness unread (document 01, Layout and filter strength).
+-- Filter off: sharpness unread (document 01, Layout and filter strength).
 use mathlib.Core.Path.{_≡_, refl, ap, fun-ext}
 use mathlib.Core.Bool.{cond}
 use mathlib.Core.List.{List}
