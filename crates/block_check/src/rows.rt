@@ -11,7 +11,7 @@ ghost use Rattle.layout.specs.Grid.{at, fillFrom};
 ghost use Rattle.layout.specs.Check.{Fault, Until, clear, fitting};
 ghost use Rattle.block_sides.specs.laws.Sizes.{widths, heights};
 ghost use Rattle.block_check.specs.laws.Flaws.{flagOf, Known};
-ghost use Rattle.block_check.specs.laws.TwoSteps.{LARGER as largers, withinOf, gapOf, placeCell, place, close};
+ghost use Rattle.block_check.specs.laws.TwoSteps.{LARGER as largers, withinOf, gapOf, placeCell, place, close, looked, Listed};
 
 // Not 0 for the kinds that a row's walk looks at: a free block, and the corners of more than one block.
 pub(crate) const LARGER: [u8; 29] = [
@@ -119,6 +119,23 @@ fn place_cell(
     claim(until, y as u16, x, w, (y + h) as u16)
 }
 
+// The columns of row y that are looked at, from the first: how many, and as many places of the list. No branch hangs on
+// what a cell holds, which cannot be guessed.
+fn list_row(list: &mut [u8; 256], larger: &[u8; 29], bw: usize, kinds: &[u8], y: usize) -> usize
+    requires { ⌜ (now larger ≡ largers) × (bw ≤ 256) × (y < 256) × ((y + 1) * bw ≤ length (now kinds)) × Known (now kinds) × (length (now list) ≡ 256) ⌝ }
+    ensures { λ r. ⌜ Listed (looked (at (now (kinds .entry)) bw) y bw 0) r (now (list .exit)) ⌝ }
+{
+    let start = y * bw;
+    let mut n = 0;
+    let mut x = 0;
+    while x < bw {
+        list[n] = x as u8;
+        n += to_usize(larger[to_usize(kinds[start + x])]);
+        x += 1;
+    }
+    n
+}
+
 // The corners of more than one block in row y.
 pub(crate) fn place_row(
     until: &mut [u16; 256],
@@ -134,13 +151,16 @@ pub(crate) fn place_row(
     ensures { λ r. ⌜ cond r (Until (now (until .exit))) Fault ≡ cells (place bw bh (at (now (kinds .entry)) bw)) bw 0 y (Until (now (until .entry))) ⌝ }
 {
     let start = y * bw;
-    let mut x = 0;
-    while x < bw {
+    let mut list = [0u8; 256];
+    let n = list_row(&mut list, larger, bw, kinds, y);
+    let mut i = 0;
+    while i < n {
+        let x = to_usize(list[i]);
         let kind = kinds[start + x];
         if !place_cell(until, larger, wides, highs, bw, bh, kind, x, y) {
             return false;
         }
-        x += 1;
+        i += 1;
     }
     true
 }

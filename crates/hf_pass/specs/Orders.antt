@@ -17,9 +17,9 @@ pub data FromSymbols (A : Type 0) : Type 0 where
   Given : A → List ℕ → ℕ → FromSymbols A
   Refused : Refusal → FromSymbols A
 
-abbrev pub then : {A B : Type 0} → FromSymbols A → (A → List ℕ → ℕ → FromSymbols B) → FromSymbols B
-then (Given a us at) k = k a us at
-then (Refused why) k = Refused why
+abbrev pub andThen : {A B : Type 0} → FromSymbols A → (A → List ℕ → ℕ → FromSymbols B) → FromSymbols B
+andThen (Given a us at) k = k a us at
+andThen (Refused why) k = Refused why
 
 -- 13 at the number of symbols read, unless the test passes
 abbrev pub check : {A : Type 0} → Bool → ℕ → FromSymbols A → FromSymbols A
@@ -29,12 +29,12 @@ check ok at r = cond ok r (Refused (Order at))
 unfoldable pub digits : ℕ → ℕ → List ℕ → ℕ → FromSymbols (List ℕ)
 digits zero left us at = Given [] us at
 digits (suc n) left [] at = Refused (SymbolsEnd at)
-digits (suc n) left (u ∷ us) at = check (ltb u left) (at + 1) (then (digits n (left - 1) us (at + 1)) (λ ds. Given (u ∷ ds)))
+digits (suc n) left (u ∷ us) at = check (ltb u left) (at + 1) (andThen (digits n (left - 1) us (at + 1)) (λ ds. Given (u ∷ ds)))
 
 -- n digits choose an order; the first size / 64 places are fixed
 abbrev pub byDigits : ℕ → ℕ → ℕ → List ℕ → ℕ → FromSymbols (List Place)
 byDigits width height n us at =
-    then (digits n (width * height - width * height / 64) us at) (λ ds. Given (ordered (0, 0) (width * height / 64) (natural width height) ds))
+    andThen (digits n (width * height - width * height / 64) us at) (λ ds. Given (ordered (0, 0) (width * height / 64) (natural width height) ds))
 
 -- a list of a used order: a length, at most what is free, then that many digits
 unfoldable pub oneList : ℕ → ℕ → List ℕ → ℕ → FromSymbols (List Place)
@@ -56,7 +56,7 @@ entryList used width height us at = cond used (oneList width height us at) (Give
 
 abbrev pub lists : List Entry → List ℕ → ℕ → FromSymbols (List (List Place))
 lists [] us at = Given [] us at
-lists (e ∷ es) us at = then (entryList (e .used) (e .width) (e .height) us at) (λ l us at. then (lists es us at) (λ ls. Given (l ∷ ls)))
+lists (e ∷ es) us at = andThen (entryList (e .used) (e .width) (e .height) us at) (λ l us at. andThen (lists es us at) (λ ls. Given (l ∷ ls)))
 
 -- bit k of the used orders
 abbrev pub isUsed : ℕ → ℕ → Bool

@@ -1,4 +1,6 @@
-// The comparison of what a call gave with what was recorded (compare/RECORD.md).
+// What a call gave: digests of its lists, and the comparison with what was recorded (compare/RECORD.md).
+pub mod digest;
+
 ghost use mathlib.Core.Path.{_≡_};
 ghost use Prim.Native.Nat.{_≤_, _<_};
 ghost use lib.ListN.{length};

@@ -24,7 +24,7 @@ use Rattle.natural_order.specs.laws.Flat.{paired-flat}
 use Rattle.permutation.specs.laws.Permuting.{moved}
 use Rattle.hf_pass.specs.declared.OrdersAnswer.{OrdersAnswer}
 use Rattle.hf_pass.specs.declared.OrdersAnswer.the-variants as answer
-use Rattle.hf_pass.specs.Orders.{FromSymbols, Given, Refused, then, check, digits, byDigits, oneList, entryList}
+use Rattle.hf_pass.specs.Orders.{FromSymbols, Given, Refused, andThen, check, digits, byDigits, oneList, entryList}
 
 -- the answer and the list that a reading asks for; a refused list is not asked about
 abbrev pub Listed : FromSymbols (List Place) → OrdersAnswer → List ℕ → Type 0
@@ -50,7 +50,7 @@ digits-large (suc n) left (u ∷ us) at (suc many) a b h = go (ltb u left) h (di
   where
     go : (ok : Bool) → cond ok (suc (leading (take many us) (left - 1))) 0 < suc many
         → (leading (take many us) (left - 1) < many → digits n (left - 1) us (at + 1) ≡ Refused (refusal.Order (at + 1 + leading (take many us) (left - 1) + 1)))
-        → check ok (at + 1) (then (digits n (left - 1) us (at + 1)) (λ ds. Given (u ∷ ds))) ≡ Refused (refusal.Order (at + cond ok (suc (leading (take many us) (left - 1))) 0 + 1))
+        → check ok (at + 1) (andThen (digits n (left - 1) us (at + 1)) (λ ds. Given (u ∷ ds))) ≡ Refused (refusal.Order (at + cond ok (suc (leading (take many us) (left - 1))) 0 + 1))
     go true h r =
         let e : at + 1 + leading (take many us) (left - 1) + 1 ≡ at + suc (leading (take many us) (left - 1)) + 1 = omega arith in
         rw (r (omega arith), e)
@@ -64,7 +64,7 @@ digits-short (suc n) left (u ∷ us) at a e = go (ltb u left) e (digits-short n 
   where
     go : (ok : Bool) → cond ok (suc (leading us (left - 1))) 0 ≡ suc (length us)
         → (leading us (left - 1) ≡ length us → digits n (left - 1) us (at + 1) ≡ Refused (refusal.SymbolsEnd (at + 1 + length us)))
-        → check ok (at + 1) (then (digits n (left - 1) us (at + 1)) (λ ds. Given (u ∷ ds))) ≡ Refused (refusal.SymbolsEnd (at + suc (length us)))
+        → check ok (at + 1) (andThen (digits n (left - 1) us (at + 1)) (λ ds. Given (u ∷ ds))) ≡ Refused (refusal.SymbolsEnd (at + suc (length us)))
     go true h r = let f : at + 1 + length us ≡ at + suc (length us) = omega arith in rw (r (omega arith), f)
     go false h r = absurd (omega arith)
 
@@ -76,7 +76,7 @@ digits-all (suc n) left (u ∷ us) at a e = go (ltb u left) e (digits-all n (lef
   where
     go : (ok : Bool) → cond ok (suc (leading (take n us) (left - 1))) 0 ≡ suc n
         → (leading (take n us) (left - 1) ≡ n → digits n (left - 1) us (at + 1) ≡ Given (take n us) (drop n us) (at + 1 + n))
-        → check ok (at + 1) (then (digits n (left - 1) us (at + 1)) (λ ds. Given (u ∷ ds))) ≡ Given (u ∷ take n us) (drop n us) (at + suc n)
+        → check ok (at + 1) (andThen (digits n (left - 1) us (at + 1)) (λ ds. Given (u ∷ ds))) ≡ Given (u ∷ take n us) (drop n us) (at + suc n)
     go true h r = let f : at + 1 + n ≡ at + suc n = omega arith in rw (r (omega arith), f)
     go false h r = absurd (omega arith)
 

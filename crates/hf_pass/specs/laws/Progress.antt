@@ -24,7 +24,7 @@ use Rattle.hf_pass_naturals.specs.Naturals.{naturals}
 use Rattle.hf_pass_naturals.specs.laws.Naturals.{whole-long}
 use Rattle.hf_pass.specs.declared.OrdersAnswer.{OrdersAnswer}
 use Rattle.hf_pass.specs.declared.OrdersAnswer.the-variants as answer
-use Rattle.hf_pass.specs.Orders.{FromSymbols, Given, Refused, then, Entry, entry, entryList, lists, plan, isUsed, orders, oneList, Stops}
+use Rattle.hf_pass.specs.Orders.{FromSymbols, Given, Refused, andThen, Entry, entry, entryList, lists, plan, isUsed, orders, oneList, Stops}
 use Rattle.hf_pass.specs.Call.{outcome, outcomeOf}
 use Rattle.hf_pass.specs.laws.Read.{Holds, OneGiven, one-gives, holds-map, EntryGiven, entry-gives}
 use Rattle.hf_pass.specs.laws.Accepted.{plan-at, plan-length, given}
@@ -36,12 +36,12 @@ stored-append (l ∷ ls) ms = ap (λ (r : List ℕ). flat l ++ r) (stored-append
 
 -- what the call gives from here on: the entries due, the lists done
 unfoldable pub onward : List Entry → List (List Place) → List ℕ → ℕ → FromSymbols (List (List Place))
-onward es done us at = then (lists es us at) (λ ls. Given (done ++ ls))
+onward es done us at = andThen (lists es us at) (λ ls. Given (done ++ ls))
 
 abbrev give : List (List Place) → List ℕ → ℕ → FromSymbols (List (List Place))
 give ls us at = Given ls us at
 
-then-more : (l : List Place) (r : FromSymbols (List (List Place))) (k : List (List Place) → List ℕ → ℕ → FromSymbols (List (List Place))) → then (then r (λ ls. Given (l ∷ ls))) k ≡ then r (λ ls. k (l ∷ ls))
+then-more : (l : List Place) (r : FromSymbols (List (List Place))) (k : List (List Place) → List ℕ → ℕ → FromSymbols (List (List Place))) → andThen (andThen r (λ ls. Given (l ∷ ls))) k ≡ andThen r (λ ls. k (l ∷ ls))
 then-more l (Given ls us at) k = refl
 then-more l (Refused why) k = refl
 
@@ -51,7 +51,7 @@ module _ (e : Entry) (es : List Entry) (done : List (List Place)) (us : List ℕ
   onward-step l vs m g =
       rw g
       (then-more l (lists es vs m) (λ ls. Given (done ++ ls))
-      ∙ ap (λ (k : List (List Place) → List ℕ → ℕ → FromSymbols (List (List Place))). then (lists es vs m) k)
+      ∙ ap (λ (k : List (List Place) → List ℕ → ℕ → FromSymbols (List (List Place))). andThen (lists es vs m) k)
       (fun-ext (λ ls. ap give (sym (append-assoc done (l ∷ []) ls)))))
 
   onward-stop : (why : Refusal) → entryList (e .used) (e .width) (e .height) us at ≡ Refused why → onward (e ∷ es) done us at ≡ Refused why
@@ -62,7 +62,7 @@ onward-start : (used : ℕ) (us : List ℕ) → onward (plan used 0 BLOCK-SIZES)
 unfolding onward orders
 onward-start used us = go (lists (plan used 0 BLOCK-SIZES) us 0)
   where
-    go : (r : FromSymbols (List (List Place))) → then r (λ ls. Given ls) ≡ r
+    go : (r : FromSymbols (List (List Place))) → andThen r (λ ls. Given ls) ≡ r
     go (Given ls us at) = refl
     go (Refused why) = refl
 

@@ -14,7 +14,7 @@ use Rattle.natural_order.specs.Places.{Place}
 use Rattle.natural_order.specs.Natural.{natural}
 use Rattle.natural_order.specs.Order.{Size, Order}
 use Rattle.permutation.specs.Digits.{Below, ordered}
-use Rattle.hf_pass.specs.Orders.{FromSymbols, Given, Refused, then, check, digits, oneList, Entry, entryList, lists, Stops}
+use Rattle.hf_pass.specs.Orders.{FromSymbols, Given, Refused, andThen, check, digits, oneList, Entry, entryList, lists, Stops}
 use Rattle.natural_order.specs.laws.Order.{natural-order}
 use Rattle.permutation.specs.laws.Chosen.{ordered-order}
 
@@ -28,7 +28,7 @@ stops-later at at' all why h (inl s) = inl s
 stops-later at at' all why h (inr s) = let (m, e, a, b) = s in inr (m, e, omega arith, b)
 
 then-holds : {A B : Type 0} (P : A → List ℕ → ℕ → Type 0) (P' : B → List ℕ → ℕ → Type 0) (Q : Refusal → Type 0) (r : FromSymbols A) (k : A → List ℕ → ℕ → FromSymbols B)
-    → Holds P Q r → ((a : A) (us : List ℕ) (at : ℕ) → P a us at → Holds P' Q (k a us at)) → Holds P' Q (then r k)
+    → Holds P Q r → ((a : A) (us : List ℕ) (at : ℕ) → P a us at → Holds P' Q (k a us at)) → Holds P' Q (andThen r k)
 then-holds P P' Q (Given a us at) k h f = f a us at h
 then-holds P P' Q (Refused why) k h f = h
 
@@ -54,7 +54,7 @@ digits-give zero left us at = record { below = tt; many = refl; order = refl; re
 digits-give (suc n) left [] at = inl (ap refusal.SymbolsEnd (omega arith))
 digits-give (suc n) left (u ∷ us) at =
     let e : at + 1 + length us ≡ at + suc (length us) = omega arith in
-    check-holds (Took (suc n) left (u ∷ us) at) (Stops at (at + suc (length us))) (ltb u left) (at + 1) (then (digits n (left - 1) us (at + 1)) (λ ds. Given (u ∷ ds)))
+    check-holds (Took (suc n) left (u ∷ us) at) (Stops at (at + suc (length us))) (ltb u left) (at + 1) (andThen (digits n (left - 1) us (at + 1)) (λ ds. Given (u ∷ ds)))
     (λ b. then-holds (Took n (left - 1) us (at + 1)) (Took (suc n) left (u ∷ us) at) (Stops at (at + suc (length us))) (digits n (left - 1) us (at + 1)) (λ ds. Given (u ∷ ds))
     (holds-mono (Took n (left - 1) us (at + 1)) (Stops (at + 1) (at + 1 + length us)) (Stops at (at + suc (length us))) (digits n (left - 1) us (at + 1))
     (λ why s. stops-later at (at + 1) (at + suc (length us)) why (omega arith) (rw e at s))
@@ -82,7 +82,7 @@ one-gives width height (n ∷ us) at =
     let free = width * height - width * height / 64 in
     let end : List ℕ → List ℕ → ℕ → FromSymbols (List Place) = λ ds. Given (ordered (0, 0) (width * height / 64) (natural width height) ds) in
     let e : at + 1 + length us ≡ at + suc (length us) = omega arith in
-    check-holds (OneGiven width height (n ∷ us) at) (Stops at (at + suc (length us))) (leb n free) (at + 1) (then (digits n free us (at + 1)) end)
+    check-holds (OneGiven width height (n ∷ us) at) (Stops at (at + suc (length us))) (leb n free) (at + 1) (andThen (digits n free us (at + 1)) end)
     (λ b. then-holds (Took n free us (at + 1)) (OneGiven width height (n ∷ us) at) (Stops at (at + suc (length us))) (digits n free us (at + 1)) end
     (holds-mono (Took n free us (at + 1)) (Stops (at + 1) (at + 1 + length us)) (Stops at (at + suc (length us))) (digits n free us (at + 1))
     (λ why s. stops-later at (at + 1) (at + suc (length us)) why (omega arith) (rw e at s))
@@ -144,7 +144,7 @@ AllGiven es at all ls vs m = Each es ls × Counted at all vs m
 pub lists-give : (es : List Entry) → Sized es → (us : List ℕ) (at all : ℕ) → at + length us ≡ all → Holds (AllGiven es at all) (Stops at all) (lists es us at)
 lists-give [] z us at all e = (tt, record { on = omega arith; left = e })
 lists-give (f ∷ es) z us at all e =
-    then-holds (EntryGiven (f .used) (f .width) (f .height) at all) (AllGiven (f ∷ es) at all) (Stops at all) (entryList (f .used) (f .width) (f .height) us at) (λ l us at. then (lists es us at) (λ ls. Given (l ∷ ls)))
+    then-holds (EntryGiven (f .used) (f .width) (f .height) at all) (AllGiven (f ∷ es) at all) (Stops at all) (entryList (f .used) (f .width) (f .height) us at) (λ l us at. andThen (lists es us at) (λ ls. Given (l ∷ ls)))
     (rw e at (entry-gives (f .used) (f .width) (f .height) (z .0) us at))
     (λ l vs m g.
     then-holds (AllGiven es m all) (AllGiven (f ∷ es) at all) (Stops at all) (lists es vs m) (λ ls. Given (l ∷ ls))

@@ -19,8 +19,7 @@ use Rattle.hf_pass.specs.declared.OrdersAnswer.the-variants as answer
 use Rattle.hf_pass.specs.Orders.{FromSymbols, Given, Refused, orders}
 use Rattle.hf_pass.specs.Call.{Outcome, leaves, usedOrders, outcomeOf, read, beforeWork, parsed, Wrote}
 use Rattle.hf_pass.specs.laws.Accepted.{orders-accepted}
-use Rattle.hf_pass.specs.laws.Stretch.{stretch-list}
-use Rattle.hf_pass.specs.laws.Fits.{accepted-fits}
+use Rattle.hf_pass.specs.laws.Stretch.{stretch-list, accepted-fits}
 
 -- a refusal is no result
 never : (s : Said) (kept : List ℕ) (n : ℕ) (store : List ℕ) → leaves (refuses s) kept ≡ leaves (gives n) store → ⊥

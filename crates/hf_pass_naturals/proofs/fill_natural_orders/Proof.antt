@@ -32,47 +32,9 @@ returns c = none-written (c .before .before .args .store .now) (c .if1 .taken)
 loop-holds : tie.Need-loop-holds Inv-loop μ-loop
 loop-holds c = (omega arith, c .if1 .left, c .if1 .left, sym from-start, rw order-start)
 
-mul-n : tie.Need-mul-n Inv-loop μ-loop
-mul-n c =
-    let l = c .before .before .loop in
-    let t = c .block-size in
-    let o = order-at (l .k) (omega arith) (t .result) (t .ensures) (l .start) (l .inv .3) in
-    omega (arith, o .room, l .inv .1)
-
-mul-n-2 : tie.Need-mul-n-2 Inv-loop μ-loop
-mul-n-2 c =
-    let l = c .before .before .loop in
-    let t = c .block-size in
-    let o = order-at (l .k) (omega arith) (t .result) (t .ensures) (l .start) (l .inv .3) in
-    omega (arith, o .room, l .inv .1)
-
-mul-e : tie.Need-mul-e Inv-loop μ-loop
-mul-e c =
-    let l = c .before .before .loop in
-    let t = c .block-size in
-    let o = order-at (l .k) (omega arith) (t .result) (t .ensures) (l .start) (l .inv .3) in
-    omega (arith, o .room, l .inv .1)
-
-add-e : tie.Need-add-e Inv-loop μ-loop
-add-e c =
-    let l = c .before .before .loop in
-    let t = c .block-size in
-    let o = order-at (l .k) (omega arith) (t .result) (t .ensures) (l .start) (l .inv .3) in
-    omega (arith, o .room, l .inv .1)
-
-mul-fill-order : tie.Need-mul-fill-order Inv-loop μ-loop
-mul-fill-order c =
-    let l = c .before .before .loop in
-    let t = c .block-size in
-    let o = order-at (l .k) (omega arith) (t .result) (t .ensures) (l .start) (l .inv .3) in
-    omega (arith, o .room, l .inv .1)
-
-part-fill-order-end : tie.Need-part-fill-order-end Inv-loop μ-loop
-part-fill-order-end c =
-    let l = c .before .before .loop in
-    let t = c .block-size in
-    let o = order-at (l .k) (omega arith) (t .result) (t .ensures) (l .start) (l .inv .3) in
-    omega (arith, o .room, l .inv .1)
+-- the three lists of an order end inside the store
+room : (c : tie.After-block-size Inv-loop μ-loop) → let s = c .block-size .result in (c .before .before .loop .start + 3 * (2 * (s .wide * s .high)) ≤ 787968) × (length (c .before .before .loop .store) ≡ 787968)
+room c = let l = c .before .before .loop in (order-at (l .k) (omega arith) (c .block-size .result) (c .block-size .ensures) (l .start) (l .inv .3) .room, l .inv .1)
 
 fill-order-requires : tie.Need-fill-order-requires Inv-loop μ-loop
 fill-order-requires c κs =
@@ -97,6 +59,7 @@ returns-2 c =
 
 pub fill-natural-orders-spec : {M : Type 1} → statement M
 fill-natural-orders-spec =
-    tie.close (tie.spec Inv-loop μ-loop returns loop-holds (λ c κs. search needs) mul-n mul-n-2 mul-e add-e mul-fill-order
-    (λ c. search needs) (λ c. search needs) part-fill-order-end fill-order-requires (λ c. search needs)
+    tie.close (tie.spec Inv-loop μ-loop returns loop-holds (λ c κs. search needs) (λ c. omega (arith, room c))
+    (λ c. omega (arith, room c)) (λ c. omega (arith, room c)) (λ c. omega (arith, room c)) (λ c. omega (arith, room c))
+    (λ c. search needs) (λ c. search needs) (λ c. omega (arith, room c)) fill-order-requires (λ c. search needs)
     (λ c. search needs) loop-again (λ c. search needs) returns-2)

@@ -278,12 +278,13 @@ packed-fixed size skip l₀ l₁ l₂ h n₁ e₁ e₂ =
     let s = drop size l₁ in
     let y : 0 + skip ≡ skip = omega arith in
     let x : skip + size ≡ size + skip = omega arith in
-    let f : 0 + skip ≤ length l₁ = omega arith in
+    let f : 0 ≤ length l₁ = omega arith in
     let g : skip ≤ length s = omega (arith, length-drop size l₁) in
-    let d : drop skip l₂ ≡ drop skip l₁ = rw e₂ (rw y at (drop-paste l₁ 0 s skip f g)) in
+    let d : drop skip l₂ ≡ drop skip l₁ =
+    ap (drop skip) e₂ ∙ ap (λ (j : ℕ). drop j (paste l₁ 0 s skip)) (sym y) ∙ drop-paste l₁ 0 s skip f g ∙ ap (λ (j : ℕ). drop j l₁) y in
     record {
-      long = rw e₂ (length-paste l₁ 0 s skip f g ∙ n₁);
-      fixed = rw e₂ (rw y at (take-paste l₁ 0 s skip f g)) ∙ ap (take skip) e₁;
+      long = ap length e₂ ∙ length-paste l₁ 0 s skip (omega arith) g ∙ n₁;
+      fixed = ap (take skip) e₂ ∙ ap (λ (j : ℕ). take j (paste l₁ 0 s skip)) (sym y) ∙ take-paste l₁ 0 s skip f g ∙ ap (take skip) e₁;
       others = ap (λ (j : ℕ). drop j l₂) (sym x) ∙ sym (drop-drop size skip l₂) ∙ ap (drop size) d ∙ drop-drop size skip l₁ ∙ ap (λ (j : ℕ). drop j l₁) x ∙ sym (drop-drop skip size l₁) ∙ ap (drop skip) e₁;
     }
 
