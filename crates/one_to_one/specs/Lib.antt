@@ -7,6 +7,5 @@ pub mod FullWitness
 pub mod LeftOver
 pub mod Inside
 -- laws
-pub mod Sequence
 pub mod Plain
 pub mod laws

@@ -9,9 +9,6 @@ pub mod Witness
 pub mod FullWitness
 pub mod LeftOver
 pub mod NeverOutside
-pub mod Walks
-pub mod Cells
-pub mod Reads
 pub mod OneToOne
 pub mod Spread
 pub mod Items

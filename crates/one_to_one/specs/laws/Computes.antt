@@ -34,8 +34,9 @@ use Rattle.hf_coeff_walk.specs.Places.{placesOf}
 use Rattle.hf_coeff_walk.specs.Item.{counted}
 use Rattle.hf_coeff_group.specs.Pass.{itemOf, itemsOf}
 use Rattle.hf_coeff_group.specs.Group.{Grids, item, read}
-use Rattle.one_to_one.specs.Filling.{cell, isLow, wanted}
-use Rattle.one_to_one.specs.Sequence.{nonZeros, upTo, sent, theSequence}
+use Rattle.one_to_one.specs.Filling.{isLow, wanted}
+use Rattle.hf_coeff_group.specs.Sequence.{cell, sent, theSequence}
+use Rattle.hf_coeff_walk.specs.Sent.{nonZeros, upTo}
 
 unfoldable pub layout-computes : Bool
 unfolding layoutOf bwIn bhIn inLimits le lt eq reading column place scan takeCell rows cells wide high TRANSFORMS scaledBy dividedBy

@@ -30,10 +30,11 @@ use Rattle.hf_coeff_walk.specs.Item.{Item}
 use Rattle.hf_coeff_group.specs.Pass.{Pass, varblocks, blocksOf, placesAt, itemOf, itemsOf}
 use Rattle.hf_coeff_group.specs.Group.{Grids}
 use Rattle.hf_coeff_group.specs.Sizes.{order-lt}
-use Rattle.one_to_one.specs.Filling.{cell, LaidOut, Sized, Low, LowKept}
-use Rattle.one_to_one.specs.LowCells.{Cell, In, cellsOf, Place as PlaceOf}
-use Rattle.one_to_one.specs.laws.Cells.{Distinct, distinct-both, distinct-map, Fit}
+use Rattle.one_to_one.specs.Filling.{LaidOut, Sized, Low, LowKept}
+use Rattle.one_to_one.specs.LowCells.{Place as PlaceOf}
+use Rattle.hf_coeff_group.specs.laws.Cells.{Distinct, distinct-both, distinct-map, Fit, In}
 use Rattle.one_to_one.specs.laws.Spread.{Spread, spread-of, place-in, in-place, cell-row, cell-column, distinct-places}
+use Rattle.hf_coeff_group.specs.Sequence.{cell, Cell, cellsOf}
 
 -- each of the 39 stretches is an order of its size
 abbrev pub Ordered : Pass → Type 0

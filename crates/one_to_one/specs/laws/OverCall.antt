@@ -18,7 +18,7 @@ use Rattle.hf_coeff.specs.Call.{Lent, Answer, reads, refuses, Outcome, clusters
 use Rattle.hf_coeff.specs.CallLaws.{call-reads}
 use Rattle.hf_coeff.specs.Fits.{lengths-fit}
 use Rattle.one_to_one.specs.Filling.{Sized, Fixed, Filling, withSymbols, Fills, Fails, symbolsRead, refused, unread, leftOver, otherGrids}
-use Rattle.one_to_one.specs.laws.Cells.{Shape}
+use Rattle.hf_coeff_group.specs.laws.Cells.{Shape}
 use Rattle.one_to_one.specs.laws.Items.{wrote-ordered, Ordered, item-size, cells-apart, cells-fit, place-or-same}
 use Rattle.one_to_one.specs.laws.OneToOne as over
 use Rattle.one_to_one.specs.laws.SymbolsRead.{never-more}

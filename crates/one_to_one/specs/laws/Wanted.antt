@@ -19,11 +19,12 @@ use Rattle.hf_coeff_group.specs.Pass.{Pass, varblocks}
 use Rattle.hf_coeff_group.specs.Group.{Grids}
 use Rattle.hf_coeff.specs.Call.{Lent}
 use Rattle.hf_coeff.specs.Fits.{lengths-fit}
-use Rattle.one_to_one.specs.Filling.{cell, Low, LowKept, lowIn, lowInSome, isLow, Sized, Fixed, Filling, asked, gridWanted, wanted, Words, Fills, Fails}
-use Rattle.one_to_one.specs.Sequence.{theSequence}
-use Rattle.one_to_one.specs.laws.Cells.{same-shape}
+use Rattle.one_to_one.specs.Filling.{Low, LowKept, lowIn, lowInSome, isLow, Sized, Fixed, Filling, asked, gridWanted, wanted, Fills, Fails}
+use Rattle.hf_coeff_group.specs.laws.Cells.{same-shape}
 use Rattle.one_to_one.specs.laws.Demand3.{one-sequence, every-other}
 use Rattle.one_to_one.specs.Wanted.{many}
+use Rattle.hf_coeff_group.specs.Sequence.{cell, theSequence}
+use Rattle.hf_coeff_walk.specs.Sent.{Words}
 
 -- The test is what it says.
 or-true : (a b : Bool) → a || b ≡ true → (a ≡ true) ⊎ (b ≡ true)

@@ -18,8 +18,7 @@ use Rattle.refusal.specs.Answer.{gives}
 use Rattle.block_record.specs.Calls.{group, outcome, cutOf}
 use Rattle.block_record.specs.laws.CutSteps.{cut-done}
 use Rattle.accepted_layout.specs.Outcome.{bwOf, bhOf}
-use Rattle.one_to_one.specs.Filling.{cell, wanted as wantedOf, Fixed, Filling, Fills, Given}
-use Rattle.one_to_one.specs.Sequence.{theSequence}
+use Rattle.one_to_one.specs.Filling.{wanted as wantedOf, Fixed, Filling, Fills, Given}
 use Rattle.one_to_one.specs.laws.Demand3.{one-sequence}
 use Rattle.one_to_one.specs.laws.Wanted.{wanted-filling}
 use Rattle.one_to_one.specs.laws.Chain.{fixed-by-calls}
@@ -27,6 +26,7 @@ use Rattle.one_to_one.specs.laws.Computes.{layout-computes, cut-computes
 use Rattle.one_to_one.specs.Plain.{store}
 use Rattle.one_to_one.specs.laws.Plain.{store-long, order-0, store-wrote, defaults-read}
 use Rattle.one_to_one.specs.Witness.{one, wanted, zeros}
+use Rattle.hf_coeff_group.specs.Sequence.{cell, theSequence}
 
 -- 8 × 8 pixels, modes 0, one column (0,0), filter off
 abbrev pub columns : Inputs
