@@ -7,7 +7,6 @@ pub mod SymbolsRead
 pub mod Surplus
 pub mod Witness
 pub mod FullWitness
-pub mod LeftOver
 pub mod NeverOutside
 pub mod OneToOne
 pub mod Spread

@@ -12,8 +12,7 @@ use Rattle.hf_coeff_group.specs.Pass.{Pass, varblocks, itemsOf}
 use Rattle.hf_coeff_group.specs.Group.{Grids}
 use Rattle.hf_coeff.specs.Call.{Lent, Outcome, outcome, call}
 use Rattle.hf_coeff.specs.Fits.{lengths-fit}
-use Rattle.one_to_one.specs.Filling.{LaidOut, Low, LowKept, Fixed, Filling}
-use Rattle.one_to_one.specs.LowCells.{put, Place}
+use Rattle.one_to_one.specs.Filling.{many, put, Place, LaidOut, Low, LowKept, Fixed, Filling}
 use Rattle.hf_coeff_group.specs.laws.Cells.{set-below, adds, adds-off, put-cell, put-shape}
 use Rattle.hf_coeff_group.specs.laws.Reads.{joined}
 use Rattle.one_to_one.specs.laws.Items.{wrote-ordered, Ordered, low-or-held, low-not-held}
@@ -43,7 +42,7 @@ module _ (L : Lent) (fixed : Fixed L) where
   P = L .pass
 
   -- each cell of the group is low-frequency or a place, and never both
-  pub low-or-place : (c p : ℕ) → c < 3 → p < 8 * L .pass .height * (8 * L .pass .width) → (Low (L .pass) p × (Place (L .pass) c p → ⊥)) ⊎ (Place (L .pass) c p × (Low (L .pass) p → ⊥))
+  pub low-or-place : (c p : ℕ) → c < 3 → p < many (L .pass) → (Low (L .pass) p × (Place (L .pass) c p → ⊥)) ⊎ (Place (L .pass) c p × (Low (L .pass) p → ⊥))
   low-or-place c p hc h = go (low-or-held P (fixed .layout) ordered c p hc h)
     where
       ordered : Ordered P
