@@ -1,2 +1,4 @@
 -- what is proved from the definitions
 pub mod Symbols
+pub mod Cells
+pub mod Reads

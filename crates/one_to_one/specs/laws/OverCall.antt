@@ -18,12 +18,12 @@ use Rattle.hf_coeff.specs.Call.{Lent, Answer, reads, refuses, Outcome, clusters
 use Rattle.hf_coeff.specs.CallLaws.{call-reads}
 use Rattle.hf_coeff.specs.Fits.{lengths-fit}
 use Rattle.one_to_one.specs.Filling.{Sized, Fixed, Filling, withSymbols, Fills, Fails, symbolsRead, refused, unread, leftOver, otherGrids}
-use Rattle.one_to_one.specs.laws.Cells.{Shape}
+use Rattle.hf_coeff_group.specs.laws.Cells.{Shape}
 use Rattle.one_to_one.specs.laws.Items.{wrote-ordered, Ordered, item-size, cells-apart, cells-fit, place-or-same}
 use Rattle.one_to_one.specs.laws.OneToOne as over
 use Rattle.one_to_one.specs.laws.SymbolsRead.{never-more}
 
-shapes : (P : Pass) (G W : Grids) → Sized P G → Sized P W → Shape W G
+pub shapes : (P : Pass) (G W : Grids) → Sized P G → Sized P W → Shape W G
 shapes P G W g w = record { count = w .three ∙ sym (g .three); sizes = λ (c : ℕ). at c (decLt c 3) }
   where
     at : (c : ℕ) → Dec (c < 3) → length (getD W c []) ≡ length (getD G c [])
@@ -40,7 +40,7 @@ module _ (L : Lent) (fixed : Fixed L) where
   abbrev items : List Item
   items = itemsOf (L .pass) (varblocks (L .pass))
 
-  start-sized : Sized (L .pass) (L .grids)
+  pub start-sized : Sized (L .pass) (L .grids)
   start-sized = record {
     three = fixed .rest .three;
     cells = λ c h. lengths-fit L (fixed .rest .lengths) .grids c h ∙ sym (mul-mul-mul-comm 8 (P .height) 8 (P .width));
