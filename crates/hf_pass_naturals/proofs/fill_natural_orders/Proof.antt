@@ -12,8 +12,6 @@ use Prim.Native.Nat.{_≤_, _-_, _+_, _*_}
 use lib.ListN.{length}
 use Rattle.hf_pass_naturals.proofs.fill_natural_orders.Statement.{statement}
 use Rattle.hf_pass_naturals.proofs.fill_natural_orders.Tie as tie
-use Rattle.block_sizes.proofs.block_size.Reads as block-size-reads
-use Rattle.hf_pass_naturals.proofs.fill_order.Reads as fill-order-reads
 
 abbrev Inv-loop : tie.InvT-loop
 Inv-loop store₀ start₀ k₀ store start k =

@@ -5,8 +5,6 @@ use borrow.Author.Needs.{needs}
 use Prim.Native.Nat.{_-_}
 use Rattle.hf_pass_naturals.proofs.fill_order.Statement.{statement}
 use Rattle.hf_pass_naturals.proofs.fill_order.Tie as tie
-use Rattle.hf_pass_naturals.proofs.copy_to.Reads as copy-to-reads
-use Rattle.natural_order.proofs.fill_natural_order.Reads as fill-natural-order-reads
 
 returns : tie.Need-returns
 returns c =

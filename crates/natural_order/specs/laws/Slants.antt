@@ -202,7 +202,7 @@ run-append f (suc n) m o =
     let z : o + suc n ≡ suc o + n = omega arith in
     rw (e, z) (ap (λ (l : List Place). f o ∷ l) (run-append f n m (suc o)))
 
--- three stretches of which the middle one lies in the corner
+-- three runs of which the middle one lies in the corner
 around : (w s : ℕ) (f : ℕ → Place) (a c : ℕ) → ((i : ℕ) → a ≤ i → i < a + c → (f i .0 < w) × (f i .1 < w)) → keep w s (run f (a + (c + a)) 0) ≡ keep w s (run f a 0) ++ keep w s (run f a (a + c))
 around w s f a c h =
     let z : 0 + a ≡ a = omega arith in

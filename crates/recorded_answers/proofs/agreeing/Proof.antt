@@ -7,7 +7,6 @@ use Prim.Native.Nat.{_≤_, _-_, _+_}
 use lib.ListN.{length, drop}
 use Rattle.recorded_answers.proofs.agreeing.Statement.{statement}
 use Rattle.recorded_answers.proofs.agreeing.Tie as tie
-use Rattle.recorded_answers.proofs.to_usize.Reads as to-usize-reads
 
 abbrev Inv-loop : tie.InvT-loop
 Inv-loop theirs mine i₀ i = (i ≤ length theirs) × (i ≤ length mine) × (i + common (drop i theirs) (drop i mine) ≡ common theirs mine)

@@ -9,8 +9,6 @@ use Prim.Native.Nat.{_≤_, _-_, _+_}
 use lib.ListN.{length, drop, length-set}
 use Rattle.recorded_words.proofs.decode.Statement.{statement}
 use Rattle.recorded_words.proofs.decode.Tie as tie
-use Rattle.recorded_words.proofs.count.Reads as count-reads
-use Rattle.recorded_words.proofs.word.Reads as word-reads
 
 abbrev Inv-loop : tie.InvT-loop
 Inv-loop file out₀ n i₀ out i = (i ≤ n) × (length out ≡ length out₀) × (out ≡ tabulate (wordAt file) i 0 ++ drop i out₀)

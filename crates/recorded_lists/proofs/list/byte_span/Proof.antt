@@ -7,9 +7,6 @@ use Prim.Native.Nat.{_+_, _*_, _/_, _-_, _≤_}
 use lib.ListN.{getD}
 use Rattle.recorded_lists.proofs.list.byte_span.Statement.{statement}
 use Rattle.recorded_lists.proofs.list.byte_span.Tie as tie
-use Rattle.recorded_lists.proofs.list.has_room.Reads as has-room-reads
-use Rattle.recorded_lists.proofs.list.second.Reads as second-reads
-use Rattle.recorded_lists.proofs.to_usize.Reads as to-usize-reads
 
 returns : tie.Need-returns
 returns c =

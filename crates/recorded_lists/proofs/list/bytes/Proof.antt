@@ -5,8 +5,6 @@ use Prim.Native.Nat.{_-_}
 use lib.ListN.{length}
 use Rattle.recorded_lists.proofs.list.bytes.Statement.{statement}
 use Rattle.recorded_lists.proofs.list.bytes.Tie as tie
-use Rattle.recorded_lists.proofs.list.byte_span.Reads as byte-span-reads
-use Rattle.recorded_lists.proofs.list.place.Reads as place-reads
 
 returns : tie.Need-returns
 returns c =

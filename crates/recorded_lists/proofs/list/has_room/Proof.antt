@@ -5,7 +5,6 @@ use native.Mathlib.Omega.{arith}
 use Prim.Native.Nat.{_+_, _-_}
 use Rattle.recorded_lists.proofs.list.has_room.Statement.{statement}
 use Rattle.recorded_lists.proofs.list.has_room.Tie as tie
-use Rattle.recorded_lists.proofs.to_usize.Reads as to-usize-reads
 
 returns : tie.Need-returns
 returns c =

@@ -4,8 +4,6 @@ use mathlib.Core.Path.{_∙_, ap}
 use Prim.Native.Nat.{_-_}
 use Rattle.recorded_lists.proofs.list.list.Statement.{statement}
 use Rattle.recorded_lists.proofs.list.list.Tie as tie
-use Rattle.recorded_lists.proofs.list.place.Reads as place-reads
-use Rattle.recorded_lists.proofs.list.span_at.Reads as span-at-reads
 
 returns : tie.Need-returns
 returns c =

@@ -6,7 +6,6 @@ use mathlib.Core.Path.{_≡_, _∙_, sym}
 use Prim.Native.Nat.{_≤_, _-_}
 use Rattle.recorded_lists.proofs.list.place.Statement.{statement}
 use Rattle.recorded_lists.proofs.list.place.Tie as tie
-use Rattle.recorded_lists.proofs.list.behind_one.Reads as behind-one-reads
 
 abbrev Inv-loop : tie.InvT-loop
 Inv-loop words from k at₀ i₀ at i = (i ≤ k) × (placeOf words at (k - i) ≡ placeOf words from k)

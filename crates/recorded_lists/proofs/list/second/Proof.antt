@@ -4,7 +4,6 @@ use Prim.Native.Nat.{_+_, _≤_}
 use lib.ListN.{length, List·getD-eq-default}
 use Rattle.recorded_lists.proofs.list.second.Statement.{statement}
 use Rattle.recorded_lists.proofs.list.second.Tie as tie
-use Rattle.recorded_lists.proofs.list.number.Reads as number-reads
 
 returns : tie.Need-returns
 returns c =
