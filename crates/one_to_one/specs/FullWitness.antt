@@ -43,8 +43,8 @@ use Rattle.block_context.specs.Record.{bsizeOf}
 use Rattle.thresholds.specs.Reading.{listsOf, lfValue, qfValue, readValues, readList, readLists}
 use Rattle.hf_block_context.specs.Call as context
 use Rattle.hf_coeff_walk.specs.Places.{placesOf}
-use Rattle.hf_coeff_group.specs.Pass.{Pass, itemOf, itemsOf}
 use Rattle.hf_coeff_group.specs.Group.{Grids}
+use Rattle.hf_coeff_group.specs.Pass.{Pass, itemOf, itemsOf}
 use Rattle.hf_coeff.specs.Call.{Lent, lengthsFit, readPreset}
 use Rattle.block_check.specs.Calls.{gives}
 use Rattle.block_sides.specs.Limits.{inLimits as inLimits32, lengthsFit as lengthsFit2}
@@ -111,31 +111,31 @@ columns = inputs 16 16 (0 ∷ 0 ∷ 0 ∷ []) (6 ∷ 0 ∷ 0 ∷ []) (4 ∷ 0 �
 abbrev kinds : List ℕ
 kinds = 8 ∷ 2 ∷ 1 ∷ 2 ∷ []
 
-abbrev muls : List ℕ
-muls = 5 ∷ 1 ∷ 0 ∷ 3 ∷ []
+abbrev hfMul : List ℕ
+hfMul = 5 ∷ 1 ∷ 0 ∷ 3 ∷ []
 
 abbrev four : List ℕ
 four = replicate 4 0
 
-layout-accepted : layoutOf columns four four four ≡ record { answer = accepted 3; kinds = kinds; hfMul = muls; sigma = four }
+layout-accepted : layoutOf columns four four four ≡ record { answer = accepted 3; kinds = kinds; hfMul = hfMul; sigma = four }
 unfolding layoutOf wideIn highIn inLimits le lt eq reading column judge place scan takeCell rows cells wide high TRANSFORMS scaledBy dividedBy
 layout-accepted = refl
 
-cut-checked : cutCheck (bwOf columns) (bhOf columns) kinds muls 0 4 4 ≡ gives tt
+cut-checked : cutCheck (bwOf columns) (bhOf columns) kinds hfMul 0 4 4 ≡ gives tt
 unfolding cutCheck inLimits32 lengthsFit2 wideIn highIn groupX groupY checkRun rows cells visitCell fitting clear wide high TRANSFORMS fillFrom
 cut-checked = refl
 
-cut-accepted : cutOf (bwOf columns) (bhOf columns) kinds muls 0 four four ≡ outcome (gives (group 2 2)) kinds muls
+cut-accepted : cutOf (bwOf columns) (bhOf columns) kinds hfMul 0 four four ≡ outcome (gives (group 2 2)) kinds hfMul
 unfolding wideIn highIn groupX groupY cut gridFrom rowOf
-cut-accepted = cut-done (bwOf columns) (bhOf columns) kinds muls 0 four four cut-checked
+cut-accepted = cut-done (bwOf columns) (bhOf columns) kinds hfMul 0 four four cut-checked
 
 -- The group.
 abbrev pub pass : Pass
 pass = record {
-  width = 2;
-  height = 2;
+  bw = 2;
+  bh = 2;
   kinds = kinds;
-  muls = muls;
+  hfMul = hfMul;
   contexts = contexts;
   lfThere = true;
   lf0 = 1 ∷ 4294967295 ∷ 0 ∷ 5 ∷ [];

@@ -128,7 +128,7 @@ new-long it row (n ∷ us) = row-long row (it .x) (it .wide) (countOver n (it .b
 
 -- Items.
 
--- what no symbol decides of an item, in a group so wide with grids of so many cells
+-- what no symbol decides of an item, with rows so wide and grids of so many cells
 pub record Sound (width cells clusters : ℕ) (it : Item) : Type 0 where
   pub channel : it .channel < 3
   pub some : 1 ≤ it .wide
@@ -142,7 +142,7 @@ abbrev pub AllSound : ℕ → ℕ → ℕ → List Item → Type 0
 AllSound width cells clusters [] = Unit
 AllSound width cells clusters (it ∷ its) = Sound width cells clusters it × AllSound width cells clusters its
 
--- a reading with three grids of so many cells, three rows as wide as the group, and room in the log for so many more symbols
+-- a reading with three grids of so many cells, three rows so wide, and room in the log for so many more symbols
 pub record Sane (width many due at : ℕ) (log : List ℕ) (grids rows : Grids) : Type 0 where
   pub three : 3 ≤ length grids
   pub cells : (c : ℕ) → c < 3 → length (getD grids c []) ≡ many

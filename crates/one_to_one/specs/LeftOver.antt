@@ -15,11 +15,13 @@ use Rattle.hf_block_context.specs.Call.{stored as contextsOf}
 use Rattle.hf_coeff_walk.specs.Walk.{walk, coeffContext, FREQ, NUM-NONZERO}
 use Rattle.hf_coeff_walk.specs.Places.{placesOf}
 use Rattle.hf_coeff_walk.specs.Item.{counted}
+use Rattle.refusal.specs.Answer.{gives}
+use Rattle.hf_coeff_group.specs.Group.{Grids, Reading, going, leftOf, item, read, zeroRows}
+use Rattle.hf_coeff_group.specs.laws.GroupLaws.{group-items}
 use Rattle.hf_coeff_group.specs.Pass.{varblocks, itemOf, itemsOf}
-use Rattle.hf_coeff_group.specs.Group.{Grids, Reading, going, leftOf, item, read, group-items}
+use Rattle.hf_coeff.specs.Call.{Lent, Outcome, presetMap, reading, outcome, leftoverAt, leftover, call}
+use Rattle.hf_coeff.specs.laws.CallLaws.{checks-pass, call-reads}
 use Rattle.hf_pass.specs.Wrote.{wrote-fits}
-use Rattle.hf_coeff.specs.CallLaws.{call-reads}
-use Rattle.hf_coeff.specs.Call.{Lent, reads, Outcome, presetMap, reading, outcome, leftoverAt, leftover, call}
 use Rattle.one_to_one.specs.Filling.{withSymbols, Fails, leftOver}
 use Rattle.one_to_one.specs.Plain.{order-0}
 use Rattle.one_to_one.specs.Witness.{one, fixed, no-bits}
@@ -30,13 +32,13 @@ leaving = 1 ∷ (replicate 63 0 ++ (0 ∷ 0 ∷ []))
 -- reading the group's items, whatever the stretch
 module _ (stretch : List ℕ) where
   abbrev end : Reading
-  end = read 0 15 stretch (itemsOf (one .pass) (varblocks (one .pass))) (going leaving 0 (one .log) (one .grids) ((0 ∷ []) ∷ (0 ∷ []) ∷ (0 ∷ []) ∷ []) 0)
+  end = read 0 15 stretch (itemsOf (one .pass) (varblocks (one .pass))) (going leaving 0 (one .log) (one .grids) zeroRows 0)
 
   left-of : leftOf end ≡ 1
   unfolding itemsOf itemOf placesOf paired natural cornersRow cornersFrom orderOf turns wide high TRANSFORMS read item counted walk coeffContext FREQ NUM-NONZERO contextsOf sizeOf above lfIndexIn placeOf
   left-of = rw (order-0 0 (omega arith), order-0 1 (omega arith), order-0 2 (omega arith))
 
-  answer-of : outcome end .answer ≡ reads 66
+  answer-of : outcome end .answer ≡ gives 66
   unfolding itemsOf itemOf placesOf paired natural cornersRow cornersFrom orderOf turns wide high TRANSFORMS read item counted walk coeffContext FREQ NUM-NONZERO contextsOf sizeOf above lfIndexIn placeOf
   answer-of = rw (order-0 0 (omega arith), order-0 1 (omega arith), order-0 2 (omega arith))
 
@@ -45,15 +47,21 @@ L = withSymbols one leaving
 
 by-items : reading L 0 ≡ end (presetMap L 0)
 unfolding reading contextsOf
-by-items = group-items 0 15 (presetMap L 0) (one .pass) (varblocks (one .pass)) (going leaving 0 (one .log) (one .grids) ((0 ∷ []) ∷ (0 ∷ []) ∷ (0 ∷ []) ∷ []) 0)
+by-items = group-items 0 15 (presetMap L 0) (one .pass) (varblocks (one .pass)) (going leaving 0 (one .log) (one .grids) zeroRows 0)
 
 -- all 66 symbols are read
-pub left-accepted : call (withSymbols one leaving) .answer ≡ reads 66
+pub left-accepted : call (withSymbols one leaving) .answer ≡ gives 66
 left-accepted =
     let P = one .pass in
     ap (λ (o : Outcome). o .answer)
-    (call-reads L (fixed .sides) refl (fixed .contexts) (fixed .rest .lengths) (layout-check (P .width) (P .height) (P .kinds) (P .muls) (fixed .layout)) (wrote-fits (P .store) (fixed .orders))
-    0 0 no-bits (omega arith))
+    (call-reads L (checks-pass L (record {
+      sides = fixed .sides;
+      parameters = refl;
+      contexts = fixed .contexts;
+      lengths = fixed .rest .lengths;
+      layout = layout-check (P .bw) (P .bh) (P .kinds) (P .hfMul) (fixed .layout);
+      places = wrote-fits (P .store) (fixed .orders);
+    })) 0 0 no-bits (omega arith))
     ∙ ap (λ (r : Reading). outcome r .answer) by-items ∙ answer-of (presetMap L 0)
 
 -- and the count is left over

@@ -14,10 +14,10 @@ use Rattle.laws.specs.Cases.{and-true}
 use Rattle.dct_select.specs.Transforms.{wide, high}
 use Rattle.layout.specs.Grid.{at, grid-length, grid-at, Cell, cell-at}
 use Rattle.layout.specs.Varblocks.{Varblock}
-use Rattle.hf_coeff_group.specs.Pass.{Pass, varblocks}
 use Rattle.hf_coeff_group.specs.Group.{Grids}
+use Rattle.hf_coeff_group.specs.Pass.{Pass, varblocks}
 use Rattle.hf_coeff.specs.Call.{Lent}
-use Rattle.hf_coeff.specs.Fits.{lengths-fit}
+use Rattle.hf_coeff.specs.laws.CallLaws.{grids-fit}
 use Rattle.one_to_one.specs.Filling.{cell, InV, Low, LowKept, lowIn, lowInSome, isLow, Sized, Fixed, Filling, asked, gridWanted, wanted, Words, Fills, Fails}
 use Rattle.one_to_one.specs.Sequence.{theSequence}
 use Rattle.one_to_one.specs.Premises.{same-shape}
@@ -79,27 +79,27 @@ module _ (P : Pass) (p : ℕ) where
   pub is-low : isLow P p ≡ true → Low P p
   unfolding isLow
   is-low e =
-      let r = in-some (p % (8 * P .width)) (p / (8 * P .width)) (varblocks P) e in
+      let r = in-some (p % (8 * P .bw)) (p / (8 * P .bw)) (varblocks P) e in
       let i = r .2 in
       record { of = r .0; there = r .1; left = i .left; right = i .right; top = i .top; bottom = i .bottom }
 
   pub low-is : Low P p → isLow P p ≡ true
   unfolding isLow
-  low-is l = some-in (p % (8 * P .width)) (p / (8 * P .width)) (varblocks P) (l .of) (l .there) (record { left = l .left; right = l .right; top = l .top; bottom = l .bottom })
+  low-is l = some-in (p % (8 * P .bw)) (p / (8 * P .bw)) (varblocks P) (l .of) (l .there) (record { left = l .left; right = l .right; top = l .top; bottom = l .bottom })
 
 -- The grids wanted.
 module _ (L : Lent) (f : ℕ → ℕ → ℕ) where
   abbrev P : Pass
   P = L .pass
 
-  grid-long : (c : ℕ) → length (gridWanted L f c) ≡ 8 * P .height * (8 * P .width)
-  grid-long c = grid-length (λ (x y : ℕ). asked L f c (y * (8 * P .width) + x)) (8 * P .width) (8 * P .height)
+  grid-long : (c : ℕ) → length (gridWanted L f c) ≡ 8 * P .bh * (8 * P .bw)
+  grid-long c = grid-length (λ (x y : ℕ). asked L f c (y * (8 * P .bw) + x)) (8 * P .bw) (8 * P .bh)
 
-  grid-cell : (c p : ℕ) → p < 8 * P .height * (8 * P .width) → getD (gridWanted L f c) p 0 ≡ asked L f c p
-  grid-cell c p h = go (cell-at (8 * P .width) (8 * P .height) p h)
+  grid-cell : (c p : ℕ) → p < 8 * P .bh * (8 * P .bw) → getD (gridWanted L f c) p 0 ≡ asked L f c p
+  grid-cell c p h = go (cell-at (8 * P .bw) (8 * P .bh) p h)
     where
-      go : Cell (8 * P .width) (8 * P .height) p → getD (gridWanted L f c) p 0 ≡ asked L f c p
-      go k = rw (k .place) (grid-at (λ (x y : ℕ). asked L f c (y * (8 * P .width) + x)) (8 * P .width) (8 * P .height) (k .x) (k .y) (k .inX) (k .inY))
+      go : Cell (8 * P .bw) (8 * P .bh) p → getD (gridWanted L f c) p 0 ≡ asked L f c p
+      go k = rw (k .place) (grid-at (λ (x y : ℕ). asked L f c (y * (8 * P .bw) + x)) (8 * P .bw) (8 * P .bh) (k .x) (k .y) (k .inX) (k .inY))
 
   channel-is : (c : ℕ) → c < 3 → getD (wanted L f) c [] ≡ gridWanted L f c
   unfolding wanted
@@ -112,15 +112,15 @@ module _ (L : Lent) (f : ℕ → ℕ → ℕ) where
   unfolding wanted
   three = refl
 
-  cell-is : (c p : ℕ) → c < 3 → p < 8 * P .height * (8 * P .width) → cell (wanted L f) c p ≡ asked L f c p
+  cell-is : (c p : ℕ) → c < 3 → p < 8 * P .bh * (8 * P .bw) → cell (wanted L f) c p ≡ asked L f c p
   cell-is c p hc h = rw (channel-is c hc) (grid-cell c p h)
 
 module _ (L : Lent) (fixed : Fixed L) (f : ℕ → ℕ → ℕ) (words : (c p : ℕ) → f c p < 2 ^ 32) where
   abbrev many : ℕ
-  many = 8 * L .pass .height * (8 * L .pass .width)
+  many = 8 * L .pass .bh * (8 * L .pass .bw)
 
   start-long : (c : ℕ) → c < 3 → length (getD (L .grids) c []) ≡ many
-  start-long c h = lengths-fit L (fixed .rest .lengths) .grids c h ∙ sym (mul-mul-mul-comm 8 (L .pass .height) 8 (L .pass .width))
+  start-long c h = grids-fit L (fixed .rest .lengths) c h ∙ sym (mul-mul-mul-comm 8 (L .pass .bh) 8 (L .pass .bw))
 
   sized : Sized (L .pass) (wanted L f)
   sized = record { three = three L f; cells = λ c h. ap length (channel-is L f c h) ∙ grid-long L f c }

@@ -1,0 +1,9 @@
+-- what is proved of a channel's reading
+pub mod SignedLaws
+pub mod Outcome
+pub mod Runs
+pub mod PlaceLaws
+pub mod Counts
+pub mod Lent
+pub mod Items
+pub mod Kept
