@@ -6,6 +6,8 @@ use crate::words::{bound, cited, words};
 pub struct Function<'a> {
     pub name: &'a str,
     pub public: bool,
+    /// Exported to C.
+    pub exported: bool,
     /// Its heading's lines.
     head: Vec<&'a str>,
 }
@@ -22,7 +24,12 @@ pub fn functions(source: &str) -> Vec<Function<'_>> {
         while !opens_body(head[head.len() - 1]) {
             head.extend(lines.next());
         }
-        found.push(Function { name, public, head });
+        found.push(Function {
+            name,
+            public,
+            exported: line.starts_with("pub extern "),
+            head,
+        });
     }
     found
 }
@@ -66,7 +73,7 @@ pub fn faults(source: &str) -> Vec<String> {
 }
 
 /// The function whose heading begins here, and whether it is public.
-fn begins(line: &str) -> Option<(&str, bool)> {
+pub fn begins(line: &str) -> Option<(&str, bool)> {
     let public = line.strip_prefix("pub ");
     let rest = public.or(line.strip_prefix("pub(crate) ")).unwrap_or(line);
     let rest = rest.strip_prefix("extern \"C\" ").unwrap_or(rest);
@@ -74,8 +81,9 @@ fn begins(line: &str) -> Option<(&str, bool)> {
     Some((name, public.is_some()))
 }
 
+/// A clause that goes on over lines opens no body.
 fn opens_body(line: &str) -> bool {
-    line.ends_with('{')
+    line.ends_with('{') && !line.starts_with("requires") && !line.starts_with("ensures")
 }
 
 #[cfg(test)]
@@ -103,6 +111,8 @@ mod tests {
                       ensures { λ r. ⌜ Put (now (kinds .exit)) r n ⌝ }\n{\n    g(n)\n}\n";
         let found = functions(source);
         assert_eq!((found[0].name, found[0].public), ("f", false));
-        assert_eq!(found[0].cites(), ["≡", "Put", "now"]);
+        assert_eq!(found[0].cites(), ["≡", "Put"]);
+        let lines = "fn f()\n    ensures {\n        ⌜ A ⌝\n    }\n{\n    B\n}\n";
+        assert_eq!(functions(lines)[0].cites(), ["A"]);
     }
 }

@@ -1,345 +1,363 @@
-//! The reading list of docs/ARCHITECTURE.md: files of definitions, some with the names that are to
-//! be read of them. It holds every definition that a promise rests on.
+//! What a reader believes stands apart from what is proved: `specs/` of a crate has definitions that
+//! a promise rests on and nothing else, `specs/laws/` all else. The reading list of
+//! docs/ARCHITECTURE.md has the crates whose definitions are believed.
 
-use std::collections::BTreeMap;
+use std::collections::{BTreeMap, BTreeSet};
 
-use crate::contracts::functions;
-use crate::specs::{Declaration, File, Imports, Named, Place};
+use crate::library::{Believed, Library};
+use crate::specs::{path_of, Named, Place};
 
-/// What is to be read of a file.
-#[derive(Debug, PartialEq)]
-pub enum Part {
-    /// All of it, or all its definitions.
-    Whole,
-    /// Just these names.
-    Names(Vec<String>),
-    /// Its theorems alone.
-    Theorems,
-}
+/// The list: subjects with their crates.
+pub type List<'a> = Vec<(&'a str, Vec<&'a str>)>;
 
-/// The list.
-pub type List = BTreeMap<Named, Part>;
+/// Subjects beside the calls and the theorems on them.
+const BESIDE: [&str; 4] = [
+    "marked examples",
+    "lister",
+    "C interface",
+    "recorded answers",
+];
 
-/// The crates' definitions and the contracts of their functions.
-#[derive(Default)]
-pub struct Library {
-    files: BTreeMap<Named, File>,
-    contracts: Vec<Contract>,
-}
-
-struct Contract {
-    in_crate: String,
-    name: String,
-    public: bool,
-    cites: Vec<Place>,
-}
-
-/// Names that are cited, each with what cites it.
-type Cited = Vec<(Place, String)>;
-
-impl Library {
-    pub fn add_definitions(&mut self, in_crate: &str, file: &str, source: &str) {
-        let file = (in_crate.to_string(), file.to_string());
-        self.files.insert(file, File::read(source));
-    }
-
-    pub fn add_code(&mut self, in_crate: &str, source: &str) {
-        let mut imports = Imports::default();
-        for line in source.lines().filter(|line| line.starts_with("ghost ")) {
-            imports.take(line);
-        }
-        for function in functions(source) {
-            let cites = function.cites().into_iter();
-            self.contracts.push(Contract {
-                in_crate: in_crate.to_string(),
-                name: function.name.to_string(),
-                public: function.public,
-                cites: cites.filter_map(|word| imports.source(word)).collect(),
-            });
-        }
-    }
-
-    /// Where a name is declared that a file declares or hands on; none where it is none of a file of
-    /// definitions.
-    fn declared(&self, place: &Place) -> Option<Place> {
-        let file = self.files.get(&place.file)?;
-        if file.declared.contains_key(&place.name) {
-            return Some(place.clone());
-        }
-        self.declared(&file.imports.source(&place.name)?)
-    }
-
-    fn declaration(&self, place: &Place) -> &Declaration {
-        &self.files[&place.file].declared[&place.name]
-    }
-
-    /// What a declaration cites of the files of definitions.
-    fn cites(&self, place: &Place) -> Cited {
-        let words = self.declaration(place).cites.iter().cloned();
-        let file = || place.file.clone();
-        let places = words.map(|name| Place { file: file(), name });
-        let places = places.filter_map(|place| self.declared(&place));
-        places.map(|cited| (cited, place.to_string())).collect()
-    }
-
-    /// What the contracts of public functions cite, and what these promises (crate and name) are
-    /// made of: a function's contract, a theorem's statement, a definition.
-    fn promised(&self, promises: &[(&str, &str)]) -> Cited {
-        let mut found = Cited::new();
-        for contract in &self.contracts {
-            let (in_crate, name) = (contract.in_crate.as_str(), contract.name.as_str());
-            if contract.public || promises.contains(&(in_crate, name)) {
-                let by = format!("the contract of {in_crate} `{name}`");
-                let cited = contract
-                    .cites
-                    .iter()
-                    .filter_map(|place| self.declared(place));
-                found.extend(cited.map(|place| (place, by.clone())));
-            }
-        }
-        for (file, read) in &self.files {
-            let named = |name: &&String| promises.contains(&(&file.0, name));
-            for name in read.declared.keys().filter(named) {
-                let (file, name) = (file.clone(), name.clone());
-                let place = Place { file, name };
-                if self.declaration(&place).defines {
-                    found.push((place, "docs/CLAIMS.md".to_string()));
-                } else {
-                    found.extend(self.cites(&place));
-                }
-            }
-        }
-        found
-    }
-
-    /// Every definition that a promise rests on, with what cites it: cited by the promise, or by a
-    /// definition that is among them.
-    fn rests(&self, promises: &[(&str, &str)]) -> BTreeMap<Place, String> {
-        let mut open = self.promised(promises);
-        let mut rests = BTreeMap::new();
-        while let Some((place, by)) = open.pop() {
-            if self.declaration(&place).defines && !rests.contains_key(&place) {
-                open.extend(self.cites(&place));
-                rests.insert(place, by);
-            }
-        }
-        rests
-    }
-
-    /// What the list lacks of the definitions that the promises rest on.
-    pub fn lacks(&self, list: &List, promises: &[(&str, &str)]) -> Vec<String> {
-        let mut rests = self.rests(promises);
-        rests.retain(|place, _| match list.get(&place.file) {
-            Some(Part::Whole) => false,
-            Some(Part::Names(names)) => {
-                // A constructor goes with its data.
-                let declared = self.declaration(place);
-                let of_data = declared.lines == 0;
-                let data = declared.cites.iter().any(|data| names.contains(data));
-                !(names.contains(&place.name) || of_data && data)
-            }
-            Some(Part::Theorems) | None => true,
-        });
-        let told = |(place, by)| format!("the reading list lacks {place}, which {by} cites");
-        rests.into_iter().map(told).collect()
-    }
-
-    /// What the list names that is not there.
-    pub fn misses(&self, list: &List) -> Vec<String> {
-        let mut faults = Vec::new();
-        for (file, part) in list {
-            let (in_crate, name) = file;
-            let Some(read) = self.files.get(file) else {
-                faults.push(format!(
-                    "the reading list names {in_crate} {name}, which is no file"
-                ));
-                continue;
-            };
-            let Part::Names(names) = part else { continue };
-            let none = names
-                .iter()
-                .filter(|name| !read.declared.contains_key(*name));
-            faults.extend(none.map(|word| {
-                format!("the reading list names `{word}`, which {in_crate} {name} does not declare")
-            }));
-        }
-        faults
-    }
-
-    /// How many definitions the promises rest on, and how many lines those take.
-    pub fn size(&self, promises: &[(&str, &str)]) -> (usize, usize) {
-        let rests = self.rests(promises);
-        let lines = rests.keys().map(|place| self.declaration(place).lines);
-        let lines: Vec<_> = lines.filter(|&lines| lines > 0).collect();
-        (lines.len(), lines.iter().sum())
-    }
-}
-
-/// Reads the list from its page: the table below the line that begins so.
-pub fn read_list(page: &str) -> (List, Vec<String>) {
-    let (mut list, mut faults) = (List::new(), Vec::new());
+/// Reads the list from its page: the table below the line that begins so, subject and crates.
+pub fn read_list(page: &str) -> List<'_> {
     let lines = page
         .lines()
         .skip_while(|line| !line.starts_with("To believe the calls"));
     let lines = lines.skip_while(|line| !line.starts_with('|')).skip(2);
-    for line in lines.take_while(|line| line.starts_with('|')) {
-        let cell = line.trim_end_matches('|').rsplit('|').next().unwrap_or("");
-        for entry in cell.split(';').map(str::trim) {
-            if !read_entry(entry, &mut list) {
-                faults.push(format!(
-                    "the reading list has an entry that is not read: {entry}"
-                ));
-            }
-        }
-    }
-    (list, faults)
+    lines.map_while(row).collect()
 }
 
-/// Takes one crate's files, as `crate File, Other (`name`, `name`), Third (definitions)`.
-fn read_entry(entry: &str, list: &mut List) -> bool {
-    let Some((in_crate, mut rest)) = entry.split_once(' ') else {
-        return false;
-    };
-    while !rest.is_empty() {
-        let end = rest.find([',', '(']).unwrap_or(rest.len());
-        let file = rest[..end].trim();
-        let (part, behind) = match rest[end..].strip_prefix('(') {
-            None => (Part::Whole, &rest[end..]),
-            Some(inner) => match inner.split_once(')') {
-                None => return false,
-                Some(("definitions", behind)) => (Part::Whole, behind),
-                Some(("theorems", behind)) => (Part::Theorems, behind),
-                Some((names, behind)) => {
-                    let names = names.split('`').skip(1).step_by(2);
-                    (Part::Names(names.map(String::from).collect()), behind)
-                }
-            },
-        };
-        if file.is_empty() || file.contains(' ') || part == Part::Names(Vec::new()) {
-            return false;
-        }
-        list.insert((in_crate.to_string(), file.to_string()), part);
-        rest = behind.trim_start_matches(',').trim_start();
+fn row(line: &str) -> Option<(&str, Vec<&str>)> {
+    let (subject, crates) = line.strip_prefix('|')?.split_once('|')?;
+    let names = crates.trim_end().strip_suffix('|')?.split(',');
+    let names = names.map(|name| name.trim().trim_matches('`'));
+    Some((subject.trim(), names.collect()))
+}
+
+/// Whether a crate is one of a subject beside the calls.
+pub fn beside(list: &List, name: &str) -> bool {
+    let mut subjects = list.iter().filter(|(_, crates)| crates.contains(&name));
+    subjects.any(|(subject, _)| BESIDE.contains(subject))
+}
+
+/// How much there is to read.
+#[derive(Default, Debug, PartialEq)]
+pub struct Size {
+    crates: usize,
+    files: usize,
+    definitions: usize,
+    /// Lines of definitions.
+    lines: usize,
+    /// Lines of their files, comments and imports too.
+    whole: usize,
+    /// Types of the code.
+    types: usize,
+}
+
+impl std::fmt::Display for Size {
+    fn fmt(&self, to: &mut std::fmt::Formatter) -> std::fmt::Result {
+        write!(
+            to,
+            "{} crates, {} files, {} definitions, {} lines of them, {} lines of the files whole, \
+             {} types of the code",
+            self.crates, self.files, self.definitions, self.lines, self.whole, self.types
+        )
     }
-    true
+}
+
+/// The size of what is believed.
+pub fn size(library: &Library, believed: &Believed) -> Size {
+    size_in(library, believed, |_| true)
+}
+
+fn size_in(library: &Library, believed: &Believed, in_crate: impl Fn(&str) -> bool) -> Size {
+    let mut size = Size::default();
+    let (mut crates, mut files) = (BTreeSet::new(), BTreeSet::new());
+    for place in believed
+        .definitions
+        .keys()
+        .filter(|it| in_crate(&it.file.0))
+    {
+        let lines = library.declaration(place).lines;
+        size.definitions += usize::from(lines > 0);
+        size.lines += lines;
+        crates.insert(&place.file.0);
+        files.insert(&place.file);
+    }
+    size.crates = crates.len();
+    size.files = files.len();
+    size.whole = files.iter().map(|file| library.files[*file].lines).sum();
+    size.types = believed.types.iter().filter(|it| in_crate(&it.0)).count();
+    size
+}
+
+/// The size of each subject.
+pub fn by_subject(library: &Library, list: &List, believed: &Believed) -> Vec<String> {
+    let told = |(subject, crates): &(&str, Vec<&str>)| {
+        let size = size_in(library, believed, |name| crates.contains(&name));
+        format!("{subject}: {size}")
+    };
+    list.iter().map(told).collect()
+}
+
+/// What the list lacks, what it has that is not to be read, and what it has twice.
+pub fn unlisted(list: &List, believed: &Believed) -> Vec<String> {
+    let mut read: BTreeMap<&str, (&Place, &str)> = BTreeMap::new();
+    for (place, by) in &believed.definitions {
+        read.entry(&place.file.0).or_insert((place, by));
+    }
+    let mut faults = Vec::new();
+    let mut listed = BTreeSet::new();
+    for name in list.iter().flat_map(|(_, crates)| crates) {
+        if !listed.insert(*name) {
+            faults.push(format!("the reading list has {name} twice"));
+        } else if !read.contains_key(name) {
+            faults.push(format!(
+                "the reading list has {name}, and no promise rests on it"
+            ));
+        }
+    }
+    let lacking = read.iter().filter(|(name, _)| !listed.contains(*name));
+    faults.extend(lacking.map(|(name, (place, by))| {
+        format!("the reading list lacks {name} ({place}, cited by {by})")
+    }));
+    faults
+}
+
+/// A declaration that stands in the wrong file, and why.
+pub struct Misplaced {
+    place: Place,
+    why: Why,
+}
+
+#[derive(Clone, Copy, PartialEq)]
+enum Why {
+    Law,
+    Unbelieved,
+    Believed,
+}
+
+impl std::fmt::Display for Misplaced {
+    fn fmt(&self, to: &mut std::fmt::Formatter) -> std::fmt::Result {
+        let why = match self.why {
+            Why::Law => "is a law among the definitions",
+            Why::Unbelieved => "is a definition that no promise rests on",
+            Why::Believed => "is a definition that a promise rests on, among the laws",
+        };
+        write!(to, "{} {why}", self.place)
+    }
+}
+
+/// Names that two files declare among what one crate's exported functions rest on, with the files.
+pub fn homonyms(library: &Library) -> BTreeSet<String> {
+    let mut found = BTreeSet::new();
+    for exporting in library.exporting() {
+        let believed = library.believed(&[], &[], |name| name == exporting);
+        let mut files: BTreeMap<&str, Vec<String>> = BTreeMap::new();
+        for place in believed.definitions.keys() {
+            files
+                .entry(&place.name)
+                .or_default()
+                .push(path_of(&place.file));
+        }
+        let twice = files.into_iter().filter(|(_, files)| files.len() > 1);
+        found.extend(twice.map(|(name, files)| format!("`{name}`: {}", files.join(", "))));
+    }
+    found
+}
+
+/// How many stand in the wrong file, crate by crate.
+pub fn by_crate(misplaced: &[Misplaced]) -> Vec<String> {
+    let mut crates: BTreeMap<&str, [usize; 3]> = BTreeMap::new();
+    for found in misplaced {
+        crates.entry(&found.place.file.0).or_default()[found.why as usize] += 1;
+    }
+    let told = |(name, [laws, unbelieved, believed]): (&str, [usize; 3])| {
+        format!(
+            "apart: {name}: {laws} laws and {unbelieved} definitions that no promise rests on in \
+             specs/, {believed} believed in specs/laws/"
+        )
+    };
+    crates.into_iter().map(told).collect()
+}
+
+/// Every declaration that stands in the wrong file.
+pub fn misplaced(library: &Library, believed: &Believed) -> Vec<Misplaced> {
+    let mut found = Vec::new();
+    for (file, read) in &library.files {
+        for (name, declared) in &read.declared {
+            let (file, name) = (file.clone(), name.clone());
+            let place = Place { file, name };
+            let why = match (declared.defines, believed.definitions.contains_key(&place)) {
+                // A constructor goes with its data.
+                _ if declared.lines == 0 => None,
+                (_, true) => of_laws(&place.file).then_some(Why::Believed),
+                (defines, false) if !of_laws(&place.file) => Some(match defines {
+                    true => Why::Unbelieved,
+                    false => Why::Law,
+                }),
+                _ => None,
+            };
+            found.extend(why.map(|why| Misplaced { place, why }));
+        }
+    }
+    found
+}
+
+fn of_laws((_, file): &Named) -> bool {
+    file.contains('/')
 }
 
 #[cfg(test)]
 mod tests {
     use super::*;
+    use crate::library::Name;
 
     fn library() -> Library {
         let mut library = Library::default();
         library.add_definitions(
             "grid",
             "Walk",
-            "abbrev pub rows : A\nrows = cells\nunfoldable pub cells : A\ncells = other\n\
-             pub law : rows ≡ other\nlaw = refl\nabbrev pub unused : A\nunused = rows\n",
+            "use mathlib.Core.Path.{_≡_, ℕ}\nabbrev pub rows : ℕ\nrows = cells\nunfoldable pub cells : ℕ\ncells = 1\n\
+             pub law : rows ≡ cells\nlaw = refl\nabbrev pub unused : ℕ\nunused = rows\n\
+             abbrev pub lost : ℕ\nlost = nowhere\n",
         );
         library.add_definitions(
             "call",
-            "Call",
-            "use Rattle.grid.specs.Walk.{rows, law}\npub use Rattle.grid.specs.Walk.{cells}\n\
-             abbrev pub outcome : A\noutcome = rows law\npub theorem : Given x ≡ cells\n\
-             theorem = by outcome\npub record Given (x : A) : Type 0 where\n  pub y : A\n",
+            "laws/Call",
+            "use mathlib.Core.Path.{_≡_, ℕ}\nuse Rattle.grid.specs.Walk.{rows}\n\
+             pub use Rattle.grid.specs.Walk.{cells}\n\
+             abbrev pub outcome : ℕ\noutcome = rows\npub theorem : (x : ℕ) → Given x ≡ cells\n\
+             theorem = by outcome\npub record Given (x : ℕ) : Type 0 where\n  pub y : ℕ\n",
         );
         library.add_code(
             "call",
-            "ghost use Rattle.call.specs.Call.{outcome};\npub fn read()\n    \
-             ensures { λ r. ⌜ r ≡ outcome ⌝ }\n{\n}\n",
+            "ghost use mathlib.Core.Path.{_≡_};\nghost use Rattle.call.specs.laws.Call.{outcome};\n\
+             pub fn read()\n    ensures { λ r. ⌜ r ≡ outcome ⌝ }\n{\n}\n\
+             pub fn inner()\n    ensures { λ r. ⌜ r ≡ gone ⌝ }\n{\n}\n\
+             ghost use Rattle.grid.specs.Walk.{lost, law};\n\
+             pub fn loses()\n    ensures { λ r. ⌜ r ≡ lost ⌝ }\n{\n}\n\
+             pub fn proves()\n    ensures { λ r. ⌜ r ≡ law ⌝ }\n{\n}\n",
         );
         library
     }
 
-    fn list(files: &str) -> List {
-        let page =
-            format!("To believe the calls, read\n\n| What | Files |\n|--|--|\n| a | {files} |\n");
-        let (list, faults) = read_list(&page);
-        assert!(faults.is_empty(), "{faults:?}");
-        list
+    const READ: (&str, &str) = ("call", "read");
+
+    fn told(calls: &[Name], named: &[Name]) -> Vec<String> {
+        let library = library();
+        let believed = library.believed(calls, named, |_| true);
+        let found = misplaced(&library, &believed);
+        let mut told: Vec<_> = found.iter().map(Misplaced::to_string).collect();
+        told.extend(believed.faults);
+        told
     }
 
     #[test]
-    fn a_list_has_files_and_names() {
-        let list =
-            list("call Call; grid Walk (`rows`, `cells`), Other (definitions), Last (theorems)");
-        let part = |in_crate: &str, file: &str| &list[&(in_crate.to_string(), file.to_string())];
-        assert_eq!(part("call", "Call"), &Part::Whole);
-        let names = ["rows", "cells"].map(String::from).to_vec();
-        assert_eq!(part("grid", "Walk"), &Part::Names(names));
-        assert_eq!(part("grid", "Other"), &Part::Whole);
-        assert_eq!(part("grid", "Last"), &Part::Theorems);
-        let page = "To believe the calls\n| a | b |\n|--|--|\n| a | the specs of all |\n";
-        assert_eq!(read_list(page).1.len(), 1);
-    }
-
-    fn lacks(files: &str, promises: &[(&str, &str)]) -> Vec<String> {
-        library().lacks(&list(files), promises)
-    }
-
-    #[test]
-    fn a_whole_list_is_held() {
-        assert!(lacks("call Call; grid Walk", &[]).is_empty());
-        assert!(lacks("call Call (`outcome`); grid Walk (`rows`, `cells`)", &[]).is_empty());
-    }
-
-    #[test]
-    fn a_definition_that_is_missing_is_found() {
-        let told =
-            |place: &str, by: &str| [format!("the reading list lacks {place}, which {by} cites")];
-        // by name, where the list restricts a file to names; through the definition between
+    fn the_believed_and_the_proved_stand_apart() {
+        let laws = "crates/call/specs/laws/Call.antt:";
+        let walk = "crates/grid/specs/Walk.antt:";
+        let believed = "is a definition that a promise rests on, among the laws";
+        let unbelieved = "is a definition that no promise rests on";
+        let law = "is a law among the definitions";
+        // the call rests on `outcome`, and through it on `rows` and `cells`
         assert_eq!(
-            lacks("call Call; grid Walk (`rows`)", &[]),
-            told("grid Walk (`cells`)", "grid Walk (`rows`)")
+            told(&[READ], &[]),
+            [
+                format!("{laws} `outcome` {believed}"),
+                format!("{walk} `law` {law}"),
+                format!("{walk} `lost` {unbelieved}"),
+                format!("{walk} `unused` {unbelieved}"),
+            ]
         );
-        // by its file
+        // a theorem rests on what its statement cites, and not on its proof; a definition that is
+        // named is no promise
+        let named = [("call", "theorem"), ("grid", "unused")];
         assert_eq!(
-            lacks("grid Walk", &[]),
-            told("call Call (`outcome`)", "the contract of call `read`")
+            told(&[], &named),
+            [
+                format!("{laws} `Given` {believed}"),
+                format!("{walk} `law` {law}"),
+                format!("{walk} `lost` {unbelieved}"),
+                format!("{walk} `rows` {unbelieved}"),
+                format!("{walk} `unused` {unbelieved}"),
+            ]
         );
-        // by a theorem that the page names: what its statement cites, and not its proof
-        assert_eq!(
-            lacks("call Call (`outcome`); grid Walk", &[("call", "theorem")]),
-            told("call Call (`Given`)", "call Call (`theorem`)")
-        );
-        // by the page itself
-        assert_eq!(
-            lacks(
-                "call Call; grid Walk (`rows`, `cells`)",
-                &[("grid", "unused")]
-            ),
-            told("grid Walk (`unused`)", "docs/CLAIMS.md")
-        );
-        // theorems are no definitions
-        assert_eq!(lacks("call Call (theorems); grid Walk", &[]).len(), 1);
     }
 
     #[test]
-    fn laws_are_not_asked_for() {
-        let named = "call Call; grid Walk (`rows`, `cells`)";
-        assert!(lacks(named, &[("grid", "law")]).is_empty());
+    fn what_is_cited_is_there() {
+        let faults = |calls: &[Name]| library().believed(calls, &[], |_| true).faults;
+        assert!(faults(&[READ]).is_empty());
+        let gone = "crates/call: the contract of `inner` cites `gone`, which is nowhere declared";
+        assert_eq!(faults(&[("call", "inner")]).first().unwrap(), gone);
+        let lost = "crates/grid/specs/Walk.antt: `lost` cites `nowhere`, which is nowhere declared";
+        assert_eq!(faults(&[("call", "loses")]).first().unwrap(), lost);
+        let law =
+            "crates/call: the contract of `proves` cites crates/grid/specs/Walk.antt: `law`, \
+                   which is a law";
+        assert_eq!(faults(&[("call", "proves")]).first().unwrap(), law);
     }
 
     #[test]
     fn a_constructor_goes_with_its_data() {
         let mut library = Library::default();
-        let data =
-            "pub data Answer : Type 0 where\n  yes : Answer\nabbrev pub f : ℕ → A\nf n = yes\n";
-        library.add_definitions("call", "Call", data);
-        let promised = [("call", "f")];
-        assert!(library
-            .lacks(&list("call Call (`Answer`, `f`)"), &promised)
-            .is_empty());
-        assert_eq!(library.lacks(&list("call Call (`f`)"), &promised).len(), 2);
+        let data = "pub data Answer : Type 0 where\n  yes : Answer\nabbrev pub f : ℕ\nf = yes\n\
+             pub law : f ≡ yes\nlaw = refl\nuse a.B.{ℕ, _≡_}\n";
+        library.add_definitions("call", "laws/Call", data);
+        let believed = library.believed(&[], &[("call", "law")], |_| true);
+        assert!(believed.faults.is_empty());
+        assert_eq!(believed.definitions.len(), 3);
+        assert_eq!(misplaced(&library, &believed).len(), 2);
+        let read = size(&library, &believed);
+        let expected = Size {
+            crates: 1,
+            files: 1,
+            definitions: 2,
+            lines: 4,
+            whole: 7,
+            types: 0,
+        };
+        assert_eq!(read, expected);
     }
 
     #[test]
-    fn what_is_named_is_there() {
-        let misses = |files| library().misses(&list(files));
-        assert!(misses("call Call (`outcome`); grid Walk").is_empty());
-        let told = "the reading list names grid None, which is no file";
-        assert_eq!(misses("grid Walk, None"), [told]);
-        let told = "the reading list names `none`, which call Call does not declare";
-        assert_eq!(misses("call Call (`outcome`, `none`)"), [told]);
+    fn a_name_of_two_files_is_told() {
+        let mut library = library();
+        library.add_definitions(
+            "two",
+            "Walk",
+            "use a.B.{ℕ}\nabbrev pub rows : ℕ\nrows = 1\n",
+        );
+        let code = |file: &str| {
+            format!(
+                "ghost use Rattle.grid.specs.Walk.{{rows}};\nghost use Rattle.{file}.{{rows as more}};\n\
+                 pub extern \"C\" fn f()\n    ensures {{ λ r. ⌜ rows more ⌝ }}\n{{\n}}\n"
+            )
+        };
+        library.add_code("one", &code("grid.specs.Walk"));
+        assert!(homonyms(&library).is_empty());
+        library.add_code("one", &code("two.specs.Walk"));
+        let told = "`rows`: crates/grid/specs/Walk.antt, crates/two/specs/Walk.antt";
+        assert_eq!(homonyms(&library).first().unwrap(), told);
+    }
+
+    #[test]
+    fn the_list_has_the_crates_that_are_read() {
+        let faults = |crates: &str| {
+            let page = format!("To believe the calls\n\n| A | B |\n|--|--|\n| all | {crates} |\n");
+            let believed = library().believed(&[READ], &[], |_| true);
+            unlisted(&read_list(&page), &believed)
+        };
+        assert!(faults("grid, `call`").is_empty());
+        let lacks = "the reading list lacks grid (crates/grid/specs/Walk.antt: `cells`, cited by \
+                     crates/grid/specs/Walk.antt: `rows`)";
+        assert_eq!(faults("call"), [lacks]);
+        let more = "the reading list has zeros, and no promise rests on it";
+        assert_eq!(faults("grid, call, zeros"), [more]);
+        assert_eq!(
+            faults("grid, call, grid"),
+            ["the reading list has grid twice"]
+        );
     }
 }

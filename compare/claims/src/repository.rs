@@ -2,21 +2,20 @@ use std::collections::{BTreeMap, BTreeSet};
 use std::fs;
 use std::path::Path;
 
-use crate::reading::Library;
+use crate::edits::{tries, Edit, Files};
+use crate::library::Library;
 use crate::{contracts, definitions};
 
 /// The crates of the repository, with what the page may name of them.
 pub struct Repository {
     crates: BTreeMap<String, Crate>,
     calls: BTreeSet<String>,
-    faults: Vec<String>,
-    library: Library,
 }
 
-#[derive(Default)]
 struct Crate {
-    edits: BTreeSet<String>,
-    names: BTreeSet<String>,
+    /// Of `src/`, `specs/` and `proofs/`.
+    files: Files,
+    edits: BTreeMap<String, Edit>,
 }
 
 impl Repository {
@@ -28,103 +27,139 @@ impl Repository {
             (name.into_owned(), Crate::read(&path))
         });
         let mut calls = BTreeSet::new();
-        each_file(&root.join("compare/compare/src/cases"), &mut |path| {
-            let text = fs::read_to_string(path).expect("text");
+        each_file(&root.join("compare/compare/src/cases"), &mut |_, text| {
             let named = text.split("NAME: &'static str = \"").skip(1);
             calls.extend(named.filter_map(|rest| rest.split('"').next().map(String::from)));
         });
-        let crates: BTreeMap<_, _> = crates.collect();
-        let (mut faults, mut library) = (Vec::new(), Library::default());
-        for name in crates.keys() {
-            let folder = root.join("crates").join(name);
-            each_file(&folder.join("src"), &mut |path| {
-                let text = fs::read_to_string(path).expect("text");
-                let place = path.strip_prefix(root.join("crates")).expect("below");
-                let found = contracts::faults(&text).into_iter();
-                faults.extend(found.map(|fault| format!("{}: {fault}", place.display())));
-                library.add_code(name, &text);
-            });
-            each_file(&folder.join("specs"), &mut |path| {
-                let text = fs::read_to_string(path).expect("text");
-                let file = path.file_stem().expect("a name").to_string_lossy();
-                library.add_definitions(name, &file, &text);
-            });
-        }
-        Self {
-            crates,
-            calls,
-            faults,
-            library,
-        }
+        let crates = crates.collect();
+        Self { crates, calls }
     }
 
     /// The crates' definitions and contracts, for the reading list.
-    pub fn library(&self) -> &Library {
-        &self.library
+    pub fn library(&self) -> Library {
+        let mut library = Library::default();
+        for (name, found) in &self.crates {
+            for (_, text) in found.of("src/") {
+                library.add_code(name, text);
+            }
+            for (file, text) in found.of("specs/") {
+                let file = file.trim_end_matches(".antt");
+                library.add_definitions(name, file, text);
+            }
+        }
+        library
     }
 
-    /// Public functions whose contracts are not what the page says of all.
-    pub fn faults(&self) -> &[String] {
-        &self.faults
+    /// Public functions whose contracts are not what the page says of all, or that fewer than two
+    /// edits try.
+    pub fn faults(&self) -> Vec<String> {
+        let mut faults = Vec::new();
+        for (name, found) in &self.crates {
+            for (file, text) in found.of("src/") {
+                let told = contracts::faults(text).into_iter();
+                faults.extend(told.map(|fault| format!("crates/{name}/src/{file}: {fault}")));
+            }
+            let few = found.tries().into_iter().filter(|(_, count)| *count < 2);
+            faults.extend(few.map(|(function, count)| {
+                format!("crates/{name}: {function} is public and has {count} must-fail edits")
+            }));
+        }
+        faults
+    }
+
+    /// How many public functions there are.
+    pub fn public_functions(&self) -> usize {
+        self.crates.values().map(|found| found.tries().len()).sum()
     }
 
     pub fn has_crate(&self, name: &str) -> bool {
         self.crates.contains_key(name)
     }
 
-    pub fn has_edit(&self, name: &str, label: &str) -> bool {
-        let found = self.crates.get(name);
-        found.is_some_and(|found| found.edits.contains(label))
-    }
-
     /// Whether a name is one that the crate defines.
     pub fn defines(&self, name: &str, word: &str) -> bool {
-        let found = self.crates.get(name);
-        found.is_some_and(|found| found.names.contains(word))
+        let found = &self.crates[name];
+        let code = found
+            .of("src/")
+            .flat_map(|(_, text)| definitions::of_code(text));
+        let specs = found.of("specs/");
+        let specs = specs.flat_map(|(_, text)| definitions::of_definitions(text));
+        code.chain(specs).any(|defined| defined == word)
+    }
+
+    pub fn defines_anywhere(&self, word: &str) -> bool {
+        self.crates.keys().any(|name| self.defines(name, word))
+    }
+
+    /// Whether a word stands in code or definitions.
+    pub fn speaks(&self, word: &str) -> bool {
+        let mut texts = self.crates.values().flat_map(|found| found.files.values());
+        texts.any(|text| {
+            text.split(|c| !definitions::part_of_name(c))
+                .any(|it| it == word)
+        })
     }
 
     pub fn compares(&self, call: &str) -> bool {
         self.calls.contains(call)
     }
 
-    pub fn edits(&self) -> impl Iterator<Item = (&str, &str)> {
+    /// Crate, label, edit, and why it cannot be made.
+    pub fn edits(&self) -> impl Iterator<Item = (&str, &str, &Edit, Option<String>)> {
         self.crates.iter().flat_map(|(name, found)| {
-            let labels = found.edits.iter();
-            labels.map(move |label| (name.as_str(), label.as_str()))
+            let edits = found.edits.iter();
+            edits.map(|(label, edit)| {
+                (
+                    name.as_str(),
+                    label.as_str(),
+                    edit,
+                    edit.fault(&found.files),
+                )
+            })
         })
     }
 }
 
 impl Crate {
     fn read(folder: &Path) -> Self {
-        let mut found = Self::default();
-        each_file(&folder.join("must-fail"), &mut |path| {
-            let label = path.file_stem().expect("a name").to_string_lossy();
-            found.edits.insert(label.into_owned());
-        });
-        let mut look = |part, names_of: fn(&str) -> Vec<&str>| {
-            each_file(&folder.join(part), &mut |path| {
-                let text = fs::read_to_string(path).expect("text");
-                let names = names_of(&text).into_iter();
-                found.names.extend(names.map(String::from));
+        let (mut files, mut edits) = (Files::new(), BTreeMap::new());
+        for part in ["src", "specs", "proofs"] {
+            each_file(&folder.join(part), &mut |file, text| {
+                files.insert(format!("{part}/{file}"), text);
             });
-        };
-        look("src", definitions::of_code);
-        look("specs", definitions::of_definitions);
-        found
+        }
+        each_file(&folder.join("must-fail"), &mut |file, text| {
+            let label = file.trim_end_matches(".edit");
+            edits.insert(label.to_string(), Edit::read(&text));
+        });
+        Self { files, edits }
+    }
+
+    /// The files of a part of the crate, by their place in it.
+    fn of(&self, part: &'static str) -> impl Iterator<Item = (&str, &str)> {
+        let files = self.files.iter();
+        files.filter_map(move |(file, text)| Some((file.strip_prefix(part)?, text.as_str())))
+    }
+
+    fn tries(&self) -> Vec<(String, usize)> {
+        tries(&self.files, &self.edits.values().collect::<Vec<_>>())
     }
 }
 
-/// All files of a folder and those below it; none where there is no such folder.
-fn each_file(folder: &Path, visit: &mut dyn FnMut(&Path)) {
+/// All files of a folder and those below it, by their place in it; none where there is no such
+/// folder.
+fn each_file(folder: &Path, visit: &mut dyn FnMut(&str, String)) {
     let Ok(entries) = fs::read_dir(folder) else {
         return;
     };
     for path in entries.map(|entry| entry.expect("an entry").path()) {
+        let name = path.file_name().expect("a name").to_string_lossy();
         if path.is_dir() {
-            each_file(&path, visit);
+            each_file(&path, &mut |file, text| {
+                visit(&format!("{name}/{file}"), text)
+            });
         } else {
-            visit(&path);
+            visit(&name, fs::read_to_string(&path).expect("text"));
         }
     }
 }

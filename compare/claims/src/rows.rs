@@ -1,9 +1,9 @@
 use crate::definitions::part_of_name;
 
-/// A row of the page: what is promised, the edits that are refused, and the test.
+/// A row of the page: its name, what is promised, and the test.
 pub struct Row<'a> {
+    pub name: &'a str,
     pub promise: &'a str,
-    pub edits: &'a str,
     pub test: &'a str,
 }
 
@@ -26,15 +26,23 @@ impl<'a> Row<'a> {
     }
 
     /// None for a head.
-    fn of([sentence, promise, edits, test]: [&'a str; 4]) -> Option<Self> {
-        let head = sentence.starts_with("--") || promise == "Promise" || promise == "Stopped by";
+    fn of([name, _, promise, test]: [&'a str; 4]) -> Option<Self> {
+        let head = name.starts_with("--") || name == "Row";
         (!head).then_some(Self {
+            name,
             promise,
-            edits,
             test,
         })
     }
+
+    /// Whether the row says that it is no promise of the code, or none yet, or made by other rows.
+    pub fn promises(&self) -> bool {
+        !NO_PROMISE.iter().any(|word| self.promise.starts_with(word))
+    }
 }
+
+/// How the promise begins of a row that has none of its own.
+const NO_PROMISE: [&str; 3] = ["not a promise", "a run, not a proof", "other rows"];
 
 /// The four cells of a line, which begins and ends with a bar.
 fn cells(line: &str) -> Option<[&str; 4]> {
@@ -43,16 +51,12 @@ fn cells(line: &str) -> Option<[&str; 4]> {
     cells.try_into().ok()
 }
 
-/// Edits with their crate, as `a, b (crate), c (other)`.
-pub fn edits(cell: &str) -> impl Iterator<Item = (&str, &str)> {
-    let parts = cell.split(')').filter(|part| !part.trim().is_empty());
-    parts.flat_map(|part| {
-        let (labels, name) = part.split_once('(').unwrap_or((part, "?"));
-        let labels = labels.split(',').map(str::trim);
-        labels
-            .filter(|label| !label.is_empty())
-            .map(move |label| (name, label))
-    })
+/// The calls that the page lists, crate and function: the lines of its part "The calls".
+pub fn calls(page: &str, opens: impl Fn(&str) -> bool) -> Vec<(&str, &str)> {
+    let part = page.lines().skip_while(|line| *line != "## The calls");
+    let part = part.skip(1).take_while(|line| !line.starts_with("## "));
+    let listed = part.filter(|line| line.starts_with("- "));
+    listed.flat_map(|line| names(line, &opens)).collect()
 }
 
 /// Names in backquotes, each with the last word before it that is an opener.
@@ -70,7 +74,7 @@ pub fn names(cell: &str, opens: impl Fn(&str) -> bool) -> Vec<(&str, &str)> {
     found
 }
 
-fn is_name(word: &str) -> bool {
+pub fn is_name(word: &str) -> bool {
     word.chars().all(part_of_name)
 }
 
@@ -79,13 +83,21 @@ mod tests {
     use super::*;
 
     #[test]
+    fn calls_are_listed() {
+        let page = "a `b`\n## The calls\ntext `c`\n- d: e `f`, `g`; h `i`\n\n## More\n- e `j`\n";
+        let found = calls(page, |word| word == "e" || word == "h");
+        assert_eq!(found, [("e", "f"), ("e", "g"), ("h", "i")]);
+    }
+
+    #[test]
     fn rows_are_read_and_heads_are_not() {
-        let page = "text\n\n| Sentence | Promise | Edits | Test |\n|--|--|--|--|\n\
-                    | a | b `c` | d (e) | f |\n\ntext\n";
+        let page = "text\n\n| Row | Sentence | Promise | Test |\n|--|--|--|--|\n\
+                    | a-1 | b | c `d` | f |\n| a-2 | b | not a promise of the code: c | |\n\ntext\n";
         let (rows, others) = Row::read_all(page);
-        let row = |row: &Row<'static>| (row.promise, row.edits, row.test);
-        let found: Vec<_> = rows.iter().map(row).collect();
-        assert_eq!(found, [("b `c`", "d (e)", "f")]);
+        let row = |row: &Row<'static>| (row.name, row.promise, row.test);
+        assert_eq!(row(&rows[0]), ("a-1", "c `d`", "f"));
+        assert_eq!(rows.len(), 2);
+        assert!(rows[0].promises() && !rows[1].promises());
         assert!(others.is_empty());
     }
 
@@ -98,14 +110,6 @@ mod tests {
         assert_eq!(others("a | b | c | d |"), [1]);
         assert_eq!(others("| a | b | c | d |\ntext"), [2]);
         assert!(others("| a | b |  | |\n\ntext").is_empty());
-    }
-
-    #[test]
-    fn edits_belong_to_the_crate_behind_them() {
-        let found: Vec<_> = edits("a, b (x), c (y)").collect();
-        assert_eq!(found, [("x", "a"), ("x", "b"), ("y", "c")]);
-        assert_eq!(edits("a").collect::<Vec<_>>(), [("?", "a")]);
-        assert_eq!(edits("").count(), 0);
     }
 
     #[test]

@@ -4,13 +4,14 @@
 use std::collections::{BTreeMap, BTreeSet};
 
 use crate::definitions::without;
+use crate::subjects::KIT;
 use crate::words::{bound, cited, words};
 
 /// A file of definitions: its crate and its name.
 pub type Named = (String, String);
 
 /// A name of a file of definitions.
-#[derive(Clone, PartialEq, Eq, PartialOrd, Ord)]
+#[derive(Clone, Debug, PartialEq, Eq, PartialOrd, Ord)]
 pub struct Place {
     pub file: Named,
     pub name: String,
@@ -18,13 +19,19 @@ pub struct Place {
 
 impl std::fmt::Display for Place {
     fn fmt(&self, to: &mut std::fmt::Formatter) -> std::fmt::Result {
-        let (in_crate, file) = &self.file;
-        write!(to, "{in_crate} {file} (`{}`)", self.name)
+        write!(to, "{}: `{}`", path_of(&self.file), self.name)
     }
+}
+
+/// A file as the repository has it.
+pub fn path_of((in_crate, file): &Named) -> String {
+    format!("crates/{in_crate}/specs/{file}.antt")
 }
 
 #[derive(Default)]
 pub struct File {
+    /// How many lines it has.
+    pub lines: usize,
     pub imports: Imports,
     pub declared: BTreeMap<String, Declaration>,
 }
@@ -32,8 +39,28 @@ pub struct File {
 /// Where the names come from that a file imports: by name, or by a module's other name.
 #[derive(Default)]
 pub struct Imports {
-    names: BTreeMap<String, Place>,
-    modules: BTreeMap<String, Named>,
+    names: BTreeMap<String, Source>,
+    modules: BTreeMap<String, Module>,
+}
+
+/// What a module is.
+#[derive(Clone)]
+enum Module {
+    /// A file of definitions.
+    File(Named),
+    /// A type that the code of a crate declares.
+    Type(Named),
+    Kit,
+}
+
+/// Where a word comes from.
+#[derive(Clone, PartialEq, Eq, Debug)]
+pub enum Source {
+    /// A file of definitions.
+    Definitions(Place),
+    /// A type that the code of a crate declares: the crate and its name.
+    Type(Named),
+    Kit,
 }
 
 #[derive(Default)]
@@ -78,6 +105,7 @@ impl File {
             }
         }
         reader.end_item();
+        reader.file.lines = source.lines().count();
         reader.file
     }
 }
@@ -134,10 +162,12 @@ impl<'a> Reader<'a> {
         }
         // Sections may declare one name each: it stands for all of these.
         let found = item.declaration();
-        let declared = self.file.declared.entry(item.name.to_string()).or_default();
-        declared.defines |= found.defines;
-        declared.cites.extend(found.cites);
-        declared.lines += found.lines;
+        for name in spoken(item.name) {
+            let declared = self.file.declared.entry(name.to_string()).or_default();
+            declared.defines |= found.defines;
+            declared.cites.extend(found.cites.iter().cloned());
+            declared.lines += found.lines;
+        }
     }
 }
 
@@ -246,40 +276,83 @@ impl Imports {
         };
         let rest = rest.trim_end_matches(';');
         if let Some((module, names)) = rest.split_once(".{") {
-            let Some(file) = module_of(module) else {
-                return true;
-            };
+            let module = module_of(module);
             for name in names.trim_end_matches('}').split(',').map(str::trim) {
                 let (name, here) = name.split_once(" as ").unwrap_or((name, name));
-                let (file, name) = (file.clone(), name.to_string());
-                self.names.insert(here.to_string(), Place { file, name });
+                let source = source_of(&module, name);
+                for word in spoken(here) {
+                    self.names.insert(word.to_string(), source.clone());
+                }
             }
         } else if let Some((module, here)) = rest.split_once(" as ") {
-            let file = module_of(module);
-            self.modules
-                .extend(file.map(|file| (here.to_string(), file)));
+            self.modules.insert(here.to_string(), module_of(module));
         }
         true
     }
 
-    /// Where a word comes from, be it `name` or `module.name`.
-    pub fn source(&self, word: &str) -> Option<Place> {
-        if let Some(place) = self.names.get(word) {
-            return Some(place.clone());
+    /// Where a word comes from, be it `name`, `module.name` or `Type.constructor`. None where the
+    /// file imports no such word.
+    pub fn source(&self, word: &str) -> Option<Source> {
+        if let Some(source) = self.names.get(word) {
+            return Some(source.clone());
         }
-        let (module, name) = word.split_once('.')?;
-        let (file, name) = (self.modules.get(module)?.clone(), name.to_string());
-        Some(Place { file, name })
+        if let Some((module, name)) = word.rsplit_once('.') {
+            if is_path(word) {
+                return Some(source_of(&module_of(module), name));
+            }
+            if let Some(module) = self.modules.get(module) {
+                return Some(source_of(module, name));
+            }
+        }
+        self.names.get(word.split_once('.')?.0).cloned()
     }
 }
 
-/// Crate and file of a module of definitions, `Rattle.CRATE.specs.FILE` or, inside the crate,
-/// `Rattle.CRATE.specs.FILE`. None for other modules, and for types that the code declares.
-fn module_of(path: &str) -> Option<Named> {
-    let path = path.strip_prefix("Rattle·")?;
-    let (in_crate, file) = path.split_once(".specs.")?;
+fn source_of(module: &Module, name: &str) -> Source {
+    match module.clone() {
+        Module::File(file) => Source::Definitions(Place {
+            file,
+            name: name.to_string(),
+        }),
+        Module::Type(of_code) => Source::Type(of_code),
+        Module::Kit => Source::Kit,
+    }
+}
+
+/// Whether a word is a whole path to a name.
+fn is_path(word: &str) -> bool {
+    let roots = ["Rattle·", "lib.", "mathlib.", "native.", "Prim.", "borrow."];
+    roots.iter().any(|root| word.starts_with(root))
+}
+
+/// How a name is spoken: an operator, `_&&_`, by what stands between the gaps.
+pub fn spoken(name: &str) -> Vec<&str> {
+    if name.starts_with('_') || name.ends_with('_') {
+        name.split('_').filter(|part| !part.is_empty()).collect()
+    } else {
+        vec![name]
+    }
+}
+
+/// `Rattle.CRATE.specs.FILE` or, inside the crate, `Rattle.CRATE.specs.FILE` is a file of
+/// definitions, `.specs.laws.FILE` one of laws, `.specs.declared.TYPE` a type of the code.
+fn module_of(path: &str) -> Module {
+    let found = path.strip_prefix("Rattle·");
+    let Some((in_crate, file)) = found.and_then(|path| path.split_once(".specs.")) else {
+        return Module::Kit;
+    };
     let in_crate = in_crate.strip_suffix("·specs").unwrap_or(in_crate);
-    (!file.contains('.')).then(|| (in_crate.to_string(), file.to_string()))
+    let of_crate = |name: &str| (in_crate.to_string(), name.replace('.', "/"));
+    if KIT.contains(&in_crate) {
+        return Module::Kit;
+    }
+    match file.strip_prefix("declared.") {
+        Some(path) => {
+            let path = path.trim_end_matches(".the-variants");
+            Module::Type(of_crate(path.rsplit('.').next().unwrap_or(path)))
+        }
+        None => Module::File(of_crate(file)),
+    }
 }
 
 fn without_comment(line: &str) -> &str {
@@ -357,12 +430,21 @@ mod tests {
         assert!(imports.take("ghost use Rattle.bits.specs.Bits.{d};"));
         assert!(imports.take("use Rattle.layout.specs.Walk as walk"));
         assert!(imports.take("use Rattle.refusal.specs.declared.Said.{Said}"));
+        assert!(imports.take("use Rattle.layout.specs.laws.Walk.{e}"));
+        assert!(imports.take("use lib.Dec.{_&&_}"));
         assert!(!imports.take("f : use"));
-        let source = |word| imports.source(word).map(|place| place.to_string());
-        assert_eq!(source("c").as_deref(), Some("bits Reads (`b`)"));
-        assert_eq!(source("d").as_deref(), Some("bits Bits (`d`)"));
-        assert_eq!(source("walk.rows").as_deref(), Some("layout Walk (`rows`)"));
-        assert_eq!(source("b"), None);
-        assert_eq!(source("Said"), None);
+        let told = |word| match imports.source(word) {
+            Some(Source::Definitions(place)) => place.to_string(),
+            other => format!("{other:?}"),
+        };
+        assert_eq!(told("c"), "crates/bits/specs/Reads.antt: `b`");
+        assert_eq!(told("d"), "crates/bits/specs/Bits.antt: `d`");
+        assert_eq!(told("e"), "crates/layout/specs/laws/Walk.antt: `e`");
+        assert_eq!(told("walk.rows"), "crates/layout/specs/Walk.antt: `rows`");
+        let path = "Rattle.layout.specs.Walk.rows";
+        assert_eq!(told(path), "crates/layout/specs/Walk.antt: `rows`");
+        assert_eq!(told("b"), "None");
+        assert_eq!(told("Said.Refused"), r#"Some(Type(("refusal", "Said")))"#);
+        assert_eq!(told("&&"), "Some(Kit)");
     }
 }

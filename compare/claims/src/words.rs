@@ -26,7 +26,7 @@ pub fn words(text: &str) -> Vec<&str> {
 }
 
 /// Words of the language itself.
-const KEPT: [&str; 11] = [
+const KEPT: &[&str] = &[
     "_",
     "module",
     "where",
@@ -34,10 +34,18 @@ const KEPT: [&str; 11] = [
     "in",
     "record",
     "data",
+    "pub",
     "unfolding",
     "refl",
     "requires",
     "ensures",
+    "now",
+    "self",
+    "Type",
+    "×",
+    "⊥",
+    "Unit",
+    "tt",
 ];
 
 fn is_mark(c: char) -> bool {
@@ -67,18 +75,21 @@ pub fn bound<'a>(words: &[&'a str]) -> BTreeSet<&'a str> {
     names
 }
 
-/// The words of a text that may name what stands elsewhere: neither bound, nor a field that a record
-/// sets (`{ a = ..; b = .. }`).
+/// The words of a text that name what stands elsewhere: neither bound, nor a number, nor a field that
+/// a record sets (`{ a = ..; b = .. }`), nor a name of the code (`«a_b»`).
 pub fn cited<'a>(words: &[&'a str], bound: &BTreeSet<&str>) -> Vec<&'a str> {
     let sets = |place: usize| {
         let behind = words.get(place + 1);
         let before = place.checked_sub(1).map(|place| words[place]);
         behind == Some(&"=") && matches!(before, Some("{" | ";"))
     };
+    let of_code = |place: usize| place > 0 && words[place - 1] == "«";
     let free = |&(place, word): &(usize, &&str)| {
         is_word(word)
             && !KEPT.contains(word)
             && !word.starts_with('.')
+            && !word.starts_with(|c: char| c.is_ascii_digit())
+            && !of_code(place)
             && !bound.contains(*word)
             && !sets(place)
     };

@@ -11,3 +11,4 @@ pub mod Turns
 pub mod Step
 pub mod Due
 pub mod WorkLaws
+pub mod Symbols

@@ -7,3 +7,4 @@ pub mod Counts
 pub mod Lent
 pub mod Items
 pub mod Kept
+pub mod Contexts

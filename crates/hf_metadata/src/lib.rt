@@ -5,7 +5,7 @@ use layout_reading::reading::read;
 use refusal::Refusal;
 ghost use mathlib.Core.Path.{_≡_};
 ghost use Rattle.hf_metadata.specs.Call.{inputs, leaves, layoutOf};
-ghost use Rattle.hf_metadata.specs.CallSteps.{answerBy};
+ghost use Rattle.hf_metadata.specs.laws.CallSteps.{answerBy};
 
 // Accepted with the number of columns used, or refused.
 pub enum LayoutAnswer {

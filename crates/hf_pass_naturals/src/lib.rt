@@ -7,7 +7,7 @@ ghost use Prim.Native.Nat.{_+_, _*_, _≤_, _<_};
 ghost use lib.ListN.{length};
 ghost use lib.Seq.{paste};
 ghost use Rattle.block_sizes.specs.BlockSizes.{widthOf, heightOf};
-ghost use Rattle.hf_pass_naturals.specs.Naturals.{wholeStore, naturalStore, threeOf};
+ghost use Rattle.hf_pass_naturals.specs.laws.Naturals.{wholeStore, naturalStore, threeOf};
 
 // The first n numbers, written again from `to` on.
 fn copy_to(list: &mut [u16], to: usize, n: usize)

@@ -2,12 +2,7 @@
 use mathlib.Core.Bool.{Bool, cond, not, _&&_}
 use Prim.Native.Nat.{ℕ, _+_, _%_, _^_}
 use lib.Dec.{leb, ltb}
-use Rattle.refusal.specs.declared.Said.{Said}
-use Rattle.refusal.specs.Said.{at, said}
 use Rattle.dct_select.specs.Transforms.{COUNT, wide, high}
-use Rattle.layout_column.specs.declared.Varblock.{Varblock}
-use Rattle.layout_column.specs.declared.Judged.{Judged}
-use Rattle.layout_column.specs.declared.Judged.the-variants.{Asks, Refused as NotAsked}
 
 -- the type's low eight bits
 abbrev pub lowEight : ℕ → ℕ
@@ -28,18 +23,3 @@ checks refused next t h x y =
     (cond (not (positive h)) (refused 6)
     (cond (ltb 32 (x % 32 + wide t)) (refused 7)
     (cond (ltb 32 (y % 32 + high t)) (refused 7) next)))
-
--- what a column asks for, or a refusal's number and position
-pub data Asking : Type 0 where
-  asks : Varblock → Asking
-  refuses : Said → Asking
-
-abbrev pub saidJudged : Judged → Asking
-saidJudged (Asks v) = asks v
-saidJudged (NotAsked r) = refuses (said r)
-
-abbrev pub varblockOf : ℕ → ℕ → Varblock
-varblockOf t h = record { kind = 2 + t; «hf_mul» = h; wide = wide t; high = high t }
-
-unfoldable pub judgedOf : ℕ → ℕ → ℕ → ℕ → Asking
-judgedOf t h x y = checks (λ (n : ℕ). refuses (at n x y)) (asks (varblockOf t h)) t h x y

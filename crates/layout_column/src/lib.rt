@@ -3,10 +3,11 @@ use dct_select::Looked;
 use dct_select::TransformType;
 use refusal::Refusal;
 ghost use mathlib.Core.Path.{_≡_};
-ghost use Rattle.layout_column.specs.Columns.{lowEight, hfMulOf, saidJudged, judgedOf};
+ghost use Rattle.layout_column.specs.Columns.{lowEight, hfMulOf};
+ghost use Rattle.layout_column.specs.laws.Columns.{saidJudged, judgedOf};
 
 // What a column asks for: the kind of its corner, hf_mul, and the blocks across and down.
-pub struct Varblock {
+pub struct JudgedColumn {
     pub kind: u8,
     pub hf_mul: u32,
     pub wide: usize,
@@ -15,7 +16,7 @@ pub struct Varblock {
 
 // A column by itself at a block: it asks for a varblock inside a square of 32 x 32 blocks, or is refused.
 pub enum Judged {
-    Asks(Varblock),
+    Asks(JudgedColumn),
     Refused(Refusal),
 }
 
@@ -45,7 +46,7 @@ pub fn judge(transform: u32, mul: u32, x: usize, y: usize) -> Judged
         return Judged::Refused(Refusal::Border(x, y));
     }
     let kind = (2 + t) as u8;
-    Judged::Asks(Varblock {
+    Judged::Asks(JudgedColumn {
         kind,
         hf_mul,
         wide,

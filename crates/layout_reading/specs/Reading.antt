@@ -7,8 +7,6 @@ use lib.ListN.{length, getD, set, replicate}
 use lib.Ieee.{Float}
 use Rattle.refusal.specs.declared.Said.{Said}
 use Rattle.refusal.specs.Said as refusals
-use Rattle.layout_reading.specs.declared.column.Step.{Step}
-use Rattle.layout_reading.specs.declared.column.Step.the-variants.{Going as GoesOn, Stopped as Stops}
 use Rattle.dct_select.specs.Transforms.{wide, high}
 use Rattle.layout.specs.Walk.{walk}
 use Rattle.layout.specs.Grid.{at}
@@ -33,7 +31,7 @@ pub record Job : Type 0 where
 pub record Placed : Type 0 where
   pub used : ℕ
   pub kinds : List ℕ
-  pub muls : List ℕ
+  pub hfMul : List ℕ
   pub sigma : List ℕ
 
 pub data Reading : Type 0 where
@@ -51,7 +49,7 @@ placed bw kind h x y p (Taking kinds sigma) =
     Going (record {
       used = p .used + 1;
       kinds = set kinds (y * bw + x) kind;
-      muls = set (p .muls) (y * bw + x) h;
+      hfMul = set (p .hfMul) (y * bw + x) h;
       sigma = sigma;
     })
 
@@ -83,14 +81,10 @@ module _ (J : Job) where
   zeros = replicate (J .bh * J .bw) 0
 
   abbrev pub start : Placed
-  start = record { used = 0; kinds = zeros; muls = zeros; sigma = zeros }
+  start = record { used = 0; kinds = zeros; hfMul = zeros; sigma = zeros }
 
   unfoldable pub reading : Reading
   reading = walk visit (J .bw) (J .bh) (Going start)
-
--- the state and the job by their fields, as the code has them
-abbrev pub stateOf : ℕ → List ℕ → List ℕ → List ℕ → Placed
-stateOf used kinds muls sigma = record { used = used; kinds = kinds; muls = muls; sigma = sigma }
 
 abbrev pub jobWith : ℕ → ℕ → List ℕ → List ℕ → List ℕ → ScaledFilter → List Float → Job
 jobWith bw bh types muls sharpness filter lookups =
@@ -99,8 +93,3 @@ jobWith bw bh types muls sharpness filter lookups =
 -- the job of a filter that is not scaled yet
 abbrev pub jobBy : ℕ → ℕ → List ℕ → List ℕ → List ℕ → Filter → List Float → ℕ → Job
 jobBy bw bh types muls sharpness filter lookups scale = jobWith bw bh types muls sharpness (scaledBy filter scale) lookups
-
--- a reading from what the code answers and what it left in kinds, hf_mul and sigma
-abbrev pub stepped : Step → List ℕ → List ℕ → List ℕ → Reading
-stepped (GoesOn used) kinds muls sigma = Going (stateOf used kinds muls sigma)
-stepped (Stops r) kinds muls sigma = Stopped (refusals.said r)

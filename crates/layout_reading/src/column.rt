@@ -3,14 +3,15 @@ use crate::scan::Scanned;
 use crate::scan::scan;
 use filter_strength::ScaledFilter;
 use layout_column::Judged;
-use layout_column::Varblock;
+use layout_column::JudgedColumn;
 use layout_column::judge;
 use refusal::Refusal;
 ghost use mathlib.Core.Path.{_≡_};
 ghost use Prim.Native.Nat.{_+_, _*_, _≤_, _<_};
 ghost use lib.ListN.{length};
-ghost use Rattle.filter_strength.specs.Finite.{ScaledBounded};
-ghost use Rattle.layout_reading.specs.Reading.{Going, place as placeOf, visit as visitOf, stateOf, stepped, jobWith};
+ghost use Rattle.filter_strength.specs.laws.Finite.{ScaledBounded};
+ghost use Rattle.layout_reading.specs.Reading.{Going, place as placeOf, visit as visitOf, jobWith};
+ghost use Rattle.layout_reading.specs.laws.Reading.{stateOf, stepped};
 
 // The reading goes on with that many columns used, or stops.
 pub enum Step {
@@ -28,7 +29,7 @@ fn place(
     filter: ScaledFilter,
     bw: usize,
     bh: usize,
-    v: Varblock,
+    v: JudgedColumn,
     used: usize,
     x: usize,
     y: usize,

@@ -9,10 +9,12 @@ use refusal::Refusal;
 ghost use mathlib.Core.Path.{_≡_};
 ghost use Prim.Native.Nat.{_*_, _≤_};
 ghost use lib.ListN.{length};
-ghost use Rattle.filter_strength.specs.Finite.{ScaledBounded};
+ghost use Rattle.filter_strength.specs.laws.Finite.{ScaledBounded};
 ghost use Rattle.layout.specs.Walk.{walk};
-ghost use Rattle.layout_reading.specs.Reading.{Going, visit as visitOf, reading as readingOf, stateOf, stepped, jobWith, jobBy};
-ghost use Rattle.layout_reading.specs.Outcome.{handed, outcomeOf, readOf};
+ghost use Rattle.layout_reading.specs.Reading.{Going, visit as visitOf, reading as readingOf, jobWith, jobBy};
+ghost use Rattle.layout_reading.specs.laws.Reading.{stateOf, stepped};
+ghost use Rattle.layout_reading.specs.Outcome.{outcomeOf};
+ghost use Rattle.layout_reading.specs.laws.Outcome.{handed, readOf};
 
 // All blocks, over lengths that fit.
 fn read_blocks(

@@ -4,7 +4,6 @@ use mathlib.Core.List.{List}
 use Prim.Native.Nat.{ℕ, _+_, _*_, _/_}
 use lib.Dec.{leb, eqb}
 use lib.ListN.{getD}
-use Rattle.lf_group.specs.declared.Blocks.{Blocks}
 
 -- width and height, 1 to 2,048
 abbrev pub sizeFits : ℕ → ℕ → Bool
@@ -29,11 +28,8 @@ abbrev pub evenIf : Bool → ℕ → ℕ
 evenIf even n = cond even ((n + 1) / 2 * 2) n
 
 -- bw is made even if a mode is 1 or 2, bh if one is 1 or 3
-unfoldable pub wideIn : ℕ → List ℕ → ℕ
-wideIn width modes = evenIf (anyEither modes 1 2) (blocks width)
+unfoldable pub bwIn : ℕ → List ℕ → ℕ
+bwIn width modes = evenIf (anyEither modes 1 2) (blocks width)
 
-unfoldable pub highIn : ℕ → List ℕ → ℕ
-highIn height modes = evenIf (anyEither modes 1 3) (blocks height)
-
-abbrev pub blocksOf : ℕ → ℕ → List ℕ → Blocks
-blocksOf width height modes = record { bw = wideIn width modes; bh = highIn height modes }
+unfoldable pub bhIn : ℕ → List ℕ → ℕ
+bhIn height modes = evenIf (anyEither modes 1 3) (blocks height)

@@ -1,6 +1,7 @@
 // An LF group: its size in pixels and in blocks (document 01, Layout and filter strength).
 ghost use mathlib.Core.Path.{_≡_};
-ghost use Rattle.lf_group.specs.Blocks.{sizeFits, modesFit, isEither, anyEither, blocks, evenIf, blocksOf};
+ghost use Rattle.lf_group.specs.Blocks.{sizeFits, modesFit, isEither, anyEither, blocks, evenIf};
+ghost use Rattle.lf_group.specs.laws.Blocks.{blocksOf};
 
 // Width and height in blocks.
 pub struct Blocks {

@@ -14,13 +14,13 @@ saidLike LikeAnswer.Unlike = gives false
 saidLike (LikeAnswer.Refused r) = refuses (said r)
 
 abbrev pub sided : Lent → Bool
-sided L = inLimits 256 (L .wide) (L .high)
+sided L = inLimits 256 (L .bw) (L .bh)
 
 abbrev pub filled : Lent → Bool
-filled L = lengthsFit (L .wide) (L .high) (length (L .kinds)) (length (L .muls))
+filled L = lengthsFit (L .bw) (L .bh) (length (L .kinds)) (length (L .hfMul))
 
 abbrev pub holdsLayout : Lent → Bool
-holdsLayout L = isLayout (L .wide) (L .high) (L .kinds) (L .muls)
+holdsLayout L = isLayout (L .bw) (L .bh) (L .kinds) (L .hfMul)
 
 -- each number is tried over both layouts before the next; yes exactly for the same rectangles and hf_mul (Theorems: like-yes, like-no)
 unfoldable pub likeOf : Lent → Lent → Answer Bool

@@ -9,7 +9,7 @@ use refusal::Refusal;
 ghost use mathlib.Core.Path.{_≡_};
 ghost use lib.ListN.{length};
 ghost use Rattle.layout.specs.Like.{lent, alikeCell, alikeFrom};
-ghost use Rattle.block_sides.specs.Sizes.{widths, heights};
+ghost use Rattle.block_sides.specs.laws.Sizes.{widths, heights};
 ghost use Rattle.likeness.specs.Calls.{saidLike, likeOf};
 
 pub enum LikeAnswer {

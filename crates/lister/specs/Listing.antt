@@ -4,7 +4,7 @@ use mathlib.Core.List.{List, [], _∷_}
 use Prim.Native.Nat.{ℕ, _*_}
 use lib.ListN.{replicate}
 use lib.Ieee.{Float}
-use Rattle.lf_group.specs.Blocks.{wideIn, highIn}
+use Rattle.lf_group.specs.Blocks.{bwIn, bhIn}
 use Rattle.filter_strength.specs.declared.Filter.the-variants.{Off}
 use Rattle.filter_strength.specs.Strength.{zero32}
 use Rattle.hf_metadata.specs.Call.{Answer, accepted, refused, Outcome, Inputs, inputs, layoutOf}
@@ -20,10 +20,10 @@ abbrev pub MODES : List ℕ
 MODES = 0 ∷ 0 ∷ 0 ∷ []
 
 abbrev pub bwOf : ℕ → ℕ
-bwOf w = wideIn w MODES
+bwOf w = bwIn w MODES
 
 abbrev pub bhOf : ℕ → ℕ
-bhOf h = highIn h MODES
+bhOf h = bhIn h MODES
 
 module _ (w h : ℕ) (ts ms : List ℕ) where
   abbrev pub blocks : ℕ

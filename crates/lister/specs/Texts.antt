@@ -1,11 +1,8 @@
 -- The lines that the lister prints (document 01, The lister).
-use mathlib.Core.Bool.{cond}
 use mathlib.Core.List.{List, [], _∷_, _++_}
 use Prim.Native.Nat.{ℕ, _-_}
-use lib.Dec.{leb}
-use Rattle.layout.specs.Grid.{at}
 use Rattle.refusal.specs.declared.Said.{Said}
-use Rattle.layout.specs.Varblocks.{Varblock, varblock, varblocksOf, area}
+use Rattle.layout.specs.Varblocks.{Varblock, varblocksOf, area}
 use Rattle.text.specs.Text.{decimal}
 
 -- "blocks ", "area ", "refused " and "bad input" with a line end
@@ -30,7 +27,7 @@ last n = decimal n ++ (10 ∷ [])
 
 -- x, y, type, hf_mul of a varblock
 abbrev pub lineOf : Varblock → List ℕ
-lineOf v = spaced (v .x) ++ (spaced (v .y) ++ (spaced (v .type) ++ last (v .mul)))
+lineOf v = spaced (v .x) ++ (spaced (v .y) ++ (spaced (v .type) ++ last (v .hfMul)))
 
 unfoldable pub linesOf : List Varblock → List ℕ
 linesOf [] = []
@@ -44,7 +41,3 @@ acceptedText bw bh kinds hfMul =
 -- number, x, y
 abbrev pub refusedText : Said → List ℕ
 refusedText r = REFUSED ++ (spaced (r .number) ++ (spaced (r .x) ++ last (r .y)))
-
--- the line of a block, nothing where it is no corner
-abbrev pub lineAt : ℕ → List ℕ → List ℕ → ℕ → ℕ → List ℕ
-lineAt bw kinds hfMul x y = cond (leb 2 (at kinds bw x y)) (lineOf (varblock x y (at kinds bw x y - 2) (at hfMul bw x y))) []

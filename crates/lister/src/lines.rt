@@ -5,7 +5,8 @@ ghost use Prim.Native.Nat.{_*_, _-_, _≤_, _<_};
 ghost use lib.ListN.{length};
 ghost use Rattle.layout.specs.Varblocks.{varblock, varblocksOf, area};
 ghost use Rattle.text.specs.Text.{Puts};
-ghost use Rattle.lister.specs.Texts.{lineOf, linesOf, acceptedText, refusedText, lineAt};
+ghost use Rattle.lister.specs.Texts.{lineOf, linesOf, acceptedText, refusedText};
+ghost use Rattle.lister.specs.laws.Texts.{lineAt};
 
 fn put_varblock(out: &mut [u8], at: usize, x: usize, y: usize, number: usize, hf_mul: u32) -> usize
     ensures { λ r. ⌜ Puts (now (out .entry)) at (lineOf (varblock x y number «hf_mul»)) (now (out .exit)) r ⌝ }

@@ -1,10 +1,9 @@
 -- The lister's job (document 01, The lister): command bytes 10 size, 11 column, 00 end, hexadecimal; numbers little-endian.
-use mathlib.Core.Path.{_≡_}
 use mathlib.Core.Bool.{Bool, cond, _&&_}
-use mathlib.Core.List.{List, _++_}
+use mathlib.Core.List.{List}
 use Prim.Native.Nat.{ℕ, zero, suc, _+_, _-_, _*_, _/_}
 use lib.Dec.{leb, ltb, eqb}
-use lib.ListN.{length, getD, drop}
+use lib.ListN.{length, getD}
 use Rattle.laws.specs.Lists.{tabulate}
 
 -- where column k begins, of 9 bytes each
@@ -74,13 +73,3 @@ module _ (s : List ℕ) where
   -- how many bytes are asked for behind s, read so: none behind the end of a job, none behind a record or command that no job has there
   unfoldable pub needed : ℕ
   needed = cond (ltb (length s) 5) sizeNeeds (cond hasSize (columnNeeds ((length s - 5) / 9)) 0)
-
--- the first n places hold f 0, f 1, .., the rest is as it came
-abbrev pub prefixed : (ℕ → ℕ) → ℕ → List ℕ → List ℕ
-prefixed f n d = tabulate f n 0 ++ drop n d
-
--- what the code reads of the columns: how many, and what it leaves in the lent lists
-pub record ReadColumns (s : List ℕ) (n : ℕ) (types muls types′ muls′ : List ℕ) : Type 0 where
-  pub count : n ≡ columns s
-  pub typesAre : types′ ≡ prefixed (typeAt s) n types
-  pub mulsAre : muls′ ≡ prefixed (mulAt s) n muls

@@ -2,7 +2,8 @@
 ghost use mathlib.Core.Path.{_≡_};
 ghost use Prim.Native.Nat.{_+_, _≤_, _<_};
 ghost use lib.ListN.{length};
-ghost use Rattle.lister_job.specs.Job.{number16 as number16Of, number32 as number32Of, columnPlace, hasSize, sizeNeeds, columnNeeds, needed as neededOf, ReadColumns};
+ghost use Rattle.lister_job.specs.Job.{number16 as number16Of, number32 as number32Of, columnPlace, hasSize, sizeNeeds, columnNeeds, needed as neededOf};
+ghost use Rattle.lister_job.specs.laws.Job.{ReadColumns};
 
 fn wide(x: u8) -> u32
     ensures { λ r. ⌜ r ≡ x ⌝ }

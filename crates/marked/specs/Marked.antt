@@ -1,37 +1,29 @@
 -- Document 01's marked examples, as rows of one list under one theorem.
-use mathlib.Core.Path.{_≡_, refl}
+use mathlib.Core.Path.{_≡_}
 use mathlib.Core.Bool.{false}
 use mathlib.Core.List.{List, [], _∷_, _++_}
 use Prim.Native.Nat.{ℕ, _*_, _%_, _^_, _-_, _<_}
 use lib.IntN.{pos, negsuc}
 use lib.ListN.{length, getD, take, drop, replicate}
-use lib.Ieee.{Float, fin, le, lt, eq, mul, div, ofInt, toBits, round, size, span, climb, units, odd}
-use lib.Count.{trailingZeros}
+use lib.Ieee.{Float, fin, mul}
 use Rattle.refusal.specs.declared.Refusal.the-variants.{Preset}
 use Rattle.refusal.specs.Said.{at, said}
 use Rattle.bits.specs.Bits.{Value}
-use Rattle.dct_select.specs.Transforms.{TRANSFORMS, wide, high}
 use Rattle.natural_order.specs.Natural.{natural}
-use Rattle.layout.specs.Walk.{cells, rows}
 use Rattle.layout.specs.Varblocks.{varblock, varblocksOf, area}
-use Rattle.lf_group.specs.Blocks.{wideIn, highIn}
 use Rattle.filter_strength.specs.declared.Filter.the-variants.{On}
-use Rattle.filter_strength.specs.Strength.{nearest, scaledBy, dividedBy, m8}
-use Rattle.filter_strength.specs.Limits.{inLimits}
-use Rattle.layout_reading.specs.Scan.{takeCell, scan}
-use Rattle.layout_reading.specs.Reading.{place, judge, column, reading}
-use Rattle.hf_metadata.specs.Call.{Outcome, accepted, refused, inputs, layoutOf}
-use Rattle.accepted_layout.specs.Marked.{off, m4, m4-varblocks, m4-area, m5, m5-refused, m6, m6-refused}
+use Rattle.filter_strength.specs.Strength.{nearest}
+use Rattle.refusal.specs.Answer as answer
+use Rattle.hf_metadata.specs.Call.{Outcome, inputs, layoutOf}
+use Rattle.accepted_layout.specs.Marked.{off}
 use Rattle.hf_pass_store.specs.Store.{PLACES, stretch}
 use Rattle.hf_pass.specs.Call.{parsed}
-use Rattle.hf_pass.specs.Marked.{m1, m2}
 use Rattle.hf_coeff.specs.declared.CoeffAnswer.the-variants.{Accepted}
 use Rattle.refusal.specs.Answer.{gives, refuses}
 use Rattle.hf_coeff.specs.Call.{leaves, outcome, refuse, readPreset, call, reading as readingWith}
 use Rattle.lister.specs.Listing.{textOf}
-use Rattle.marked.specs.Lines.{job, lines, five-lines}
-use Rattle.marked.specs.Orders.{one-digit}
-use Rattle.marked.specs.Coefficients.{gains, dct8, dct16, Room, passes-252, refuses-253, reads-two-bits, refuses-3, takes-others, six-symbols}
+use Rattle.marked.specs.Lines.{job, lines}
+use Rattle.marked.specs.Coefficients.{gains, dct8, dct16, Room}
 
 -- M1 natural 8 × 8 starts (0,0) (1,0) (0,1) (0,2) (1,1) (2,0)
 abbrev pub M1 : Type 0
@@ -49,18 +41,18 @@ M3 = (earlier : List ℕ) → length earlier ≡ 2 * PLACES
 
 -- M4 the lister's layout: 16 × 16 pixels and columns (6,4) (0,0) (0,2); the lister prints it in five lines
 abbrev pub M4 : Type 0
-M4 = (off 2 2 (6 ∷ 0 ∷ 0 ∷ []) (4 ∷ 0 ∷ 2 ∷ []) ≡ record { answer = accepted 3; kinds = 8 ∷ 2 ∷ 1 ∷ 2 ∷ []; hfMul = 5 ∷ 1 ∷ 0 ∷ 3 ∷ []; sigma = replicate 4 0 })
+M4 = (off 2 2 (6 ∷ 0 ∷ 0 ∷ []) (4 ∷ 0 ∷ 2 ∷ []) ≡ record { answer = answer.gives 3; kinds = 8 ∷ 2 ∷ 1 ∷ 2 ∷ []; hfMul = 5 ∷ 1 ∷ 0 ∷ 3 ∷ []; sigma = replicate 4 0 })
     × (varblocksOf 2 2 (8 ∷ 2 ∷ 1 ∷ 2 ∷ []) (5 ∷ 1 ∷ 0 ∷ 3 ∷ []) ≡ varblock 0 0 6 5 ∷ varblock 1 0 0 1 ∷ varblock 1 1 0 3 ∷ [])
     × (area (varblock 0 0 6 5 ∷ varblock 1 0 0 1 ∷ varblock 1 1 0 3 ∷ []) ≡ 4)
     × (textOf job ≡ lines)
 
 -- M5 mul 0 gives 1, −1 refused
 abbrev pub M5 : Type 0
-M5 = (off 1 1 (0 ∷ []) (0 ∷ []) .hfMul ≡ 1 ∷ []) × (off 1 1 (0 ∷ []) (4294967295 ∷ []) .answer ≡ refused (at 6 0 0))
+M5 = (off 1 1 (0 ∷ []) (0 ∷ []) .hfMul ≡ 1 ∷ []) × (off 1 1 (0 ∷ []) (4294967295 ∷ []) .answer ≡ answer.refuses (at 6 0 0))
 
 -- M6 x = 30, type 7 passes, 31 refused
 abbrev pub M6 : Type 0
-M6 = (off 32 1 (replicate 16 7) (replicate 16 0) .answer ≡ accepted 16) × (off 33 1 (0 ∷ replicate 16 7) (replicate 17 0) .answer ≡ refused (at 7 31 0))
+M6 = (off 32 1 (replicate 16 7) (replicate 16 0) .answer ≡ answer.gives 16) × (off 33 1 (0 ∷ replicate 16 7) (replicate 17 0) .answer ≡ answer.refuses (at 7 31 0))
 
 -- the layout call over one block of type 0, filter on: multiplier, look-up number, scale, mul
 abbrev pub on : Float → Float → ℕ → ℕ → Outcome
@@ -85,8 +77,8 @@ M7 = on half two 32768 3 .sigma ≡ 0x3f00_0000 ∷ []
 -- pattern 3b800000, as for hf_mul 16,777,216; both calls are accepted
 abbrev pub M8 : Type 0
 M8 = (nearest 16777217 ≡ fin false 1 (pos 24))
-    × (on one one 1 16777216 ≡ record { answer = accepted 1; kinds = 2 ∷ []; hfMul = 16777217 ∷ []; sigma = 0x3b80_0000 ∷ [] })
-    × (on one one 1 16777215 ≡ record { answer = accepted 1; kinds = 2 ∷ []; hfMul = 16777216 ∷ []; sigma = 0x3b80_0000 ∷ [] })
+    × (on one one 1 16777216 ≡ record { answer = answer.gives 1; kinds = 2 ∷ []; hfMul = 16777217 ∷ []; sigma = 0x3b80_0000 ∷ [] })
+    × (on one one 1 16777215 ≡ record { answer = answer.gives 1; kinds = 2 ∷ []; hfMul = 16777216 ∷ []; sigma = 0x3b80_0000 ∷ [] })
 
 -- M9 count 252 for type 4 passes, 253 refused: 252, as many symbols that are not 0, and counts 0 for the other channels are accepted
 abbrev pub M9 : Type 0
@@ -124,46 +116,3 @@ MARKED = m 1 M1 ∷ m 2 M2 ∷ m 3 M3 ∷ m 4 M4 ∷ m 5 M5 ∷ m 6 M6 ∷ m 7 M
 abbrev pub Each : List Row → Type 0
 Each [] = Unit
 Each (r ∷ rs) = r .says × Each rs
-
-row1 : M1
-row1 = m1
-
-row2 : M2
-row2 = m2
-
-row3 : M3
-row3 = one-digit
-
-row4 : M4
-row4 = (m4, m4-varblocks, m4-area, five-lines)
-
-row5 : M5
-row5 = (m5, m5-refused)
-
-row6 : M6
-row6 = (m6, m6-refused)
-
-row7 : M7
-unfolding layoutOf wideIn highIn inLimits le lt eq reading column judge place scan takeCell rows cells wide high TRANSFORMS scaledBy dividedBy mul div ofInt toBits round size span climb units odd trailingZeros
-row7 = refl
-
-row8 : M8
-unfolding layoutOf wideIn highIn inLimits le lt eq reading column judge place scan takeCell rows cells wide high TRANSFORMS scaledBy dividedBy mul div ofInt toBits round size span climb units odd trailingZeros
-row8 = (m8, refl, refl)
-
-row9 : M9
-row9 map log g0 g1 g2 r = (passes-252 map log g0 g1 g2 r, refuses-253 map log g0 g1 g2 r)
-
-row10 : M10
-row10 map symbols log g0 g1 g2 r = (reads-two-bits map symbols log g0 g1 g2 r, refuses-3 map symbols log g0 g1 g2 r, takes-others map symbols log g0 g1 g2 r)
-
-row11 : M11
-row11 = six-symbols
-
-infixr 5 _and_
-abbrev _and_ : {A B : Type 0} → A → B → A × B
-a and b = (a, b)
-
-pub marked : Each MARKED
-unfolding MARKED
-marked = row1 and row2 and row3 and row4 and row5 and row6 and row7 and row8 and row9 and row10 and row11 and tt

@@ -10,7 +10,7 @@ use Rattle.block_check.specs.declared.Group.{Group}
 use Rattle.hf_coeff.specs.Call.{Outcome}
 
 abbrev pub groupOf : (bw bh : ℕ) → Group
-groupOf bw bh = record { wide = bw; high = bh }
+groupOf bw bh = record { bw = bw; bh = bh }
 
 abbrev pub contextsOf : (clusters : ℕ) (lengths lf qf map : List ℕ) → HfBlockContext
 contextsOf clusters lengths lf qf map = record { «num_block_clusters» = clusters; lengths = lengths; «lf_thresholds» = lf; «qf_thresholds» = qf; «block_ctx_map» = map }

@@ -52,7 +52,7 @@ pub extern "C" fn netbuff_coefficients<'a, 'b>(
         block_ctx_map: map,
     };
     let answer = hf_coeff::write_hf_coeff(
-        Group { wide, high },
+        Group { bw: wide, bh: high },
         kinds,
         hf_mul,
         contexts,

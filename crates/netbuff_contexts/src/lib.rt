@@ -2,8 +2,9 @@
 use hf_block_context::ContextAnswer;
 ghost use mathlib.Core.Path.{_≡_};
 ghost use Rattle.refusal.specs.Said.{at};
+ghost use Rattle.refusal.specs.Handed.{with, handed};
 ghost use Rattle.hf_block_context.specs.Call.{recordOf, parsed};
-ghost use Rattle.netbuff_contexts.specs.Contexts.{results, with, handed};
+ghost use Rattle.netbuff_contexts.specs.Contexts.{results, answered};
 
 // Beside a refusal the record and the bits read stay as they were.
 #[no_mangle]
@@ -22,7 +23,7 @@ pub extern "C" fn netbuff_block_context<'a, 'b>(
 ) -> u32
     ensures { λ r. ⌜ with (at r (now (x .exit)) (now (y .exit)))
         (results (recordOf (now («num_block_clusters» .exit)) (now (lengths .exit)) (now («lf_thresholds» .exit)) (now («qf_thresholds» .exit)) (now («block_ctx_map» .exit))) (now («bits_read» .exit)))
-        ≡ handed (parsed (now (bytes .entry)) «num_clusters» (now (map .entry)))
+        ≡ handed (answered (parsed (now (bytes .entry)) «num_clusters» (now (map .entry))))
         (results (recordOf (now («num_block_clusters» .entry)) (now (lengths .entry)) (now («lf_thresholds» .entry)) (now («qf_thresholds» .entry)) (now («block_ctx_map» .entry))) (now («bits_read» .entry))) ⌝ }
 {
     let parts = hf_block_context::parse_into(

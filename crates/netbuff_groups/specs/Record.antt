@@ -1,5 +1,5 @@
 -- What the exported cut and likeness hand out (document 01, Layout, "Added by us", and Refused).
-use mathlib.Core.Path.{_≡_, ap, _∙_}
+use mathlib.Core.Path.{_≡_}
 use mathlib.Core.Bool.{Bool}
 use mathlib.Core.List.{List}
 use Prim.Native.Nat.{ℕ}
@@ -7,10 +7,7 @@ use Rattle.refusal.specs.declared.Said.{Said}
 use Rattle.refusal.specs.Said.{at}
 use Rattle.block_check.specs.declared.Group.{Group}
 use Rattle.block_check.specs.Calls.{Answer, gives, refuses}
-use Rattle.block_record.specs.declared.cut.CutAnswer.{CutAnswer}
-use Rattle.block_record.specs.Calls.{Outcome, outcome, saidCut}
-use Rattle.likeness.specs.declared.LikeAnswer.{LikeAnswer}
-use Rattle.likeness.specs.Calls.{saidLike}
+use Rattle.block_record.specs.Calls.{Outcome}
 
 -- number and position, and what the group's sides hold then
 pub record SidesHanded : Type 0 where
@@ -31,16 +28,6 @@ pub record CutLeaves (handed : SidesHanded) (kinds muls : List ℕ) (kept : Grou
   pub kindsAre : kinds ≡ o .kinds
   pub mulsAre : muls ≡ o .muls
 
--- the call's own answer, handed on
-pub cut-leaves : (h : SidesHanded) (a : CutAnswer) (k m : List ℕ) (kept : Group) (o : Outcome) → outcome (saidCut a) k m ≡ o → h ≡ handedCut (saidCut a) kept
-    → CutLeaves h k m kept o
-cut-leaves h a k m kept o e f =
-    record {
-      handedIs = f ∙ ap (λ (z : Outcome). handedCut (z .answer) kept) e;
-      kindsAre = ap (λ (z : Outcome). z .kinds) e;
-      mulsAre = ap (λ (z : Outcome). z .muls) e;
-    }
-
 -- number and position, and yes or no
 pub record AlikeHanded : Type 0 where
   pub said : Said
@@ -53,7 +40,3 @@ withAlike s b = record { said = s; alike = b }
 abbrev pub handedLike : Answer Bool → Bool → AlikeHanded
 handedLike (gives b) kept = withAlike (at 0 0 0) b
 handedLike (refuses s) kept = withAlike s kept
-
--- the call's own answer, handed on
-pub like-handed : (h : AlikeHanded) (a : LikeAnswer) (kept : Bool) (l : Answer Bool) → saidLike a ≡ l → h ≡ handedLike (saidLike a) kept → h ≡ handedLike l kept
-like-handed h a kept l e f = f ∙ ap (λ (z : Answer Bool). handedLike z kept) e

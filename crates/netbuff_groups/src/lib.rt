@@ -29,8 +29,8 @@ pub extern "C" fn netbuff_cut(
     let answer = block_record::cut::cut(bw, bh, kinds, hf_mul, index, out_kinds, out_hf_mul);
     match answer {
         CutAnswer::Accepted(group) => {
-            *wide = group.wide;
-            *high = group.high;
+            *wide = group.bw;
+            *high = group.bh;
             *x = 0;
             *y = 0;
             0

@@ -1,5 +1,5 @@
 -- What the exported layout call and column count hand out (document 01, Layout and filter strength, and Refused).
-use mathlib.Core.Path.{_≡_, ap, _∙_}
+use mathlib.Core.Path.{_≡_}
 use mathlib.Core.Bool.{Bool, true, false}
 use mathlib.Core.List.{List}
 use Prim.Native.Nat.{ℕ}
@@ -8,10 +8,8 @@ use Rattle.refusal.specs.declared.Said.{Said}
 use Rattle.refusal.specs.Said.{at}
 use Rattle.filter_strength.specs.declared.Filter.{Filter}
 use Rattle.filter_strength.specs.declared.Filter.the-variants.{Off, On}
-use Rattle.column_count.specs.declared.ColumnCount.{ColumnCount}
-use Rattle.column_count.specs.Count.{Counted, count, refused, counted}
-use Rattle.hf_metadata.specs.Call.{Answer, accepted, refused as refusedWith, answered, Outcome, leaves}
-use Rattle.hf_metadata.specs.declared.LayoutAnswer.{LayoutAnswer}
+use Rattle.column_count.specs.Count.{Counted, count, refused}
+use Rattle.hf_metadata.specs.Call.{Answer, accepted, refused as refusedWith, Outcome}
 
 -- with the filter off the multiplier is not looked at
 abbrev pub filterOf : Bool → Float → Filter
@@ -32,11 +30,6 @@ abbrev pub handedCount : Counted → ℕ → ℕ → CountHanded
 handedCount (count c b) keptCount keptBits = withCount (at 0 0 0) c b
 handedCount (refused s) keptCount keptBits = withCount s keptCount keptBits
 
--- the call's own answer, handed on
-pub count-handed : (h : CountHanded) (a : ColumnCount) (keptCount keptBits : ℕ) (o : Counted) → counted a ≡ o → h ≡ handedCount (counted a) keptCount keptBits
-    → h ≡ handedCount o keptCount keptBits
-count-handed h a keptCount keptBits o e f = f ∙ ap (λ (z : Counted). handedCount z keptCount keptBits) e
-
 -- number and position, and what the number of columns used holds then
 pub record UsedHanded : Type 0 where
   pub said : Said
@@ -56,14 +49,3 @@ pub record LayoutLeaves (handed : UsedHanded) (kinds hfMul sigma : List ℕ) (ke
   pub kindsAre : kinds ≡ o .kinds
   pub hfMulIs : hfMul ≡ o .hfMul
   pub sigmaIs : sigma ≡ o .sigma
-
--- the call's own answer, handed on
-pub layout-leaves : (h : UsedHanded) (a : LayoutAnswer) (k m g : List ℕ) (kept : ℕ) (o : Outcome) → leaves a k m g ≡ o → h ≡ handedUsed (answered a) kept
-    → LayoutLeaves h k m g kept o
-layout-leaves h a k m g kept o e f =
-    record {
-      handedIs = f ∙ ap (λ (z : Outcome). handedUsed (z .answer) kept) e;
-      kindsAre = ap (λ (z : Outcome). z .kinds) e;
-      hfMulIs = ap (λ (z : Outcome). z .hfMul) e;
-      sigmaIs = ap (λ (z : Outcome). z .sigma) e;
-    }

@@ -1,2 +1,3 @@
 -- what the exported calls hand out
 pub mod Layout
+pub mod laws

@@ -1,2 +1,3 @@
 -- what the exported calls hand out
 pub mod Orders
+pub mod laws

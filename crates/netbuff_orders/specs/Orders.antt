@@ -1,11 +1,10 @@
 -- What the exported order call hands out (document 01, Orders and Refused).
-use mathlib.Core.Path.{_≡_, ap, _∙_}
+use mathlib.Core.Path.{_≡_}
 use mathlib.Core.List.{List}
 use Prim.Native.Nat.{ℕ}
 use Rattle.refusal.specs.declared.Said.{Said}
 use Rattle.refusal.specs.Said.{at}
-use Rattle.hf_pass.specs.declared.OrdersAnswer.{OrdersAnswer}
-use Rattle.hf_pass.specs.Call.{Answer, reads, refuses, answered, Outcome, outcome}
+use Rattle.hf_pass.specs.Call.{Answer, reads, refuses, Outcome}
 
 -- number and position, and what the number of symbols read holds then
 pub record Handed : Type 0 where
@@ -24,11 +23,3 @@ handed (refuses s) kept = with s kept
 pub record OrdersLeave (h : Handed) (store : List ℕ) (kept : ℕ) (o : Outcome) : Type 0 where
   pub handedIs : h ≡ handed (o .answer) kept
   pub storeIs : store ≡ o .store
-
--- the call's own answer, handed on
-pub orders-leave : (h : Handed) (a : OrdersAnswer) (store : List ℕ) (kept : ℕ) (o : Outcome) → outcome a store ≡ o → h ≡ handed (answered a) kept → OrdersLeave h store kept o
-orders-leave h a store kept o e f =
-    record {
-      handedIs = f ∙ ap (λ (z : Outcome). handed (z .answer) kept) e;
-      storeIs = ap (λ (z : Outcome). z .store) e;
-    }

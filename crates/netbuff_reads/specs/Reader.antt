@@ -2,10 +2,13 @@
 use mathlib.Core.List.{List}
 use Prim.Native.Nat.{ℕ, _+_, _*_}
 use lib.ListN.{getD}
-use Rattle.refusal.specs.declared.Said.{Said}
-use Rattle.refusal.specs.Said.{at}
+use Rattle.refusal.specs.declared.Refusal.the-variants.{BitsEnd}
+use Rattle.refusal.specs.Said.{said}
+use Rattle.refusal.specs.Answer.{Answer, gives, refuses}
+use Rattle.bits.specs.declared.Got.{Got}
+use Rattle.bits.specs.declared.Got.the-variants as got
 use Rattle.bits.specs.Bits.{Choice}
-use Rattle.bits.specs.Reads.{Answer, gives, refuses, choiceOf}
+use Rattle.bits.specs.Reads.{bitsBefore, choiceOf}
 
 -- the results: the value, and byte and bit of the place behind it
 pub record Results : Type 0 where
@@ -16,22 +19,14 @@ pub record Results : Type 0 where
 abbrev pub results : ℕ → ℕ → ℕ → Results
 results v b k = record { value = v; byte = b; bit = k }
 
--- number and position, and what the results hold then
-pub record Handed : Type 0 where
-  pub said : Said
-  pub results : Results
-
-abbrev pub with : Said → Results → Handed
-with s r = record { said = s; results = r }
-
--- the value and the place behind it; or the refusal, and nothing else: the results keep what they held
-abbrev pub handed : Answer → Results → Handed
-handed (gives v next) kept = with (at 0 0 0) (results v (next .byte) (next .bit))
-handed (refuses s) kept = with s kept
+-- bits end: 3, with the bits read (document 01, Refused)
+abbrev pub answered : Got → Answer Results
+answered (got.Value v next) = gives (results v (next .byte) (next .bit))
+answered (got.End taken) = refuses (said (BitsEnd taken))
 
 -- the bits before a place
 abbrev pub bitsAt : ℕ → ℕ → ℕ
-bitsAt byte bit = 8 * byte + bit
+bitsAt byte bit = bitsBefore (record { byte = byte; bit = bit })
 
 -- the k-th pair of an offset and a number of bits
 abbrev pub choice : List ℕ → ℕ → Choice

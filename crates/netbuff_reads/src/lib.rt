@@ -1,15 +1,16 @@
 // C interface: reads of the bit reader, one at a time.
-use bit_place::Place;
 use bits::Got;
+use bits::Place;
 use bits::U32Specifier;
 use refusal::Refusal;
 ghost use mathlib.Core.Path.{_≡_};
 ghost use Prim.Native.Nat.{min};
 ghost use Rattle.refusal.specs.Said.{at};
+ghost use Rattle.refusal.specs.Handed.{with, handed};
 ghost use Rattle.bits.specs.Bits.{readBits, readU32};
-ghost use Rattle.bits.specs.Reads.{gotOf, answered};
+ghost use Rattle.bits.specs.Reads.{gotOf};
 ghost use Rattle.coded_numbers.specs.Signed.{unpackSigned};
-ghost use Rattle.netbuff_reads.specs.Reader.{results, with, handed, bitsAt, choice};
+ghost use Rattle.netbuff_reads.specs.Reader.{results, answered, bitsAt, choice};
 
 // The value and the place behind it, or the refusal and the bits that the read took; value and place
 // then stay as they were.

@@ -45,7 +45,7 @@ countEntry clusters it row = it .context + countIndex (predicted row (it .x) (it
 abbrev pub contextPlace : Pass → Varblock → ℕ → ℕ
 contextPlace P v n =
     let C = used (P .contexts) in
-    contextIndex C n (orderOf (v .type)) (qfIndex C (v .mul))
+    contextIndex C n (orderOf (v .type)) (qfIndex C (v .hfMul))
     (lfIndexOf C (P .lfThere) (at (P .lf0) (P .bw) (v .x) (v .y)) (at (P .lf1) (P .bw) (v .x) (v .y)) (at (P .lf2) (P .bw) (v .x) (v .y)))
 
 -- what the channels of a varblock are made from

@@ -1,3 +1,3 @@
 -- what was recorded against what a call gave
 pub mod Compare
-pub mod CompareLaws
+pub mod laws

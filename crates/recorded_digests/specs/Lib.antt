@@ -1,3 +1,3 @@
 -- digests of lists
 pub mod Digest
-pub mod DigestLaws
+pub mod laws

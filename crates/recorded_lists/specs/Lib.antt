@@ -1,4 +1,4 @@
 -- numbers, lists and records of the recorded list
 pub mod Lists
-pub mod ListsLaws
 pub mod Frames
+pub mod laws

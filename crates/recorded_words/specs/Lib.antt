@@ -1,3 +1,3 @@
 -- a file's bytes as numbers
 pub mod Words
-pub mod WordsLaws
+pub mod laws

@@ -1,2 +1,2 @@
 -- floats by their patterns
-pub mod Patterns
+pub mod laws

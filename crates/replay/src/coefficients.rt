@@ -30,8 +30,8 @@ fn put(out: &mut [usize; 48], answer: CoeffAnswer) {
 
 fn group(words: &[u32]) -> Group {
     Group {
-        wide: length(words, 0),
-        high: length(words, 1),
+        bw: length(words, 0),
+        bh: length(words, 1),
     }
 }
 

@@ -14,8 +14,8 @@ use recorded_lists::list::list;
 fn put(out: &mut [usize; 48], answer: CutAnswer) {
     match answer {
         CutAnswer::Accepted(group) => {
-            out[3] = group.wide;
-            out[4] = group.high;
+            out[3] = group.bw;
+            out[4] = group.bh;
         }
         CutAnswer::Refused(why) => refuse(out, why),
     }

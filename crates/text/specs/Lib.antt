@@ -1,3 +1,3 @@
 -- text in lent bytes
 pub mod Text
-pub mod Decimal
+pub mod laws

@@ -1,6 +1,6 @@
 use borrow.Author.Needs.{needs}
 use mathlib.Core.Path.{_∙_}
-use Rattle.hf_block_context.specs.Parts.{kept-zeros}
+use Rattle.hf_block_context.specs.laws.Parts.{kept-zeros}
 use Rattle.hf_block_context.proofs.parse.Statement.{statement}
 use Rattle.hf_block_context.proofs.parse.Tie as tie
 

@@ -15,7 +15,7 @@ use Rattle.refusal.specs.Answer.{Answer, gives, refuses, passed, checked}
 use Rattle.refusal.specs.declared.Checked.{Checked}
 use Rattle.refusal.specs.declared.Checked.the-variants as check
 use Rattle.bits.specs.Bits.{Read, Value, Ended}
-use Rattle.layout.specs.Theorems.{layout-iff}
+use Rattle.layout.specs.laws.Theorems.{layout-iff}
 use Rattle.hf_coeff_walk.specs.declared.Walk.{Walk}
 use Rattle.hf_coeff_walk.specs.declared.Walk.the-variants as walk
 use Rattle.hf_coeff_group.specs.Group.{Grids, Reading, going, refused}
@@ -54,7 +54,7 @@ module _ (L : Lent) (p : Passed L) (r : PresetAnswer) (e : number.answered r ≡
     pub below : n < L .presets
     below = by (readPreset L) (ap number.answered (sym f) ∙ e)
       where
-        by : (R : Read) → gives n ≡ presetOf (L .presets) R → n < L .presets
+        by : (R : Read ℕ) → gives n ≡ presetOf (L .presets) R → n < L .presets
         by (Ended at) g = absurd (let z : _≡_ {A = ℕ} 0 1 = cc in omega arith)
         by (Value v at) g = go (ltb v (L .presets)) refl g
           where

@@ -12,7 +12,7 @@ use Rattle.block_sides.specs.Limits.{inLimits}
 use Rattle.hf_pass_store.specs.Store.{PLACES, placesFit}
 use Rattle.block_context.specs.declared.HfBlockContext.{HfBlockContext}
 use Rattle.block_context.specs.Record.{fit}
-use Rattle.block_context.specs.Bounds.{is-fit}
+use Rattle.block_context.specs.laws.Bounds.{is-fit}
 use Rattle.hf_coeff_group.specs.Pass.{Pass}
 use Rattle.hf_coeff_group.specs.Work.{clustersOf}
 use Rattle.hf_coeff_checks.specs.Checks.{blocks, sidesFit, parametersFit, threeFit, lfFits, passFits, lengthsBy, layoutFits, beforeWork, Passed}

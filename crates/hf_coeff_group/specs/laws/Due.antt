@@ -10,17 +10,17 @@ use lib.ListN.{length, getD, drop, replicate}
 use borrow.Author.Tests.{le-leb, lt-leb}
 use Rattle.refusal.specs.declared.Refusal.{Refusal}
 use Rattle.dct_select.specs.Transforms.{wide, high, orderOf, turns}
-use Rattle.dct_select.specs.Varblock.{wide-some}
+use Rattle.dct_select.specs.laws.Sides.{wide-some}
 use Rattle.block_sizes.specs.BlockSizes.{widthOf, heightOf}
 use Rattle.layout.specs.Grid.{at}
 use Rattle.layout.specs.Valid.{Cells, Fits, Layout}
 use Rattle.layout.specs.Varblocks.{cornersRow, cornersFrom, area}
 use Rattle.layout.specs.Varblocks as layout
-use Rattle.layout.specs.Theorems.{layout-area}
+use Rattle.layout.specs.laws.Theorems.{layout-area}
 use Rattle.block_check.specs.declared.Group.{Group}
 use Rattle.hf_pass_store.specs.Store.{PLACES, stretch}
 use Rattle.block_context.specs.Record.{fit}
-use Rattle.block_context_index.specs.Bounds.{context-lt}
+use Rattle.block_context_index.specs.laws.Bounds.{context-lt}
 use Rattle.hf_coeff_walk.specs.declared.Walk.{Walk}
 use Rattle.hf_coeff_walk.specs.declared.Walk.the-variants.{Ended, Stopped}
 use Rattle.hf_coeff_walk.specs.laws.Outcome.{isStopped, readBy}
@@ -75,10 +75,10 @@ module _ (P : Pass) where
   M = at (P .hfMul) (P .bw)
 
   abbrev pub cornerAt : ℕ → ℕ → layout.Varblock
-  cornerAt x y = record { x = x; y = y; type = K x y - 2; mul = M x y }
+  cornerAt x y = record { x = x; y = y; type = K x y - 2; hfMul = M x y }
 
   abbrev pub groupOf : Group
-  groupOf = record { wide = P .bw; high = P .bh }
+  groupOf = record { bw = P .bw; bh = P .bh }
 
   -- the plan of the corner at x, y
   abbrev pub planAt : ℕ → ℕ → Plan

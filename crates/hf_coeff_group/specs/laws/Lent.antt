@@ -8,7 +8,7 @@ use borrow.Author.Tests.{ltb-true, leb-true, eqb-true, lt-ltb, le-leb, eq-eqb}
 use lib.Dec.{ltb, leb, eqb}
 use lib.ListN.{length, getD, drop}
 use lib.Pow.{pow-pos}
-use Rattle.laws.specs.Cases.{and-true}
+use Rattle.laws.specs.laws.Cases.{and-true}
 use Rattle.refusal.specs.declared.Refusal.the-variants.{Length}
 use Rattle.block_sizes.specs.BlockSizes.{widthOf, heightOf}
 use Rattle.block_check.specs.declared.Group.{Group}
@@ -30,7 +30,7 @@ varblockFits p group clusters presetMap list at shift log =
     ltb (p .shape .x) 32
     && ltb (p .shape .y) 32
     && leb (p .shape .exponent) 10
-    && leb (group .wide) 32
+    && leb (group .bw) 32
     && ltb (getD (p .contexts) 0 0) clusters
     && ltb (getD (p .contexts) 1 0) clusters
     && ltb (getD (p .contexts) 2 0) clusters
@@ -87,7 +87,7 @@ module _ (p : Plan) (group : Group) (clusters : ℕ) (presetMap store : List ℕ
           top = ltb-true (p .shape .y) 32 (a .1);
           some = leb-true 1 (p .shape .wide) (n .1);
           exponent = leb-true (p .shape .exponent) 10 (b .1);
-          across = leb-true (group .wide) 32 (c .1);
+          across = leb-true (group .bw) 32 (c .1);
           cluster = each (ltb-true (getD (p .contexts) 0 0) clusters (d .1)) (ltb-true (getD (p .contexts) 1 0) clusters (f .1)) (ltb-true (getD (p .contexts) 2 0) clusters (g .1));
           few = leb-true clusters 16 (h .1);
           entries = eqb-true (length presetMap) (495 * clusters) (j .1);
@@ -115,7 +115,7 @@ module _ (p : Plan) (group : Group) (clusters : ℕ) (presetMap store : List ℕ
         lt-ltb (p .shape .x) 32 (r .left),
         lt-ltb (p .shape .y) 32 (r .top),
         le-leb (p .shape .exponent) 10 (r .exponent),
-        le-leb (group .wide) 32 (r .across),
+        le-leb (group .bw) 32 (r .across),
         lt-ltb (getD (p .contexts) 0 0) clusters (r .cluster 0 (omega arith)),
         lt-ltb (getD (p .contexts) 1 0) clusters (r .cluster 1 (omega arith)),
         lt-ltb (getD (p .contexts) 2 0) clusters (r .cluster 2 (omega arith)),

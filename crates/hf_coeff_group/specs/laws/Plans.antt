@@ -8,7 +8,7 @@ use native.Mathlib.Decide.{decLt}
 use borrow.Author.Tests.{lt-leb}
 use lib.Dec.{leb}
 use lib.ListN.{length, getD, List·getD-eq-default}
-use Rattle.laws.specs.Lists.{getD-map, getD-tabulate}
+use Rattle.laws.specs.laws.Lists.{getD-map, getD-tabulate}
 use Rattle.dct_select.specs.declared.TransformType.{TransformType}
 use Rattle.dct_select.specs.declared.TransformType.the-variants.{Dct8, Hornuss, Dct2, Dct4, Dct16, Dct32, Dct16x8, Dct8x16, Dct32x8, Dct8x32, Dct32x16, Dct16x32, Dct4x8, Dct8x4, Afv0, Afv1, Afv2, Afv3, Dct64, Dct64x32, Dct32x64, Dct128, Dct128x64, Dct64x128, Dct256, Dct256x128, Dct128x256}
 use Rattle.refusal.specs.Said as refusals
@@ -17,7 +17,7 @@ use Rattle.dct_select.specs.LookUp.{Answer, finds, refuses, numberOf, known, lo
 use Rattle.layout.specs.Grid.{at}
 use Rattle.block_check.specs.declared.Group.{Group}
 use Rattle.hf_pass_store.specs.Store.{PLACES, stretch}
-use Rattle.block_context_index.specs.Contexts.{blockContexts}
+use Rattle.block_context_index.specs.laws.Contexts.{blockContexts}
 use Rattle.block_context_index.specs.Lists.{lists}
 use Rattle.hf_coeff_walk.specs.Item.{Item}
 use Rattle.hf_coeff_walk.specs.laws.Items.{itemAt}
@@ -33,7 +33,7 @@ abbrev pub planBy : ℕ → ℕ → Group → ℕ → ℕ → List ℕ → List 
 planBy x y group t hfMul lengths lf qf map there lf0 lf1 lf2 = record {
   shape = shapeOf x y t;
   order = orderOf t;
-  contexts = blockContexts (lists lengths lf qf map) (orderOf t) hfMul there (at lf0 (group .wide) x y) (at lf1 (group .wide) x y) (at lf2 (group .wide) x y);
+  contexts = blockContexts (lists lengths lf qf map) (orderOf t) hfMul there (at lf0 (group .bw) x y) (at lf1 (group .bw) x y) (at lf2 (group .bw) x y);
 }
 
 -- channel c of an item
@@ -42,7 +42,7 @@ inChannel c it = record { channel = c; x = it .x; y = it .y; wide = it .wide; bl
 
 -- channel c, the n-th walked
 abbrev pub itemBy : Plan → Group → List ℕ → ℕ → ℕ → Item
-itemBy p group store n c = inChannel c (itemAt (p .shape) (group .wide) (getD (p .contexts) n 0) (stretch store (p .order) c))
+itemBy p group store n c = inChannel c (itemAt (p .shape) (group .bw) (getD (p .contexts) n 0) (stretch store (p .order) c))
 
 -- the channel that is walked n-th
 abbrev pub channelWalked : ℕ → ℕ
@@ -57,7 +57,7 @@ pub record Planned (p : Plan) (group : Group) (clusters : ℕ) (presetMap store 
   pub top : p .shape .y < 32
   pub some : 1 ≤ p .shape .wide
   pub exponent : p .shape .exponent ≤ 10
-  pub across : group .wide ≤ 32
+  pub across : group .bw ≤ 32
   pub cluster : (n : ℕ) → n < 3 → getD (p .contexts) n 0 < clusters
   pub few : clusters ≤ 16
   pub entries : length presetMap ≡ 495 * clusters
@@ -128,11 +128,11 @@ shapeBy x y exponent (refuses r) = record { x = x; y = y; wide = 0; exponent = 0
 
 wide-none : (t : ℕ) → 27 ≤ t → wide t ≡ 0
 unfolding wide TRANSFORMS
-wide-none t h = ap (λ (r : Row). r .width) (List·getD-eq-default TRANSFORMS (row 0 0 0) {n = t} h)
+wide-none t h = ap (λ (r : Row). r .wide) (List·getD-eq-default TRANSFORMS (row 0 0 0) {n = t} h)
 
 high-none : (t : ℕ) → 27 ≤ t → high t ≡ 0
 unfolding high TRANSFORMS
-high-none t h = ap (λ (r : Row). r .height) (List·getD-eq-default TRANSFORMS (row 0 0 0) {n = t} h)
+high-none t h = ap (λ (r : Row). r .high) (List·getD-eq-default TRANSFORMS (row 0 0 0) {n = t} h)
 
 order-none : (t : ℕ) → 27 ≤ t → orderOf t ≡ 0
 unfolding orderOf TRANSFORMS

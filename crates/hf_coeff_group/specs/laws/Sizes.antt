@@ -9,7 +9,7 @@ use lib.ListN.{getD}
 use Rattle.laws.specs.Tables.{each}
 use Rattle.dct_select.specs.Transforms.{TRANSFORMS, wide, high, orderOf, turns}
 use Rattle.block_sizes.specs.BlockSizes.{BLOCK-SIZES, widthOf, heightOf}
-use Rattle.dct_select.specs.Rules.{below-27}
+use Rattle.dct_select.specs.laws.Rules.{below-27}
 
 -- the exponent of each transform's number of blocks
 unfoldable pub EXPONENTS : List ℕ

@@ -18,7 +18,7 @@ use Rattle.hf_coeff_walk.specs.laws.Outcome.{isStopped, answerOf, logOf, gridOf
 use Rattle.hf_coeff_walk.specs.Item.{Item, newRow, countOver, countCluster, counted}
 use Rattle.hf_coeff_walk.specs.declared.shape.Shape.{Shape}
 use Rattle.natural_order.specs.Places.{paired}
-use Rattle.natural_order.specs.Flat.{length-paired}
+use Rattle.natural_order.specs.laws.Flat.{length-paired}
 use Rattle.hf_coeff_walk.specs.laws.PlaceLaws.{length-places}
 use Rattle.hf_coeff_walk.specs.laws.Items.{itemAt, ItemReady, counted-15, counted-16}
 use Rattle.hf_coeff_walk.specs.laws.Kept.{KeptBy, counted-kept}
@@ -129,7 +129,7 @@ module _ (p : Plan) (group : Group) (clusters : ℕ) (presetMap store symbols : 
   long = rw eo (planned .places c below)
 
   -- what the channel's walk is asked
-  pub turn-asks : (c < 3) × ItemReady (p .shape) (group .wide) (getD (p .contexts) n 0) clusters (length presetMap) (length order) at shift (length log)
+  pub turn-asks : (c < 3) × ItemReady (p .shape) (group .bw) (getD (p .contexts) n 0) clusters (length presetMap) (length order) at shift (length log)
   turn-asks = (
     below,
     record {
@@ -147,7 +147,7 @@ module _ (p : Plan) (group : Group) (clusters : ℕ) (presetMap store symbols : 
   )
 
   abbrev it : Item
-  it = itemAt (p .shape) (group .wide) (getD (p .contexts) n 0) order
+  it = itemAt (p .shape) (group .bw) (getD (p .contexts) n 0) order
 
   same-item : inChannel c it ≡ itemBy p group store n (channelWalked n)
   same-item = rw (eo, ec)
@@ -170,7 +170,7 @@ module _ (p : Plan) (group : Group) (clusters : ℕ) (presetMap store symbols : 
     -- the channel was read
     pub turn-goes : isStopped r ≡ false → (count : ℕ) → count ≡ countOver (getD symbols at 0) K → TurnShown p group clusters presetMap store symbols at shift rows log G n r count log₁ G₁
     turn-goes e count ev =
-        let l = item-size (p .shape) (group .wide) (getD (p .contexts) n 0) order long in
+        let l = item-size (p .shape) (group .bw) (getD (p .contexts) n 0) order long in
         record {
           shown = λ R left same. subst (λ (i : Item). Shown symbols (at + 64 * K) r (rowBy R (channelWalked n) (p .shape .x) (p .shape .wide) count) log₁ G₁ (item shift clusters presetMap i (going (drop at symbols) at log G R left))) same-item
               (rw (ev, ← ec) (item-goes shift clusters presetMap c it (getD rows c []) symbols at log G r log₁ G₁ got (at + 64 * K) R left (here R left same) e (omega (arith, pow-pos (p .shape .exponent))) (omega arith)));

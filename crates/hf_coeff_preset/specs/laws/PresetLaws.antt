@@ -9,15 +9,15 @@ use Rattle.refusal.specs.Said.{said}
 use Rattle.refusal.specs.Answer.{Answer, gives, refuses}
 use Rattle.bits.specs.declared.Got.{Got}
 use Rattle.bits.specs.declared.Got.the-variants as got
-use Rattle.bit_place.specs.declared.Place.{Place}
+use Rattle.bits.specs.declared.Place.{Place}
 use Rattle.bits.specs.Bits.{Value, readBits}
-use Rattle.bits.specs.Reads.{gotOf}
-use Rattle.bit_place.specs.Place.{placeAt, passed}
-use Rattle.bits.specs.Laws.{was-value, was-end, value-at, ended-at}
-use Rattle.coded_numbers.specs.Exponent.{exponent, exponent-least}
+use Rattle.bits.specs.Reads.{gotOf, placeAt, bitsBefore}
+use Rattle.bits.specs.laws.Laws.{was-value, was-end, value-at, ended-at}
+use Rattle.coded_numbers.specs.Exponent.{exponent}
+use Rattle.coded_numbers.specs.laws.Exponent.{exponent-least}
 use Rattle.hf_coeff_preset.specs.Preset.{presetOf}
 
-module _ (bytes : List ℕ) (presets n : ℕ) (p : Place) (g : Got) (m : presets < 2 ^ 32) (c : n ≡ exponent presets) (d : p ≡ placeAt 0) (e : g ≡ gotOf (passed p) (readBits bytes (passed p) (min n 32))) where
+module _ (bytes : List ℕ) (presets n : ℕ) (p : Place) (g : Got) (m : presets < 2 ^ 32) (c : n ≡ exponent presets) (d : p ≡ placeAt 0) (e : g ≡ gotOf (bitsBefore p) (readBits bytes (bitsBefore p) (min n 32))) where
   whole : g ≡ gotOf 0 (readBits bytes 0 n)
   whole = let f = exponent-least presets 32 (omega arith) in let l : min n 32 ≡ n = omega arith in e ∙ rw (d, l)
 

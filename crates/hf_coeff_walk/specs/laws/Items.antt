@@ -10,7 +10,7 @@ use lib.Dec.{leb}
 use lib.ListN.{length, getD, set, take, drop, length-set, length-drop, drop-of-length-le}
 use lib.Pow.{pow-pos}
 use lib.Seq.{drop-cons, length-take-le}
-use Rattle.laws.specs.Lists.{tail-all}
+use Rattle.laws.specs.laws.Lists.{tail-all}
 use Rattle.refusal.specs.declared.Refusal.the-variants.{SymbolsEnd, Count}
 use Rattle.hf_coeff_walk.specs.Walk.{Walked, ended, stopped, walk}
 use Rattle.natural_order.specs.Places.{paired}
@@ -19,7 +19,7 @@ use Rattle.hf_coeff_walk.specs.Item.{Item, predicted, countIndex, countC
 use Rattle.hf_coeff_walk.specs.laws.Counts.{part-entry}
 use Rattle.hf_coeff_walk.specs.laws.Outcome.{Handed, walk-used}
 use Rattle.hf_coeff_walk.specs.laws.Lent.{placesFit, placesRead}
-use Rattle.natural_order.specs.Flat.{paired-drop}
+use Rattle.natural_order.specs.laws.Flat.{paired-drop}
 use Rattle.hf_coeff_walk.specs.declared.Walk.{Walk}
 use Rattle.hf_coeff_walk.specs.declared.place.Spot.{Spot}
 use Rattle.hf_coeff_walk.specs.declared.shape.Shape.{Shape}

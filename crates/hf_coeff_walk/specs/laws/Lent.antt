@@ -7,7 +7,7 @@ use native.Mathlib.Omega.{arith}
 use borrow.Author.Tests.{leb-true, eqb-true}
 use lib.Dec.{leb, eqb}
 use lib.ListN.{length, drop}
-use Rattle.laws.specs.Cases.{and-true}
+use Rattle.laws.specs.laws.Cases.{and-true}
 use Rattle.refusal.specs.declared.Refusal.the-variants.{Length, Count}
 use Rattle.hf_coeff_walk.specs.declared.place.Spot.{Spot}
 use Rattle.hf_coeff_walk.specs.Walk.{Walked, stopped, walk}

@@ -7,7 +7,7 @@ use native.Mathlib.Omega.{arith}
 use native.Mathlib.Nat.{mul-le-mul}
 use lib.ListN.{length, getD}
 use Rattle.natural_order.specs.Places.{Place, paired}
-use Rattle.natural_order.specs.Flat.{length-paired, pair-at}
+use Rattle.natural_order.specs.laws.Flat.{length-paired, pair-at}
 use Rattle.hf_coeff_walk.specs.Places.{placesOf, cellOf}
 
 module _ (turn : Bool) (row x y : ℕ) where

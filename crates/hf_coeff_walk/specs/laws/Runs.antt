@@ -8,8 +8,8 @@ use lib.Pow.{pow-pos}
 use lib.Dec.{leb, leb→le}
 use lib.ListN.{length, getD, set, take, drop, length-set, length-drop}
 use lib.Seq.{set-getD, getD-drop}
-use Rattle.laws.specs.Lists.{tail-all}
-use Rattle.laws.specs.Tables.{at-each, each-at}
+use Rattle.laws.specs.laws.Lists.{tail-all}
+use Rattle.laws.specs.laws.Tables.{at-each, each-at}
 use Rattle.coded_numbers.specs.Signed.{unpackSigned}
 use Rattle.hf_coeff_walk.specs.Walk.{walk, coeffContext, FREQ, NUM-NONZERO, gain}
 use Rattle.hf_coeff_walk.specs.laws.Outcome.{walk-zero, below-63}

@@ -1,7 +1,9 @@
-use Rattle.hf_pass_naturals.specs.Naturals.{part-length, naturals, fromOrder, order-start, order-at, order-laid, all-written, none-written}
+use Rattle.hf_pass_naturals.specs.Naturals.{naturals}
+use Rattle.hf_pass_naturals.specs.laws.Naturals.{part-length, fromOrder, order-start, order-at, order-laid, all-written, none-written}
 use borrow.Rule.Slice.PartMut.{putMid}
 use mathlib.Core.Path.{refl, _≡_, _∙_, sym}
-use Rattle.hf_pass_store.specs.Offsets.{from, from-start}
+use Rattle.hf_pass_store.specs.Offsets.{from}
+use Rattle.hf_pass_store.specs.laws.Offsets.{from-start}
 use Rattle.hf_pass_store.specs.Store.{stored}
 use Rattle.block_sizes.specs.BlockSizes.{BLOCK-SIZES}
 use lib.Seq.{sets}

@@ -1,4 +1,4 @@
-use Rattle.hf_pass_naturals.specs.Naturals.{three-times}
+use Rattle.hf_pass_naturals.specs.laws.Naturals.{three-times}
 use borrow.Rule.Slice.PartMut.{putMid}
 use mathlib.Core.Path.{refl}
 use borrow.Author.Needs.{needs}

@@ -1,4 +1,4 @@
-use Rattle.layout_column.specs.Judged.{known-is, unknown-is, sized, judged-unknown, judged-zero, judged-negative, judged-wide, judged-high, judged-asks}
+use Rattle.layout_column.specs.laws.Judged.{known-is, unknown-is, sized, judged-unknown, judged-zero, judged-negative, judged-wide, judged-high, judged-asks}
 use Rattle.layout_column.specs.Columns.{lowEight, hfMulOf}
 use borrow.Author.Needs.{needs}
 use native.Mathlib.Omega.{arith}

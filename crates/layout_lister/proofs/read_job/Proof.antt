@@ -1,4 +1,4 @@
-use Rattle.lister_job.specs.Needed.{needed-fits}
+use Rattle.lister_job.specs.laws.Needed.{needed-fits}
 use borrow.Author.Needs.{needs}
 use native.Mathlib.Omega.{arith}
 use mathlib.Core.Path.{_≡_}

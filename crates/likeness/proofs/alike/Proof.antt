@@ -4,9 +4,9 @@ use lib.ListN.{length}
 use mathlib.Core.Bool.{true, false}
 use borrow.Author.Tests.{not-true, not-false}
 use Rattle.layout.specs.Like.{lent, alikeFrom}
-use Rattle.block_sides.specs.Limits.{lengths-fit}
-use Rattle.block_check.specs.Laws.{lent-cells}
-use Rattle.likeness.specs.LikeSteps.{like-size, like-size-2, like-length, like-length-2, like-fault, like-fault-2, like-says, unlike-wide, unlike-high, alike-cells}
+use Rattle.block_sides.specs.laws.Limits.{lengths-fit}
+use Rattle.block_check.specs.laws.Laws.{lent-cells}
+use Rattle.likeness.specs.laws.LikeSteps.{like-size, like-size-2, like-length, like-length-2, like-fault, like-fault-2, like-says, unlike-wide, unlike-high, alike-cells}
 use borrow.Author.Needs.{needs}
 use native.Mathlib.Omega.{arith}
 use Rattle.likeness.proofs.alike.Statement.{statement}

@@ -4,8 +4,8 @@ use Prim.Native.Nat.{ℕ}
 use Rattle.block_sizes.specs.declared.Sides.{Sides}
 use Rattle.block_sizes.specs.BlockSizes.{sides}
 use Rattle.layout.specs.Kinds.{wideOf, highOf}
-use Rattle.likeness.specs.LikeSteps.{cell-plain, cell-odd, cell-mul, cell-wide, cell-high}
-use Rattle.block_check.specs.Corners.{size-corner}
+use Rattle.likeness.specs.laws.LikeSteps.{cell-plain, cell-odd, cell-mul, cell-wide, cell-high}
+use Rattle.block_check.specs.laws.Corners.{size-corner}
 use borrow.Author.Needs.{needs}
 use native.Mathlib.Omega.{arith}
 use Rattle.likeness.proofs.alike_cell.Statement.{statement}

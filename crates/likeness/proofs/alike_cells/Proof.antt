@@ -3,9 +3,9 @@ use Prim.Native.Nat.{_-_, _≤_}
 use lib.ListN.{length}
 use borrow.Author.Tests.{not-true, not-false}
 use Rattle.dct_select.specs.Transforms.{TRANSFORMS}
-use Rattle.block_sides.specs.Sizes.{widths, heights}
+use Rattle.block_sides.specs.laws.Sizes.{widths, heights}
 use Rattle.layout.specs.Like.{alikeFrom}
-use Rattle.likeness.specs.LikeSteps.{left, like-start, like-next, like-stop, like-end}
+use Rattle.likeness.specs.laws.LikeSteps.{left, like-start, like-next, like-stop, like-end}
 use borrow.Author.Needs.{needs}
 use native.Mathlib.Omega.{arith}
 use Rattle.likeness.proofs.alike_cells.Statement.{statement}

@@ -1,4 +1,4 @@
-use Rattle.lister.specs.ListSteps.{bad-short, bad-first, bad-wide, bad-high}
+use Rattle.lister.specs.laws.ListSteps.{bad-short, bad-first, bad-wide, bad-high}
 use Rattle.text.specs.Text.{Puts}
 use mathlib.Core.List.{List}
 use mathlib.Core.Path.{subst}

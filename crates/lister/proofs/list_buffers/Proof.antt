@@ -1,4 +1,4 @@
-use Rattle.lister.specs.ListSteps.{few-wide, few-high, few-blocks, cleared}
+use Rattle.lister.specs.laws.ListSteps.{few-wide, few-high, few-blocks, cleared}
 use Rattle.lf_group.specs.declared.Blocks.{Blocks}
 use lib.Seq.{length-take-le}
 use lib.ListN.{length-replicate}

@@ -1,7 +1,8 @@
-use Rattle.lister.specs.ListSteps.{bad-cut, bad-end, good, job-text, read-first}
-use Rattle.lister_job.specs.JobSteps.{columns-most}
+use Rattle.lister.specs.laws.ListSteps.{bad-cut, bad-end, good, job-text, read-first}
+use Rattle.lister_job.specs.laws.JobSteps.{columns-most}
 use Rattle.lister_job.specs.Job.{typeAt, mulAt}
-use Rattle.laws.specs.Lists.{tabulate, length-tabulate}
+use Rattle.laws.specs.Lists.{tabulate}
+use Rattle.laws.specs.laws.Lists.{length-tabulate}
 use Rattle.text.specs.Text.{Puts}
 use mathlib.Core.List.{List}
 use mathlib.Core.Path.{subst}

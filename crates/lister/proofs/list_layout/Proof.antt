@@ -1,9 +1,9 @@
-use Rattle.lister.specs.ListSteps.{listed-is, accepts, refuses}
+use Rattle.lister.specs.laws.ListSteps.{listed-is, accepts, refuses}
 use Rattle.lister.specs.Texts.{refusedText}
 use Rattle.text.specs.Text.{Puts}
 use Rattle.hf_metadata.specs.Call.{leaves}
 use Rattle.hf_metadata.specs.declared.LayoutAnswer.{LayoutAnswer}
-use Rattle.zeros.specs.Filled.{zero-bits}
+use Rattle.zeros.specs.laws.Filled.{zero-bits}
 use lib.ListN.{replicate}
 use lib.Ieee.{Float}
 use mathlib.Core.List.{List}

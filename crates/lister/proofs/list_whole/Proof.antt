@@ -1,4 +1,4 @@
-use Rattle.lister.specs.Longest.{text-whole}
+use Rattle.lister.specs.laws.Longest.{text-whole}
 use borrow.Author.Needs.{needs}
 use native.Mathlib.Omega.{arith}
 use Rattle.lister.proofs.list_whole.Statement.{statement}

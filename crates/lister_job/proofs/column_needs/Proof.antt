@@ -1,4 +1,4 @@
-use Rattle.lister_job.specs.Needed.{column-first, column-over, column-other, column-rest}
+use Rattle.lister_job.specs.laws.Needed.{column-first, column-over, column-other, column-rest}
 use borrow.Author.Needs.{needs}
 use Rattle.lister_job.proofs.column_needs.Statement.{statement}
 use Rattle.lister_job.proofs.column_needs.Tie as tie

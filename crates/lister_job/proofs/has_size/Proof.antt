@@ -1,4 +1,4 @@
-use Rattle.lister_job.specs.Needed.{unsized-short, unsized-first, unsized-wide, sized-high}
+use Rattle.lister_job.specs.laws.Needed.{unsized-short, unsized-first, unsized-wide, sized-high}
 use borrow.Author.Needs.{needs}
 use native.Mathlib.Omega.{arith}
 use mathlib.Core.Path.{_∙_, ap}

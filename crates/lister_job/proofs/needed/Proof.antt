@@ -1,4 +1,4 @@
-use Rattle.lister_job.specs.Needed.{needed-size, needed-column, needed-unsized}
+use Rattle.lister_job.specs.laws.Needed.{needed-size, needed-column, needed-unsized}
 use borrow.Author.Needs.{needs}
 use mathlib.Core.Path.{_∙_, sym}
 use Rattle.lister_job.proofs.needed.Statement.{statement}

@@ -1,4 +1,4 @@
-use Rattle.lister_job.specs.JobSteps.{no-byte, one-byte}
+use Rattle.lister_job.specs.laws.JobSteps.{no-byte, one-byte}
 use borrow.Author.Needs.{needs}
 use mathlib.Core.Path.{_∙_}
 use Rattle.lister_job.proofs.number16.Statement.{statement}

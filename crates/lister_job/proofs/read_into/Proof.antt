@@ -1,6 +1,7 @@
 use mathlib.Core.List.{List}
-use Rattle.lister_job.specs.JobSteps.{prefixed-more, countLeft, count-next, count-cut, count-other, count-full}
-use Rattle.lister_job.specs.Job.{prefixed, columns, typeAt, mulAt}
+use Rattle.lister_job.specs.laws.JobSteps.{prefixed-more, countLeft, count-next, count-cut, count-other, count-full}
+use Rattle.lister_job.specs.Job.{columns, typeAt, mulAt}
+use Rattle.lister_job.specs.laws.Job.{prefixed}
 use mathlib.Core.Path.{refl}
 use borrow.Author.Needs.{needs}
 use native.Mathlib.Omega.{arith}

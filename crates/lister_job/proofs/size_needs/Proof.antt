@@ -1,4 +1,4 @@
-use Rattle.lister_job.specs.Needed.{size-first, size-other, size-rest}
+use Rattle.lister_job.specs.laws.Needed.{size-first, size-other, size-rest}
 use borrow.Author.Needs.{needs}
 use Rattle.lister_job.proofs.size_needs.Statement.{statement}
 use Rattle.lister_job.proofs.size_needs.Tie as tie

@@ -1,4 +1,4 @@
-use Rattle.hf_block_context.specs.Parts.{was-accepted, was-refused}
+use Rattle.hf_block_context.specs.laws.Parts.{was-accepted, was-refused}
 use borrow.Author.Needs.{needs}
 use Rattle.netbuff_contexts.proofs.netbuff_block_context.Statement.{statement}
 use Rattle.netbuff_contexts.proofs.netbuff_block_context.Tie as tie

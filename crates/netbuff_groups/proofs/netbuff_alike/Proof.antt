@@ -1,4 +1,4 @@
-use Rattle.netbuff_groups.specs.Record.{like-handed}
+use Rattle.netbuff_groups.specs.laws.Record.{like-handed}
 use borrow.Author.Needs.{needs}
 use Rattle.netbuff_groups.proofs.netbuff_alike.Statement.{statement}
 use Rattle.netbuff_groups.proofs.netbuff_alike.Tie as tie

@@ -1,4 +1,4 @@
-use Rattle.netbuff_groups.specs.Record.{cut-leaves}
+use Rattle.netbuff_groups.specs.laws.Record.{cut-leaves}
 use borrow.Author.Needs.{needs}
 use Rattle.netbuff_groups.proofs.netbuff_cut.Statement.{statement}
 use Rattle.netbuff_groups.proofs.netbuff_cut.Tie as tie

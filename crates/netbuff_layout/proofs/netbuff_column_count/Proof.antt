@@ -1,4 +1,4 @@
-use Rattle.netbuff_layout.specs.Layout.{count-handed}
+use Rattle.netbuff_layout.specs.laws.Layout.{count-handed}
 use borrow.Author.Needs.{needs}
 use Rattle.netbuff_layout.proofs.netbuff_column_count.Statement.{statement}
 use Rattle.netbuff_layout.proofs.netbuff_column_count.Tie as tie

@@ -1,4 +1,4 @@
-use Rattle.netbuff_layout.specs.Layout.{layout-leaves}
+use Rattle.netbuff_layout.specs.laws.Layout.{layout-leaves}
 use borrow.Author.Needs.{needs}
 use Rattle.netbuff_layout.proofs.netbuff_layout.Statement.{statement}
 use Rattle.netbuff_layout.proofs.netbuff_layout.Tie as tie

@@ -1,4 +1,4 @@
-use Rattle.netbuff_orders.specs.Orders.{orders-leave}
+use Rattle.netbuff_orders.specs.laws.Orders.{orders-leave}
 use borrow.Author.Needs.{needs}
 use Rattle.netbuff_orders.proofs.netbuff_orders.Statement.{statement}
 use Rattle.netbuff_orders.proofs.netbuff_orders.Tie as tie

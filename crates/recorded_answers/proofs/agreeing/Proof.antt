@@ -1,5 +1,5 @@
 use Rattle.recorded_answers.specs.Compare.{common}
-use Rattle.recorded_answers.specs.CompareLaws.{common-step, common-differs, common-short, common-end}
+use Rattle.recorded_answers.specs.laws.CompareLaws.{common-step, common-differs, common-short, common-end}
 use borrow.Author.Needs.{needs}
 use native.Mathlib.Omega.{arith}
 use mathlib.Core.Path.{_≡_, _∙_, sym}

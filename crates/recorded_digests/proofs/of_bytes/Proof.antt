@@ -1,4 +1,4 @@
-use Rattle.recorded_digests.specs.DigestLaws.{digest-step, digest-all}
+use Rattle.recorded_digests.specs.laws.DigestLaws.{digest-step, digest-all}
 use Rattle.recorded_digests.specs.Digest.{digest}
 use borrow.Author.Needs.{needs}
 use native.Mathlib.Omega.{arith}

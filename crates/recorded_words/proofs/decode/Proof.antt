@@ -1,6 +1,6 @@
 use Rattle.recorded_words.specs.Words.{wordAt}
 use Rattle.laws.specs.Lists.{tabulate}
-use Rattle.recorded_words.specs.WordsLaws.{put-more, counts-written}
+use Rattle.recorded_words.specs.laws.WordsLaws.{put-more, counts-written}
 use borrow.Author.Needs.{needs}
 use native.Mathlib.Omega.{arith}
 use mathlib.Core.Path.{_≡_, _∙_}

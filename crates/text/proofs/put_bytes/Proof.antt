@@ -1,4 +1,4 @@
-use Rattle.text.specs.Text.{byte-next, byte-full, byte-end}
+use Rattle.text.specs.laws.Text.{byte-next, byte-full, byte-end}
 use lib.Seq.{sets}
 use Prim.Native.Nat.{min}
 use borrow.Author.Needs.{needs}

@@ -1,4 +1,4 @@
-use Rattle.text.specs.Decimal.{fewest-decimal}
+use Rattle.text.specs.laws.Decimal.{fewest-decimal}
 use Rattle.text.specs.Text.{Puts, decimal}
 use mathlib.Core.List.{List}
 use mathlib.Core.Path.{subst}

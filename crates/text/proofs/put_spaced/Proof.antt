@@ -1,4 +1,5 @@
-use Rattle.text.specs.Text.{decimal, puts-then}
+use Rattle.text.specs.Text.{decimal}
+use Rattle.text.specs.laws.Text.{puts-then}
 use borrow.Author.Needs.{needs}
 use Rattle.text.proofs.put_spaced.Statement.{statement}
 use Rattle.text.proofs.put_spaced.Tie as tie

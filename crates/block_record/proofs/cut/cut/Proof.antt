@@ -1,8 +1,8 @@
 use mathlib.Core.Path.{_∙_, sym, ap}
 use lib.ListN.{length}
 use Rattle.block_check.specs.Calls.{saidCheck}
-use Rattle.block_sides.specs.Limits.{in-limits}
-use Rattle.block_record.specs.CutSteps.{passed, ready, copied, cut-refused, cut-done}
+use Rattle.block_sides.specs.laws.Limits.{in-limits}
+use Rattle.block_record.specs.laws.CutSteps.{passed, ready, copied, cut-refused, cut-done}
 use borrow.Author.Needs.{needs}
 use native.Mathlib.Omega.{arith}
 use Rattle.block_record.proofs.cut.cut.Statement.{statement}

@@ -1,5 +1,5 @@
-use Rattle.layout.specs.CutLaws.{starts-x, starts-y}
-use Rattle.block_sides.specs.Limits.{in-limits}
+use Rattle.layout.specs.laws.CutLaws.{starts-x, starts-y}
+use Rattle.block_sides.specs.laws.Limits.{in-limits}
 use native.Mathlib.Omega.{arith}
 use Rattle.block_record.proofs.cut.sides_of.Statement.{statement}
 use Rattle.block_record.proofs.cut.sides_of.Tie as tie

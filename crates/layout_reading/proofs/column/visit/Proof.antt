@@ -1,7 +1,9 @@
-use Rattle.layout_reading.specs.Places.{byJudged, visit-taken, visit-ends, visit-judged}
-use Rattle.layout_reading.specs.Reading.{stateOf, jobWith}
-use Rattle.layout_column.specs.Judged.{asks-most}
-use Rattle.layout_column.specs.Columns.{lowEight, hfMulOf, saidJudged}
+use Rattle.layout_reading.specs.laws.Places.{byJudged, visit-taken, visit-ends, visit-judged}
+use Rattle.layout_reading.specs.Reading.{jobWith}
+use Rattle.layout_reading.specs.laws.Reading.{stateOf}
+use Rattle.layout_column.specs.laws.Judged.{asks-most}
+use Rattle.layout_column.specs.Columns.{lowEight, hfMulOf}
+use Rattle.layout_column.specs.laws.Columns.{saidJudged}
 use lib.Arith.{digits-lt}
 use borrow.Author.Needs.{needs}
 use native.Mathlib.Omega.{arith}

@@ -1,6 +1,7 @@
-use Rattle.layout_reading.specs.Places.{stop-stays}
-use Rattle.layout_reading.specs.Reading.{stateOf, jobWith, stepped}
-use Rattle.layout.specs.Loops.{rowsLeft, cellsLeft, loop-start, loop-enter, loop-next, loop-stop, loop-leave, loop-finish}
+use Rattle.layout_reading.specs.laws.Places.{stop-stays}
+use Rattle.layout_reading.specs.Reading.{jobWith}
+use Rattle.layout_reading.specs.laws.Reading.{stateOf, stepped}
+use Rattle.layout.specs.laws.Loops.{rowsLeft, cellsLeft, loop-start, loop-enter, loop-next, loop-stop, loop-leave, loop-finish}
 use Rattle.layout_reading.specs.Reading.{Going, visit}
 use Rattle.layout_reading.specs.declared.column.Step.{Step}
 use mathlib.Core.Path.{refl}

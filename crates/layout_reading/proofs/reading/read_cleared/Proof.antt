@@ -1,4 +1,4 @@
-use Rattle.layout_reading.specs.Lengths.{read-accepts, read-refuses}
+use Rattle.layout_reading.specs.laws.Lengths.{read-accepts, read-refuses}
 use Rattle.layout_reading.specs.Reading.{jobWith}
 use lib.ListN.{replicate}
 use borrow.Author.Needs.{needs}

@@ -1,4 +1,4 @@
-use Rattle.text.specs.Text.{puts-then}
+use Rattle.text.specs.laws.Text.{puts-then}
 use borrow.Author.Needs.{needs}
 use Rattle.lister.proofs.lines.put_accepted.Statement.{statement}
 use Rattle.lister.proofs.lines.put_accepted.Tie as tie

@@ -1,4 +1,4 @@
-use Rattle.text.specs.Text.{puts-none}
+use Rattle.text.specs.laws.Text.{puts-none}
 use Rattle.layout.specs.Grid.{at}
 use borrow.Author.Tests.{le-leb, lt-leb}
 use lib.Arith.{digits-lt}

@@ -1,6 +1,6 @@
 use mathlib.Core.List.{[], _++_}
-use Rattle.lister.specs.Lines.{linesLeft, lines-start, lines-next, lines-turn, lines-end, Continues, goes-start, goes-same, goes-on, goes-far, goes-end}
-use Rattle.lister.specs.Texts.{lineAt}
+use Rattle.lister.specs.laws.Lines.{linesLeft, lines-start, lines-next, lines-turn, lines-end, Continues, goes-start, goes-same, goes-on, goes-far, goes-end}
+use Rattle.lister.specs.laws.Texts.{lineAt}
 use Rattle.text.specs.Text.{Puts}
 use mathlib.Core.List.{List}
 use mathlib.Core.Path.{subst}

@@ -1,5 +1,5 @@
 use Rattle.recorded_lists.specs.Frames.{frameOf}
-use Rattle.recorded_lists.specs.ListsLaws.{in-room, no-room}
+use Rattle.recorded_lists.specs.laws.ListsLaws.{in-room, no-room}
 use borrow.Author.Tests.{le-leb, eq-eqb, ne-eqb}
 use borrow.Author.Needs.{needs}
 use native.Mathlib.Omega.{arith}

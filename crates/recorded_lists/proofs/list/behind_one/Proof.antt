@@ -1,4 +1,4 @@
-use Rattle.recorded_lists.specs.ListsLaws.{in-room, no-room}
+use Rattle.recorded_lists.specs.laws.ListsLaws.{in-room, no-room}
 use borrow.Author.Tests.{le-leb}
 use borrow.Author.Needs.{needs}
 use native.Mathlib.Omega.{arith}

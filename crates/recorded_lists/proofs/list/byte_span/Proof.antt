@@ -1,4 +1,4 @@
-use Rattle.recorded_lists.specs.ListsLaws.{in-room, no-room}
+use Rattle.recorded_lists.specs.laws.ListsLaws.{in-room, no-room}
 use borrow.Author.Tests.{lt-leb, le-leb, leb-false}
 use borrow.Author.Needs.{needs}
 use native.Mathlib.Omega.{arith}

@@ -1,4 +1,4 @@
-use Rattle.recorded_lists.specs.ListsLaws.{room}
+use Rattle.recorded_lists.specs.laws.ListsLaws.{room}
 use borrow.Author.Tests.{lt-leb}
 use borrow.Author.Needs.{needs}
 use native.Mathlib.Omega.{arith}

@@ -1,5 +1,5 @@
 use Rattle.recorded_lists.specs.Lists.{placeOf}
-use Rattle.recorded_lists.specs.ListsLaws.{place-step, place-end}
+use Rattle.recorded_lists.specs.laws.ListsLaws.{place-step, place-end}
 use borrow.Author.Needs.{needs}
 use native.Mathlib.Omega.{arith}
 use mathlib.Core.Path.{_≡_, _∙_, sym}

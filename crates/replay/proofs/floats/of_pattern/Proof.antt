@@ -1,4 +1,4 @@
-use Rattle.replay.specs.Patterns.{no-nan-field, no-nan-digits}
+use Rattle.replay.specs.laws.Patterns.{no-nan-field, no-nan-digits}
 use borrow.Author.Needs.{needs}
 use Prim.Native.Nat.{_-_}
 use lib.ListN.{take}

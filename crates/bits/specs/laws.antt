@@ -1,0 +1,4 @@
+-- what is proved from the definitions
+pub mod Numbers
+pub mod Laws
+pub mod Near

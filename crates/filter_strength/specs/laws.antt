@@ -1,0 +1,5 @@
+-- what is proved from the definitions
+pub mod Strength
+pub mod Limits
+pub mod LimitLaws
+pub mod Finite

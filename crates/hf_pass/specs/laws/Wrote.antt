@@ -1,0 +1,69 @@
+-- Laws: Stores that an accepted order call wrote.
+use mathlib.Core.Path.{_≡_, refl, ap, sym, _∙_}
+use mathlib.Core.Bool.{Bool, true, false, cond}
+use mathlib.Core.List.{List, []}
+use Prim.Native.Nat.{ℕ, _+_, _*_, _<_}
+use native.Mathlib.Omega.{arith}
+use lib.Dec.{eqb}
+use lib.ListN.{length, getD}
+use Rattle.refusal.specs.declared.Refusal.the-variants as refusal
+use Rattle.bits.specs.Bits.{Read, Value, Ended}
+use Rattle.block_sizes.specs.BlockSizes.{widthOf, heightOf}
+use Rattle.natural_order.specs.Places.{Place, flat}
+use Rattle.natural_order.specs.Order.{Order}
+use Rattle.hf_pass_store.specs.Store.{stored, stretch, placesFit, PLACES}
+use Rattle.hf_pass.specs.declared.OrdersAnswer.the-variants as answer
+use Rattle.hf_pass.specs.Reading.{Reading, Given, Refused, orders}
+use Rattle.hf_pass.specs.Call.{Outcome, outcome, usedOrders, written, read, parsed}
+use Rattle.hf_pass.specs.laws.Accepted.{orders-accepted}
+use Rattle.hf_pass.specs.laws.Stretch.{stretch-list}
+use Rattle.hf_pass.specs.laws.Fits.{accepted-fits}
+use Rattle.hf_pass.specs.Wrote.{Wrote}
+
+-- the lists behind it
+pub record Behind (store : List ℕ) : Type 0 where
+  pub used : ℕ
+  pub symbols : List ℕ
+  pub lists : List (List Place)
+  pub left : List ℕ
+  pub count : ℕ
+  pub given : orders used symbols ≡ Given lists left count
+  pub is : store ≡ stored lists
+
+of-written : (used : ℕ) (symbols store : List ℕ) (n : ℕ) (r : Reading (List (List Place))) → orders used symbols ≡ r → written r ≡ outcome (answer.Accepted n) store → Behind store
+of-written used symbols store n (Given ls vs m) e w =
+    let s : stored ls ≡ store = ap (λ (o : Outcome). o .store) w in
+    record { used = used; symbols = symbols; lists = ls; left = vs; count = m; given = e; is = sym s }
+of-written used symbols store n (Refused why) e w = absurd (let z : _≡_ {A = ℕ} 0 1 = cc (ap (λ (o : Outcome). o .answer) w) in omega arith)
+
+of-read : (b : Read ℕ) (symbols earlier store : List ℕ) (n : ℕ) → read b symbols earlier ≡ outcome (answer.Accepted n) store → Behind store
+of-read (Value used at) symbols earlier store n e = of-written used symbols store n (orders used symbols) refl e
+of-read (Ended at) symbols earlier store n e = absurd (let z : _≡_ {A = ℕ} 0 1 = cc (ap (λ (o : Outcome). o .answer) e) in omega arith)
+
+pub behind : (store : List ℕ) → Wrote store → Behind store
+unfolding parsed
+behind store w = go (eqb (length (w .earlier)) (2 * PLACES)) (w .call)
+  where
+    go : (b : Bool) → cond b (read (usedOrders (w .bytes)) (w .symbols) (w .earlier)) (outcome (answer.Refused refusal.Length) (w .earlier)) ≡ outcome (answer.Accepted (w .count)) store → Behind store
+    go true e = of-read (usedOrders (w .bytes)) (w .symbols) (w .earlier) store (w .count) e
+    go false e = absurd (let z : _≡_ {A = ℕ} 0 1 = cc (ap (λ (o : Outcome). o .answer) e) in omega arith)
+
+module _ (store : List ℕ) (w : Wrote store) where
+  abbrev b : Behind store
+  b = behind store w
+
+  -- the list of an order and a channel
+  abbrev pub listOf : ℕ → ℕ → List Place
+  listOf k c = getD (b .lists) (3 * k + c) []
+
+  -- it is an order of its size: each cell just once, the corner first
+  pub wrote-order : (k c : ℕ) → k < 13 → c < 3 → Order (widthOf k) (heightOf k) (listOf k c)
+  wrote-order k c h l = orders-accepted (b .used) (b .symbols) (b .lists) (b .left) (b .count) (b .given) .list k c h l .order
+
+  -- and looking it up hands it back
+  pub wrote-stretch : (k c : ℕ) → k < 13 → c < 3 → stretch store k c ≡ flat (listOf k c)
+  wrote-stretch k c h l = ap (λ (s : List ℕ). stretch s k c) (b .is) ∙ stretch-list (b .used) (b .symbols) (b .lists) (b .left) (b .count) (b .given) k c h l
+
+  -- so every stored place is inside
+  pub wrote-fits : placesFit store ≡ true
+  wrote-fits = ap placesFit (b .is) ∙ accepted-fits (b .used) (b .symbols) (b .lists) (b .left) (b .count) (b .given)

@@ -1,0 +1,4 @@
+-- what is proved from the definitions
+pub mod Cases
+pub mod Lists
+pub mod Tables

@@ -1,0 +1,29 @@
+-- Laws: A rule over a whole table: one test that computes, and the rule at each entry.
+use mathlib.Core.Bool.{Bool}
+use mathlib.Core.List.{List, [], _∷_}
+use mathlib.Core.Path.{_≡_}
+use mathlib.Core.Logic.{_⊎_, inl, inr}
+use Prim.Native.Nat.{ℕ, zero, suc, _+_, _≤_, _<_}
+use native.Mathlib.Omega.{arith}
+use native.Mathlib.Nat.{not-suc-le-zero, le-of-suc-le-suc}
+use lib.Dec.{T}
+use lib.Ieee.Fits.{and-l, and-r}
+use lib.ListN.{length, getD}
+use Rattle.laws.specs.laws.Cases.{eq-or-ne}
+use Rattle.laws.specs.Tables.{each, every}
+
+module _ {A : Type 0} (rule : A → Bool) where
+  pub at-each : (xs : List A) → T (every rule xs) → (d : A) (k : ℕ) → k < length xs → T (rule (getD xs k d))
+  at-each [] t d k h = absurd (not-suc-le-zero h)
+  at-each (x ∷ xs) t d zero h = and-l (rule x) (every rule xs) t
+  at-each (x ∷ xs) t d (suc k) h = at-each xs (and-r (rule x) (every rule xs) t) d k (le-of-suc-le-suc h)
+
+-- A rule over the numbers o, o + 1, .., n of them.
+module _ (rule : ℕ → Bool) where
+  pub each-at : (n o : ℕ) → T (each rule n o) → (k : ℕ) → o ≤ k → k < o + n → T (rule k)
+  each-at zero o t k l h = absurd (omega arith)
+  each-at (suc n) o t k l h = go (eq-or-ne k o) (λ a b. each-at n (o + 1) (and-r (rule o) (each rule n (o + 1)) t) k a b)
+    where
+      go : (k ≡ o) ⊎ (k ≡ o → ⊥) → (o + 1 ≤ k → k < o + 1 + n → T (rule k)) → T (rule k)
+      go (inl e) rest = rw e (and-l (rule o) (each rule n (o + 1)) t)
+      go (inr d) rest = rest (omega arith) (omega arith)

@@ -1,0 +1,7 @@
+-- what is proved from the definitions
+pub mod Scan
+pub mod ScanSteps
+pub mod Reading
+pub mod Outcome
+pub mod Places
+pub mod Lengths

@@ -1,0 +1,34 @@
+-- A group within its limits has at most 256 blocks each way.
+use mathlib.Core.Path.{_≡_}
+use mathlib.Core.Bool.{Bool, true, false, _&&_}
+use mathlib.Core.List.{List}
+use Prim.Native.Nat.{ℕ, _≤_}
+use native.Mathlib.Omega.{arith}
+use lib.Dec.{T, leb, leb→le}
+use lib.Ieee.Fits.{and-l, and-r}
+use Rattle.lf_group.specs.Blocks.{sizeFits, blocks, evenIf, anyEither, bwIn, bhIn}
+
+side : (even : Bool) (pixels : ℕ) → pixels ≤ 2048 → evenIf even (blocks pixels) ≤ 256
+side true pixels h = omega arith
+side false pixels h = omega arith
+
+module _ (width height : ℕ) (fits : sizeFits width height ≡ true) where
+  passed : T (sizeFits width height)
+  passed = rw fits tt
+
+  width-most : width ≤ 2048
+  width-most =
+      let a = and-l (leb 1 width && leb width 2048 && leb 1 height) (leb height 2048) passed in
+      let b = and-l (leb 1 width && leb width 2048) (leb 1 height) a in
+      leb→le width 2048 (and-r (leb 1 width) (leb width 2048) b)
+
+  height-most : height ≤ 2048
+  height-most = leb→le height 2048 (and-r (leb 1 width && leb width 2048 && leb 1 height) (leb height 2048) passed)
+
+  pub bw-most : (modes : List ℕ) → bwIn width modes ≤ 256
+  unfolding bwIn
+  bw-most modes = side (anyEither modes 1 2) width width-most
+
+  pub bh-most : (modes : List ℕ) → bhIn height modes ≤ 256
+  unfolding bhIn
+  bh-most modes = side (anyEither modes 1 3) height height-most

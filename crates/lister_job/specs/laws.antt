@@ -1,0 +1,5 @@
+-- what is proved from the definitions
+pub mod Job
+pub mod JobSteps
+pub mod Needed
+pub mod Reading

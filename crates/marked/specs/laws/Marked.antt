@@ -1,0 +1,63 @@
+-- Laws: Document 01's marked examples, as rows of one list under one theorem.
+use mathlib.Core.Path.{refl}
+use Prim.Native.Nat.{_-_}
+use lib.Ieee.{le, lt, eq, mul, div, ofInt, toBits, round, size, span, climb, units, odd}
+use lib.Count.{trailingZeros}
+use Rattle.dct_select.specs.Transforms.{TRANSFORMS, wide, high}
+use Rattle.layout.specs.Walk.{cells, rows}
+use Rattle.lf_group.specs.Blocks.{bwIn, bhIn}
+use Rattle.filter_strength.specs.Strength.{scaledBy, dividedBy}
+use Rattle.filter_strength.specs.laws.Strength.{m8}
+use Rattle.filter_strength.specs.Limits.{inLimits}
+use Rattle.layout_reading.specs.Scan.{takeCell, scan}
+use Rattle.layout_reading.specs.Reading.{place, column, reading}
+use Rattle.hf_metadata.specs.Call.{layoutOf}
+use Rattle.accepted_layout.specs.laws.Marked.{m4, m4-varblocks, m4-area, m5, m5-refused, m6, m6-refused}
+use Rattle.hf_pass.specs.laws.Marked.{m1, m2}
+use Rattle.marked.specs.laws.Lines.{five-lines}
+use Rattle.marked.specs.laws.Orders.{one-digit}
+use Rattle.marked.specs.laws.Coefficients.{passes-252, refuses-253, reads-two-bits, refuses-3, takes-others, six-symbols}
+use Rattle.marked.specs.Marked.{Each, M1, M10, M11, M2, M3, M4, M5, M6, M7, M8, M9, MARKED}
+
+row1 : M1
+row1 = m1
+
+row2 : M2
+row2 = m2
+
+row3 : M3
+row3 = one-digit
+
+row4 : M4
+row4 = (m4, m4-varblocks, m4-area, five-lines)
+
+row5 : M5
+row5 = (m5, m5-refused)
+
+row6 : M6
+row6 = (m6, m6-refused)
+
+row7 : M7
+unfolding layoutOf bwIn bhIn inLimits le lt eq reading column place scan takeCell rows cells wide high TRANSFORMS scaledBy dividedBy mul div ofInt toBits round size span climb units odd trailingZeros
+row7 = refl
+
+row8 : M8
+unfolding layoutOf bwIn bhIn inLimits le lt eq reading column place scan takeCell rows cells wide high TRANSFORMS scaledBy dividedBy mul div ofInt toBits round size span climb units odd trailingZeros
+row8 = (m8, refl, refl)
+
+row9 : M9
+row9 map log g0 g1 g2 r = (passes-252 map log g0 g1 g2 r, refuses-253 map log g0 g1 g2 r)
+
+row10 : M10
+row10 map symbols log g0 g1 g2 r = (reads-two-bits map symbols log g0 g1 g2 r, refuses-3 map symbols log g0 g1 g2 r, takes-others map symbols log g0 g1 g2 r)
+
+row11 : M11
+row11 = six-symbols
+
+infixr 5 _and_
+abbrev _and_ : {A B : Type 0} → A → B → A × B
+a and b = (a, b)
+
+pub marked : Each MARKED
+unfolding MARKED
+marked = row1 and row2 and row3 and row4 and row5 and row6 and row7 and row8 and row9 and row10 and row11 and tt

@@ -1,0 +1,15 @@
+-- Laws: What the exported order call hands out (document 01, Orders and Refused).
+use mathlib.Core.Path.{_≡_, ap, _∙_}
+use mathlib.Core.List.{List}
+use Prim.Native.Nat.{ℕ}
+use Rattle.hf_pass.specs.declared.OrdersAnswer.{OrdersAnswer}
+use Rattle.hf_pass.specs.Call.{answered, Outcome, outcome}
+use Rattle.netbuff_orders.specs.Orders.{Handed, OrdersLeave, handed}
+
+-- the call's own answer, handed on
+pub orders-leave : (h : Handed) (a : OrdersAnswer) (store : List ℕ) (kept : ℕ) (o : Outcome) → outcome a store ≡ o → h ≡ handed (answered a) kept → OrdersLeave h store kept o
+orders-leave h a store kept o e f =
+    record {
+      handedIs = f ∙ ap (λ (z : Outcome). handed (z .answer) kept) e;
+      storeIs = ap (λ (z : Outcome). z .store) e;
+    }

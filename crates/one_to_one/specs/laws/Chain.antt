@@ -1,0 +1,48 @@
+-- Demand 3 from the calls' own answers (document 00): an accepted layout, cut; accepted contexts; orders as an accepted order call wrote them.
+use mathlib.Core.Path.{_≡_, ap}
+use mathlib.Core.Logic.{_↔_}
+use mathlib.Core.List.{List}
+use Prim.Native.Nat.{ℕ}
+use Rattle.block_check.specs.Calls.{gives, checkOf}
+use Rattle.block_sides.specs.Limits.{Sided}
+use Rattle.block_sides.specs.laws.Limits.{limits-in}
+use Rattle.block_check.specs.laws.Theorems.{checked}
+use Rattle.block_record.specs.Calls.{group}
+use Rattle.block_record.specs.laws.Theorems.{cut-checks}
+use Rattle.hf_metadata.specs.Call.{layoutOf}
+use Rattle.accepted_layout.specs.Theorems.{bwOf, bhOf}
+use Rattle.hf_block_context.specs.laws.Accepted.{accepted-fit}
+use Rattle.hf_coeff_group.specs.Group.{Grids}
+use Rattle.hf_coeff.specs.Call.{Lent}
+use Rattle.one_to_one.specs.Filling.{Fixed, Given, Filling, Fills, Fails, Words}
+use Rattle.one_to_one.specs.Sequence.{theSequence}
+use Rattle.one_to_one.specs.laws.Demand3.{one-sequence, every-other}
+
+module _ (L : Lent) (given : Given L) where
+  -- a group that an accepted cut call wrote is one that 18 lets pass, 1 to 32 blocks each way
+  passes : checkOf 32 (L .pass .bw) (L .pass .bh) (L .pass .kinds) (L .pass .hfMul) ≡ gives tt
+  passes =
+      let l = layoutOf (given .inputs) (given .kinds) (given .hfMul) (given .sigma) in
+      let c = cut-checks (bwOf (given .inputs)) (bhOf (given .inputs)) (l .kinds) (l .hfMul) (given .g) (given .outKinds) (given .outMuls)
+      (group (L .pass .bw) (L .pass .bh)) (ap (λ o. o .answer) (given .cutting)) in
+      rw (given .cutting) at c
+
+  sides-in : Sided 32 (L .pass .bw) (L .pass .bh)
+  sides-in = checked 32 (L .pass .bw) (L .pass .bh) (L .pass .kinds) (L .pass .hfMul) passes .0
+
+  pub fixed-by-calls : Fixed L
+  fixed-by-calls = record {
+    sides = limits-in 32 (L .pass .bw) (L .pass .bh) sides-in;
+    layout = checked 32 (L .pass .bw) (L .pass .bh) (L .pass .kinds) (L .pass .hfMul) passes .1;
+    contexts = rw (given .record-is) (accepted-fit (given .bytes) (given .areBytes) (given .count) (given .map) (given .bitsRead) (given .contexts));
+    orders = given .wrote;
+    rest = given .rest;
+  }
+
+  -- one sequence and only one, from the calls' answers
+  pub one-sequence-by-calls : (W : Grids) → Filling L W → Words (theSequence (L .pass) (L .grids) W) × ((s : List ℕ) → Words s → Fills L s W ↔ (s ≡ theSequence (L .pass) (L .grids) W))
+  one-sequence-by-calls W filling = one-sequence L fixed-by-calls W filling
+
+  -- and every other sequence fails
+  pub every-other-by-calls : (W : Grids) → Filling L W → (s : List ℕ) → Words s → Fails L s W ↔ (s ≡ theSequence (L .pass) (L .grids) W → ⊥)
+  every-other-by-calls W filling = every-other L fixed-by-calls W filling

@@ -1,0 +1,80 @@
+-- What examples open to be computed: a proof that says `unfolding layout-computes` opens all that its line names.
+use mathlib.Core.Bool.{Bool, true}
+use mathlib.Core.List.{List, [], _∷_}
+use Prim.Native.Nat.{ℕ, zero, suc, _^_, _<_}
+use native.Mathlib.Omega.{arith}
+use lib.Dec.{T, ltb, ltb→lt}
+use lib.ListN.{getD}
+use lib.Ieee.{le, lt, eq}
+use lib.Ieee.Fits.{and-l, and-r}
+use Rattle.laws.specs.Tables.{every}
+use Rattle.bits.specs.Bits.{readBits, readU32, bitsOf, valueOf}
+use Rattle.coded_numbers.specs.Exponent.{exponentFrom}
+use Rattle.coded_numbers.specs.Signed.{unpackSigned, pack, symbol}
+use Rattle.dct_select.specs.Transforms.{TRANSFORMS, wide, high, orderOf, turns}
+use Rattle.natural_order.specs.Places.{paired}
+use Rattle.natural_order.specs.Natural.{natural}
+use Rattle.layout.specs.Walk.{cells, rows}
+use Rattle.layout.specs.Varblocks.{cornersRow, cornersFrom}
+use Rattle.layout.specs.Grid.{rowOf, gridFrom, fillFrom}
+use Rattle.layout.specs.Cut.{cut, groupX, groupY}
+use Rattle.layout.specs.Check.{clear, fitting, visitCell, checkRun}
+use Rattle.lf_group.specs.Blocks.{bwIn, bhIn}
+use Rattle.filter_strength.specs.Strength.{scaledBy, dividedBy}
+use Rattle.filter_strength.specs.Limits.{inLimits}
+use Rattle.layout_reading.specs.Scan.{takeCell, scan}
+use Rattle.layout_reading.specs.Reading.{place, column, reading}
+use Rattle.hf_metadata.specs.Call.{layoutOf}
+use Rattle.block_sides.specs.Limits.{inLimits as inLimits32, lengthsFit as lengthsFit2}
+use Rattle.block_record.specs.Calls.{cutCheck}
+use Rattle.block_context_index.specs.Contexts.{sizeOf, above, lfIndexIn, placeOf}
+use Rattle.hf_block_context.specs.Call.{contextsOf}
+use Rattle.hf_coeff_walk.specs.Walk.{walk, coeffContext, FREQ, NUM-NONZERO}
+use Rattle.hf_coeff_walk.specs.Places.{placesOf}
+use Rattle.hf_coeff_walk.specs.Item.{counted}
+use Rattle.hf_coeff_group.specs.Group.{Grids, item, read}
+use Rattle.hf_coeff_group.specs.Pass.{itemOf, itemsOf}
+use Rattle.one_to_one.specs.Filling.{cell, isLow, wanted}
+use Rattle.one_to_one.specs.Sequence.{nonZeros, upTo, sent, theSequence}
+
+unfoldable pub layout-computes : Bool
+unfolding layoutOf bwIn bhIn inLimits le lt eq reading column place scan takeCell rows cells wide high TRANSFORMS scaledBy dividedBy
+layout-computes = true
+
+unfoldable pub cut-computes : Bool
+unfolding cutCheck inLimits32 lengthsFit2 bwIn bhIn groupX groupY checkRun rows cells visitCell fitting clear wide high TRANSFORMS fillFrom cut gridFrom rowOf
+cut-computes = true
+
+unfoldable pub bits-compute : Bool
+unfolding readU32 readBits bitsOf valueOf exponentFrom
+bits-compute = true
+
+unfoldable pub items-compute : Bool
+unfolding itemsOf itemOf placesOf paired natural cornersRow cornersFrom orderOf turns wide high TRANSFORMS
+items-compute = true
+
+unfoldable pub reading-computes : Bool
+unfolding items-compute read item counted walk coeffContext FREQ NUM-NONZERO unpackSigned contextsOf sizeOf above lfIndexIn placeOf
+reading-computes = true
+
+unfoldable pub sequence-computes : Bool
+unfolding items-compute theSequence sent nonZeros upTo symbol pack
+sequence-computes = true
+
+unfoldable pub wanted-computes : Bool
+unfolding wanted isLow gridFrom rowOf cornersRow cornersFrom wide high TRANSFORMS
+wanted-computes = true
+
+-- numbers below m, by a test
+pub below : (m : ℕ) → 0 < m → (l : List ℕ) → T (every (λ (v : ℕ). ltb v m) l) → (i : ℕ) → getD l i 0 < m
+below m z [] t i = z
+below m z (v ∷ l) t zero = ltb→lt v m (and-l (ltb v m) (every (λ (v : ℕ). ltb v m) l) t)
+below m z (v ∷ l) t (suc i) = below m z l (and-r (ltb v m) (every (λ (v : ℕ). ltb v m) l) t) i
+
+abbrev small : List ℕ → Bool
+small g = every (λ (v : ℕ). ltb v (2 ^ 32)) g
+
+pub cells-below : (G : Grids) → T (every small G) → (c p : ℕ) → cell G c p < 2 ^ 32
+cells-below [] t c p = omega arith
+cells-below (g ∷ G) t zero p = below (2 ^ 32) (omega arith) g (and-l (small g) (every small G) t) p
+cells-below (g ∷ G) t (suc c) p = cells-below G (and-r (small g) (every small G) t) c p

@@ -1,0 +1,163 @@
+-- Laws: The premises of demand 3 met together with all that they speak of, as the calls themselves hand it on: M4's layout through the cut, thresholds on
+-- all four lists, LF grids, permuted orders, the last of three presets, starting grids that are not zero; and the symbols of a filling.
+use mathlib.Core.Path.{_≡_, refl, ap, sym, subst, _∙_}
+use mathlib.Core.Bool.{true}
+use mathlib.Core.List.{List, [], _∷_}
+use Prim.Native.Nat.{ℕ, zero, suc, _+_, _*_, _<_}
+use native.Mathlib.Omega.{arith}
+use lib.ListN.{length, getD, replicate, length-replicate}
+use borrow.Author.Tests.{eq-eqb}
+use Rattle.bits.specs.Bits.{Value}
+use Rattle.coded_numbers.specs.Signed.{unpackSigned}
+use Rattle.block_sizes.specs.BlockSizes.{BLOCK-SIZES}
+use Rattle.natural_order.specs.Places.{flat}
+use Rattle.natural_order.specs.Natural.{natural}
+use Rattle.filter_strength.specs.declared.Filter.the-variants.{Off}
+use Rattle.filter_strength.specs.Strength.{zero32}
+use Rattle.hf_metadata.specs.Call.{Inputs, inputs, layoutOf, accepted}
+use Rattle.hf_pass_store.specs.Store.{PLACES, stretch}
+use Rattle.refusal.specs.Answer as answer
+use Rattle.hf_pass.specs.declared.OrdersAnswer.the-variants as orderAnswer
+use Rattle.hf_pass.specs.Reading.{Given as GivenLists, digits, oneList, orders}
+use Rattle.hf_pass.specs.Call as order
+use Rattle.hf_pass.specs.laws.Stretch.{store-length, stretch-list}
+use Rattle.hf_pass.specs.Wrote.{Wrote}
+use Rattle.block_context.specs.Record.{bsizeOf}
+use Rattle.thresholds.specs.Thresholds.{lfValue, qfValue, readValues, readList, readLists}
+use Rattle.hf_block_context.specs.Call as context
+use Rattle.hf_coeff.specs.Call.{lengthsFit, readPreset}
+use Rattle.block_check.specs.Calls.{gives}
+use Rattle.block_record.specs.Calls.{group, outcome, cutOf}
+use Rattle.block_record.specs.laws.CutSteps.{cut-done}
+use Rattle.accepted_layout.specs.Theorems.{bwOf, bhOf}
+use Rattle.one_to_one.specs.Filling.{cell, wanted, Fixed, Filling, Fills, Given}
+use Rattle.one_to_one.specs.Sequence.{theSequence}
+use Rattle.one_to_one.specs.laws.Demand3.{one-sequence}
+use Rattle.one_to_one.specs.laws.Wanted.{wanted-filling}
+use Rattle.one_to_one.specs.laws.Chain.{fixed-by-calls}
+use Rattle.one_to_one.specs.laws.Computes.{layout-computes, cut-computes, bits-compute, sequence-computes, wanted-computes, below, cells-below}
+use Rattle.one_to_one.specs.FullWitness.{changed, contexts, full, kinds, lists, map, muls, pairs, start, store}
+
+abbrev digitSymbols : List ℕ
+digitSymbols = 1 ∷ 1 ∷ 2 ∷ 2 ∷ 0 ∷ 0 ∷ []
+
+lists-read : orders 1 digitSymbols ≡ GivenLists lists [] 6
+unfolding orders oneList digits BLOCK-SIZES
+lists-read = refl
+
+store-long : length store ≡ 2 * PLACES
+unfolding store
+store-long = store-length 1 digitSymbols lists [] 6 lists-read
+
+list-of : (k c : ℕ) → k < 13 → c < 3 → stretch store k c ≡ flat (getD lists (3 * k + c) [])
+unfolding store
+list-of k c h l = stretch-list 1 digitSymbols lists [] 6 lists-read k c h l
+
+-- bits 1, 1: a field of 13 bits; its lowest bit: order 0
+order-call : order.parsed (7 ∷ 0 ∷ []) digitSymbols (replicate (2 * PLACES) 0) ≡ order.outcome (orderAnswer.Accepted 6) store
+unfolding bits-compute order.parsed store
+order-call = rw (eq-eqb (length (replicate {A = ℕ} (2 * PLACES) 0)) (2 * PLACES) (length-replicate (2 * PLACES) 0), lists-read)
+
+store-wrote : Wrote store
+store-wrote = record { bytes = 7 ∷ 0 ∷ []; symbols = digitSymbols; earlier = replicate (2 * PLACES) 0; count = 6; call = order-call }
+
+contexts-read : context.parsed (2 ∷ 8 ∷ 38 ∷ 160 ∷ 32 ∷ []) 2 map ≡ context.accepted 39 contexts
+unfolding bits-compute context.parsed context.judged readLists readList readValues lfValue qfValue unpackSigned bsizeOf pairs
+contexts-read = refl
+
+-- The layout: 16 × 16 pixels, modes 0, columns (6,4) (0,0) (0,2), filter off.
+abbrev pub columns : Inputs
+columns = inputs 16 16 (0 ∷ 0 ∷ 0 ∷ []) (6 ∷ 0 ∷ 0 ∷ []) (4 ∷ 0 ∷ 2 ∷ []) (replicate 4 0) Off (replicate 8 zero32) 1
+
+abbrev four : List ℕ
+four = replicate 4 0
+
+layout-accepted : layoutOf columns four four four ≡ record { answer = answer.gives 3; kinds = kinds; hfMul = muls; sigma = four }
+unfolding layout-computes
+layout-accepted = refl
+
+cut-accepted : cutOf (bwOf columns) (bhOf columns) kinds muls 0 four four ≡ outcome (gives (group 2 2)) kinds muls
+unfolding cut-computes
+cut-accepted = cut-done (bwOf columns) (bhOf columns) kinds muls 0 four four refl
+
+lengths-fit : lengthsFit full ≡ true
+unfolding context.contextsOf
+lengths-fit = rw (eq-eqb (length store) (2 * PLACES) store-long)
+
+two-bits : readPreset full ≡ Value 2 2
+unfolding bits-compute
+two-bits = refl
+
+-- what the calls gave
+pub given : Given full
+given = record {
+  inputs = columns;
+  kinds = four;
+  hfMul = four;
+  sigma = four;
+  used = 3;
+  layout = ap (λ o. o .answer) layout-accepted;
+  g = 0;
+  outKinds = four;
+  outMuls = four;
+  cutting = ap (λ o. cutOf (bwOf columns) (bhOf columns) (o .kinds) (o .hfMul) 0 four four) layout-accepted ∙ cut-accepted;
+  bytes = 2 ∷ 8 ∷ 38 ∷ 160 ∷ 32 ∷ [];
+  areBytes = below 256 (omega arith) (2 ∷ 8 ∷ 38 ∷ 160 ∷ 32 ∷ []) tt;
+  count = 2;
+  map = map;
+  bitsRead = 39;
+  contexts = ap (λ r. r .answer) contexts-read;
+  record-is = sym (ap (λ r. r .contexts) contexts-read);
+  wrote = store-wrote;
+  rest = record {
+    few = omega arith;
+    preset = 2;
+    bits = 2;
+    readWhole = two-bits;
+    below = omega arith;
+    lengths = lengths-fit;
+    three = refl;
+    start = cells-below start tt;
+    shift = refl;
+  };
+}
+
+-- all premises of demand 3
+pub fixed : Fixed full
+fixed = fixed-by-calls full given
+
+-- none of these cells is low-frequency
+changed-is : wanted full (cell changed) ≡ changed
+unfolding wanted-computes
+changed-is = refl
+
+pub filling : Filling full changed
+filling = subst (Filling full) changed-is (wanted-filling full fixed (cell changed) (cells-below changed tt))
+
+-- its symbols
+lists-0 : (c : ℕ) → c < 3 → getD lists (3 * 4 + c) [] ≡ natural 16 8
+unfolding BLOCK-SIZES
+lists-0 zero l = refl
+lists-0 (suc zero) l = refl
+lists-0 (suc (suc zero)) l = refl
+lists-0 (suc (suc (suc c))) l = absurd (omega arith)
+
+order-4 : (c : ℕ) → c < 3 → stretch store 4 c ≡ flat (natural 16 8)
+order-4 c l = list-of 4 c (omega arith) l ∙ ap flat (lists-0 c l)
+
+pub sequence-is : theSequence (full .pass) (full .grids) changed ≡ 1 ∷ 6 ∷ 0 ∷ 1 ∷ 0 ∷ 14 ∷ 1 ∷ 0 ∷ 0 ∷ 3 ∷ 0 ∷ 0 ∷ 0 ∷ 1 ∷ 0 ∷ 2 ∷ 0 ∷ []
+unfolding sequence-computes
+sequence-is =
+    rw (
+      order-4 0 (omega arith),
+      order-4 1 (omega arith),
+      order-4 2 (omega arith),
+      list-of 0 0 (omega arith) (omega arith),
+      list-of 0 1 (omega arith) (omega arith),
+      list-of 0 2 (omega arith) (omega arith),
+    )
+
+pub filled : Fills full (1 ∷ 6 ∷ 0 ∷ 1 ∷ 0 ∷ 14 ∷ 1 ∷ 0 ∷ 0 ∷ 3 ∷ 0 ∷ 0 ∷ 0 ∷ 1 ∷ 0 ∷ 2 ∷ 0 ∷ []) changed
+filled =
+    let o = one-sequence full fixed changed filling in
+    o .1 (1 ∷ 6 ∷ 0 ∷ 1 ∷ 0 ∷ 14 ∷ 1 ∷ 0 ∷ 0 ∷ 3 ∷ 0 ∷ 0 ∷ 0 ∷ 1 ∷ 0 ∷ 2 ∷ 0 ∷ []) (rw sequence-is at (o .0)) .1 (sym sequence-is)

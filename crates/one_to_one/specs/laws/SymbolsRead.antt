@@ -1,0 +1,133 @@
+-- How many symbols a coefficient call reads, and what it logs (document 01, Coefficients: "the number of symbols read, never above
+-- 192 × blocks, and one logged cluster for each of them"). Of every input, refused ones too.
+use mathlib.Core.Path.{_≡_, refl, ap, sym, _∙_}
+use mathlib.Core.List.{List, [], _++_}
+use Prim.Native.Nat.{ℕ, _+_, _*_, _≤_}
+use native.Mathlib.Omega.{arith}
+use lib.ListN.{length, drop, length-drop, length-append}
+use lib.Seq.{sets, sets-eq, drop-at}
+use Rattle.refusal.specs.declared.Said.{Said}
+use Rattle.refusal.specs.Said.{said}
+use Rattle.refusal.specs.Said as refusals
+use Rattle.layout.specs.laws.Theorems.{layout-iff}
+use Rattle.refusal.specs.Answer.{Answer, refuses}
+use Rattle.hf_coeff_group.specs.Pass.{varblocks, itemsOf}
+use Rattle.hf_coeff_checks.specs.Checks.{blocks}
+use Rattle.hf_coeff.specs.Call.{Lent, Outcome, reading, outcome, refuse, call, Passed}
+use Rattle.hf_coeff.specs.laws.CallLaws.{lengths-fit}
+use Rattle.hf_coeff_group.specs.laws.Symbols.{most-symbols}
+use Rattle.one_to_one.specs.Filling.{relent, withLog, told, symbolsRead}
+use Rattle.one_to_one.specs.LowCells.{cellsOf}
+use Rattle.one_to_one.specs.laws.Cells.{adds}
+use Rattle.one_to_one.specs.laws.Reads.{End, ends, stops, Tells, joined}
+use Rattle.one_to_one.specs.laws.Ways.{Way, before, work, way, did, answerBy, outcome-by}
+
+-- What holds of every call, whatever the log held before.
+pub record Tied (L : Lent) : Type 0 where
+  pub clusters : List ℕ
+  pub each : length clusters ≡ symbolsRead (call L .answer)
+  pub most : length clusters ≤ 192 * blocks (L .pass)
+  pub there : length clusters ≤ length (L .symbols)
+  pub room : length clusters ≤ length (L .log)
+  pub none : (n : ℕ) → call L .answer ≡ refuses (refusals.at 15 n 0) → n ≡ length (L .symbols)
+  pub logs : (log : List ℕ) → length log ≡ length (L .log)
+      → call (withLog L log) ≡ record { answer = call L .answer; log = clusters ++ drop (length clusters) log; grids = call L .grids }
+
+number-of : (a b : Said) → _≡_ {A = Answer ℕ} (refuses a) (refuses b) → a .number ≡ b .number
+number-of a b e = let f : a ≡ b = cc in ap (λ (s : Said). s .number) f
+
+by-refusal : (L : Lent) (s : Said) → told s ≡ 0 → (s .number ≡ 15 → ⊥)
+    → ((symbols log : List ℕ) → length log ≡ length (L .log) → call (relent L symbols log) ≡ refuse (relent L symbols log) s) → Tied L
+by-refusal L s t n e =
+    let c : call L ≡ refuse L s = e (L .symbols) (L .log) refl in
+    record {
+      clusters = [];
+      each = sym (ap (λ (o : Outcome). symbolsRead (o .answer)) c ∙ t);
+      most = omega arith;
+      there = omega arith;
+      room = omega arith;
+      none = λ m f. absurd (n (number-of s (refusals.at 15 m 0) (sym (ap (λ (o : Outcome). o .answer) c) ∙ f)));
+      logs = λ log l. e (L .symbols) log l ∙ ap (λ (o : Outcome). record { answer = o .answer; log = log; grids = o .grids }) (sym c);
+    }
+
+-- what the end of a reading tells
+told-by : (e : End) (us : List ℕ) (k : ℕ) (dss : List (List ℕ)) → Tells us 0 k dss e → symbolsRead (answerBy e (0 + k)) ≡ k
+told-by (ends us′ rows left) us k dss t = omega arith
+told-by (stops why) us k dss t = t .tells (0 + k) ∙ omega arith
+
+there-by : (e : End) (us : List ℕ) (k : ℕ) (dss : List (List ℕ)) → Tells us 0 k dss e → k ≤ length us
+there-by (ends us′ rows left) us k dss t = omega (arith, t .read)
+there-by (stops why) us k dss t = t .there
+
+last-by : (e : End) (us : List ℕ) (k : ℕ) (dss : List (List ℕ)) → Tells us 0 k dss e → (n : ℕ) → answerBy e (0 + k) ≡ refuses (refusals.at 15 n 0) → n ≡ length us
+last-by (ends us′ rows left) us k dss t n e = absurd (let z : _≡_ {A = ℕ} 0 1 = cc in omega arith)
+last-by (stops why) us k dss t n e =
+    let a : said (why (0 + k)) ≡ refusals.at 15 n 0 = cc in
+    sym (ap told a) ∙ t .tells (0 + k) ∙ omega arith ∙ t .last (0 + k) (ap (λ (s : Said). s .number) a)
+
+by-reading : (L : Lent) → Passed L → (preset : ℕ) → ((symbols log : List ℕ) → length log ≡ length (L .log) → call (relent L symbols log) ≡ outcome (reading (relent L symbols log) preset)) → Tied L
+by-reading L passed preset e =
+    let P = L .pass in
+    let l = lengths-fit L (passed .lengths) in
+    let d = did L preset in
+    let ks = d .clusters in
+    let G = adds (L .shift) (L .grids) (cellsOf (itemsOf P (varblocks P))) (joined (d .dss)) in
+    let most : length ks ≤ 192 * blocks P =
+    omega (arith, d .few, most-symbols P (l .store) (layout-iff (P .bw) (P .bh) (P .kinds) (P .hfMul) (l .kinds) (l .hfMul) .0 (passed .layout))) in
+    let room : length ks ≤ length (L .log) = omega (arith, l .room) in
+    let start : (log : List ℕ) → length log ≡ length (L .log) → call (withLog L log) ≡ record { answer = answerBy (d .end) (0 + length ks); log = sets log 0 ks; grids = G } =
+    λ log k. e (L .symbols) log k ∙ ap outcome (d .is log) ∙ outcome-by (d .end) (0 + length ks) (sets log 0 ks) G in
+    let a : call L .answer ≡ answerBy (d .end) (0 + length ks) = ap (λ (o : Outcome). o .answer) (start (L .log) refl) in
+    let g : call L .grids ≡ G = ap (λ (o : Outcome). o .grids) (start (L .log) refl) in
+    record {
+      clusters = ks;
+      each = sym (ap symbolsRead a ∙ told-by (d .end) (L .symbols) (length ks) (d .dss) (d .tells));
+      most = most;
+      there = there-by (d .end) (L .symbols) (length ks) (d .dss) (d .tells);
+      room = room;
+      none = λ k f. last-by (d .end) (L .symbols) (length ks) (d .dss) (d .tells) k (sym a ∙ f);
+      logs = λ log k. start log k ∙ rw (← a, ← g) (ap (λ (m : List ℕ). record { answer = call L .answer; log = m; grids = call L .grids }) (front log ks (omega arith)));
+    }
+  where
+    front : (log ks : List ℕ) → length ks ≤ length log → sets log 0 ks ≡ ks ++ drop (length ks) log
+    front log ks h = let z : 0 + length ks ≡ length ks = omega arith in sets-eq ks log 0 (omega arith) ∙ rw z
+
+module _ (L : Lent) where
+  by-way : Way L → Tied L
+  by-way (before s t n e) = by-refusal L s t n e
+  by-way (work passed preset e) = by-reading L passed preset e
+
+  pub tied : Tied L
+  tied = by-way (way L)
+
+  -- the number of symbols read is never above 192 × blocks
+  pub never-above : symbolsRead (call L .answer) ≤ 192 * blocks (L .pass)
+  never-above = let t = tied in let e = t .each in let m = t .most in omega arith
+
+  -- nor above the symbols that there are
+  pub never-more : symbolsRead (call L .answer) ≤ length (L .symbols)
+  never-more = let t = tied in let e = t .each in let m = t .there in omega arith
+
+  -- "symbols end" is said only with no symbol unread
+  pub symbols-ended : (k : ℕ) → call L .answer ≡ refuses (refusals.at 15 k 0) → k ≡ length (L .symbols)
+  symbols-ended k e = tied .none k e
+
+  -- the log is as long as before
+  pub log-length : length (call L .log) ≡ length (L .log)
+  log-length =
+      let t = tied in
+      let m = t .room in
+      let e : call L .log ≡ t .clusters ++ drop (length (t .clusters)) (L .log) = ap (λ (o : Outcome). o .log) (t .logs (L .log) refl) in
+      ap length e ∙ length-append (t .clusters) (drop (length (t .clusters)) (L .log)) ∙ omega (arith, length-drop (length (t .clusters)) (L .log))
+
+  -- log bytes behind the symbols read keep their contents
+  pub later-kept : drop (symbolsRead (call L .answer)) (call L .log) ≡ drop (symbolsRead (call L .answer)) (L .log)
+  later-kept =
+      let t = tied in
+      rw (← (t .each)) (ap (λ (o : Outcome). drop (length (t .clusters)) (o .log)) (t .logs (L .log) refl) ∙ drop-at (t .clusters) (drop (length (t .clusters)) (L .log)) (length (t .clusters)) refl)
+
+  -- one logged cluster for each symbol read: they are the log's first bytes, and what the log held before decides none of them, nor answer and grids
+  pub one-each : (clusters : List ℕ) × (length clusters ≡ symbolsRead (call L .answer))
+      × ((log : List ℕ) → length log ≡ length (L .log)
+      → call (withLog L log) ≡ record { answer = call L .answer; log = clusters ++ drop (symbolsRead (call L .answer)) log; grids = call L .grids })
+  one-each = let t = tied in (t .clusters, t .each, λ log k. t .logs log k ∙ ap (λ (m : ℕ). record { answer = call L .answer; log = t .clusters ++ drop m log; grids = call L .grids }) (t .each))

@@ -1,0 +1,192 @@
+-- Laws: Whatever 32-bit numbers the cells that are not low-frequency are to hold (document 00, demand 3): there is a filling that has them, and only
+use mathlib.Core.Path.{_≡_, refl, ap, sym, _∙_}
+use mathlib.Core.Bool.{Bool, true, false, _||_}
+use mathlib.Core.Logic.{_↔_, _⊎_, inl, inr}
+use mathlib.Core.List.{List, [], _∷_}
+use Prim.Native.Nat.{ℕ, zero, suc, _+_, _*_, _/_, _%_, _^_, _<_, _≤_}
+use native.Mathlib.Omega.{arith}
+use native.Mathlib.Nat.{mul-mul-mul-comm}
+use native.Mathlib.Decide.{decLt}
+use lib.ListN.{length, getD, List·getD-eq-default}
+use borrow.Author.Tests.{lt-ltb, le-leb, ltb-true, leb-true}
+use Rattle.laws.specs.laws.Cases.{and-true}
+use Rattle.dct_select.specs.Transforms.{wide, high}
+use Rattle.layout.specs.Grid.{at}
+use Rattle.layout.specs.laws.Grid.{grid-length, grid-at, Cell, cell-at}
+use Rattle.layout.specs.Varblocks.{Varblock}
+use Rattle.layout.specs.Listed.{Among, first, later}
+use Rattle.hf_coeff_group.specs.Group.{Grids}
+use Rattle.hf_coeff_group.specs.Pass.{Pass, varblocks}
+use Rattle.hf_coeff.specs.Call.{Lent}
+use Rattle.hf_coeff.specs.laws.CallLaws.{grids-fit}
+use Rattle.one_to_one.specs.Filling.{cell, Low, LowKept, lowIn, lowInSome, isLow, Sized, Fixed, Filling, asked, gridWanted, wanted, Words, Fills, Fails}
+use Rattle.one_to_one.specs.Sequence.{theSequence}
+use Rattle.one_to_one.specs.laws.Cells.{same-shape}
+use Rattle.one_to_one.specs.laws.Demand3.{one-sequence, every-other}
+use Rattle.one_to_one.specs.Wanted.{many}
+
+-- The test is what it says.
+or-true : (a b : Bool) → a || b ≡ true → (a ≡ true) ⊎ (b ≡ true)
+or-true true b e = inl refl
+or-true false b e = inr e
+
+or-either : (a b : Bool) → (a ≡ true) ⊎ (b ≡ true) → a || b ≡ true
+or-either true b h = refl
+or-either false b (inl e) = absurd (let z : _≡_ {A = ℕ} 0 1 = cc in omega arith)
+or-either false b (inr e) = e
+
+-- in the corner of v
+record In (x y : ℕ) (v : Varblock) : Type 0 where
+  left : 8 * v .x ≤ x
+  right : x < 8 * v .x + wide (v .type)
+  top : 8 * v .y ≤ y
+  bottom : y < 8 * v .y + high (v .type)
+
+module _ (x y : ℕ) where
+  in-one : (v : Varblock) → lowIn x y v ≡ true → In x y v
+  in-one v e =
+      let a = and-true _ _ e in
+      let b = and-true _ _ (a .0) in
+      let c = and-true _ _ (b .0) in
+      record {
+        left = leb-true (8 * v .x) x (c .0);
+        right = ltb-true x (8 * v .x + wide (v .type)) (c .1);
+        top = leb-true (8 * v .y) y (b .1);
+        bottom = ltb-true y (8 * v .y + high (v .type)) (a .1);
+      }
+
+  one-in : (v : Varblock) → In x y v → lowIn x y v ≡ true
+  one-in v i =
+      rw (
+        le-leb (8 * v .x) x (i .left),
+        lt-ltb x (8 * v .x + wide (v .type)) (i .right),
+        le-leb (8 * v .y) y (i .top),
+        lt-ltb y (8 * v .y + high (v .type)) (i .bottom),
+      )
+
+  in-some : (vs : List Varblock) → lowInSome x y vs ≡ true → (v : Varblock) × Among v vs × In x y v
+  in-some [] e = absurd (let z : _≡_ {A = ℕ} 0 1 = cc in omega arith)
+  in-some (v ∷ vs) e = go (or-true (lowIn x y v) (lowInSome x y vs) e) (in-some vs)
+    where
+      go : (lowIn x y v ≡ true) ⊎ (lowInSome x y vs ≡ true) → (lowInSome x y vs ≡ true → (u : Varblock) × Among u vs × In x y u) → (u : Varblock) × Among u (v ∷ vs) × In x y u
+      go (inl a) f = (v, first refl, in-one v a)
+      go (inr b) f = let r = f b in (r .0, later (r .1), r .2)
+
+  some-in : (vs : List Varblock) (v : Varblock) → Among v vs → In x y v → lowInSome x y vs ≡ true
+  some-in (u ∷ vs) v (first e) h = or-either (lowIn x y u) (lowInSome x y vs) (inl (one-in u (rw (← e) at h)))
+  some-in (u ∷ vs) v (later i) h = or-either (lowIn x y u) (lowInSome x y vs) (inr (some-in vs v i h))
+
+module _ (P : Pass) (p : ℕ) where
+  pub is-low : isLow P p ≡ true → Low P p
+  unfolding isLow
+  is-low e =
+      let r = in-some (p % (8 * P .bw)) (p / (8 * P .bw)) (varblocks P) e in
+      let i = r .2 in
+      record { of = r .0; there = r .1; left = i .left; right = i .right; top = i .top; bottom = i .bottom }
+
+  pub low-is : Low P p → isLow P p ≡ true
+  unfolding isLow
+  low-is l = some-in (p % (8 * P .bw)) (p / (8 * P .bw)) (varblocks P) (l .of) (l .there) (record { left = l .left; right = l .right; top = l .top; bottom = l .bottom })
+
+-- The grids wanted.
+module _ (L : Lent) (f : ℕ → ℕ → ℕ) where
+  abbrev P : Pass
+  P = L .pass
+
+  grid-long : (c : ℕ) → length (gridWanted L f c) ≡ 8 * P .bh * (8 * P .bw)
+  grid-long c = grid-length (λ (x y : ℕ). asked L f c (y * (8 * P .bw) + x)) (8 * P .bw) (8 * P .bh)
+
+  grid-cell : (c p : ℕ) → p < 8 * P .bh * (8 * P .bw) → getD (gridWanted L f c) p 0 ≡ asked L f c p
+  grid-cell c p h = go (cell-at (8 * P .bw) (8 * P .bh) p h)
+    where
+      go : Cell (8 * P .bw) (8 * P .bh) p → getD (gridWanted L f c) p 0 ≡ asked L f c p
+      go k = rw (k .place) (grid-at (λ (x y : ℕ). asked L f c (y * (8 * P .bw) + x)) (8 * P .bw) (8 * P .bh) (k .x) (k .y) (k .inX) (k .inY))
+
+  channel-is : (c : ℕ) → c < 3 → getD (wanted L f) c [] ≡ gridWanted L f c
+  unfolding wanted
+  channel-is zero h = refl
+  channel-is (suc zero) h = refl
+  channel-is (suc (suc zero)) h = refl
+  channel-is (suc (suc (suc c))) h = absurd (omega arith)
+
+  three : length (wanted L f) ≡ 3
+  unfolding wanted
+  three = refl
+
+  cell-is : (c p : ℕ) → c < 3 → p < 8 * P .bh * (8 * P .bw) → cell (wanted L f) c p ≡ asked L f c p
+  cell-is c p hc h = rw (channel-is c hc) (grid-cell c p h)
+
+module _ (L : Lent) (fixed : Fixed L) (f : ℕ → ℕ → ℕ) (words : (c p : ℕ) → f c p < 2 ^ 32) where
+  start-long : (c : ℕ) → c < 3 → length (getD (L .grids) c []) ≡ many L fixed f words
+  start-long c h = grids-fit L (fixed .rest .lengths) c h ∙ sym (mul-mul-mul-comm 8 (L .pass .bh) 8 (L .pass .bw))
+
+  sized : Sized (L .pass) (wanted L f)
+  sized = record { three = three L f; cells = λ c h. ap length (channel-is L f c h) ∙ grid-long L f c }
+
+  outside : (W : Grids) → Sized (L .pass) W → (c p : ℕ) → c < 3 → (p < many L fixed f words → ⊥) → cell W c p ≡ 0
+  outside W s c p h n = let a : length (getD W c []) ≡ many L fixed f words = s .cells c h in List·getD-eq-default (getD W c []) 0 (omega arith)
+
+  no-channel : (W : Grids) → length W ≡ 3 → (c p : ℕ) → (c < 3 → ⊥) → cell W c p ≡ 0
+  no-channel W e c p n = rw (List·getD-eq-default W [] {n = c} (omega arith))
+
+  -- each cell that is not low-frequency holds what is asked for
+  pub wanted-there : (c p : ℕ) → c < 3 → p < many L fixed f words → (Low (L .pass) p → ⊥) → cell (wanted L f) c p ≡ f c p
+  wanted-there c p hc h n = cell-is L f c p hc h ∙ go (isLow (L .pass) p) refl
+    where
+      go : (b : Bool) → isLow (L .pass) p ≡ b → asked L f c p ≡ f c p
+      go true e = absurd (n (is-low (L .pass) p e))
+      go false e = rw e
+
+  low : LowKept (L .pass) (L .grids) (wanted L f)
+  low c p hc l = go (decLt p (many L fixed f words))
+    where
+      go : Dec (p < many L fixed f words) → cell (wanted L f) c p ≡ cell (L .grids) c p
+      go (yes h) = cell-is L f c p hc h ∙ rw (low-is (L .pass) p l)
+      go (no n) = outside (wanted L f) sized c p hc n ∙ sym (outside (L .grids) (record { three = fixed .rest .three; cells = start-long }) c p hc n)
+
+  small : (c p : ℕ) → cell (wanted L f) c p < 2 ^ 32
+  small c p = go (decLt c 3) (decLt p (many L fixed f words))
+    where
+      by : (b : Bool) → isLow (L .pass) p ≡ b → asked L f c p < 2 ^ 32
+      by true e = rw e (fixed .rest .start c p)
+      by false e = rw e (words c p)
+
+      go : Dec (c < 3) → Dec (p < many L fixed f words) → cell (wanted L f) c p < 2 ^ 32
+      go (yes a) (yes b) = rw (cell-is L f c p a b) (by (isLow (L .pass) p) refl)
+      go (yes a) (no n) = rw (outside (wanted L f) sized c p a n) (omega arith)
+      go (no n) b = rw (no-channel (wanted L f) (three L f) c p n) (omega arith)
+
+  -- the grids wanted are a filling
+  pub wanted-filling : Filling L (wanted L f)
+  wanted-filling = record { sized = sized; words = small; low = low }
+
+  -- and no other filling holds these numbers
+  pub wanted-only : (W : Grids) → Filling L W → ((c p : ℕ) → c < 3 → p < many L fixed f words → (Low (L .pass) p → ⊥) → cell W c p ≡ f c p) → W ≡ wanted L f
+  wanted-only W filling g =
+      same-shape W (wanted L f) (record { count = filling .sized .three ∙ sym (three L f); sizes = λ (c : ℕ). sizes c (decLt c 3) }) (λ (c : ℕ). λ (p : ℕ). at-cell c p (decLt c 3) (decLt p (many L fixed f words)))
+    where
+      sizes : (c : ℕ) → Dec (c < 3) → length (getD W c []) ≡ length (getD (wanted L f) c [])
+      sizes c (yes h) = filling .sized .cells c h ∙ sym (sized .cells c h)
+      sizes c (no n) =
+          let a : length W ≡ 3 = filling .sized .three in
+          let b : length (wanted L f) ≡ 3 = three L f in
+          rw (List·getD-eq-default W [] {n = c} (omega arith), List·getD-eq-default (wanted L f) [] {n = c} (omega arith))
+
+      by : (c p : ℕ) → c < 3 → p < many L fixed f words → (b : Bool) → isLow (L .pass) p ≡ b → cell W c p ≡ cell (wanted L f) c p
+      by c p a h true e = let l = is-low (L .pass) p e in filling .low c p a l ∙ sym (low c p a l)
+      by c p a h false e =
+          let n : Low (L .pass) p → ⊥ = λ l. let x : _≡_ {A = Bool} false true = sym e ∙ low-is (L .pass) p l in let z : _≡_ {A = ℕ} 0 1 = cc in omega arith in
+          g c p a h n ∙ sym (wanted-there c p a h n)
+
+      at-cell : (c p : ℕ) → Dec (c < 3) → Dec (p < many L fixed f words) → cell W c p ≡ cell (wanted L f) c p
+      at-cell c p (yes a) (yes h) = by c p a h (isLow (L .pass) p) refl
+      at-cell c p (yes a) (no n) = outside W (filling .sized) c p a n ∙ sym (outside (wanted L f) sized c p a n)
+      at-cell c p (no n) h = no-channel W (filling .sized .three) c p n ∙ sym (no-channel (wanted L f) (three L f) c p n)
+
+  -- Demand 3: whatever 32-bit numbers the cells that are not low-frequency are to hold, these 32-bit symbols fill them so, and no others do.
+  pub one-sequence-for-any : Words (theSequence (L .pass) (L .grids) (wanted L f)) × ((s : List ℕ) → Words s → Fills L s (wanted L f) ↔ (s ≡ theSequence (L .pass) (L .grids) (wanted L f)))
+  one-sequence-for-any = one-sequence L fixed (wanted L f) wanted-filling
+
+  -- every other sequence fails, and that one does not
+  pub every-other-for-any : (s : List ℕ) → Words s → Fails L s (wanted L f) ↔ (s ≡ theSequence (L .pass) (L .grids) (wanted L f) → ⊥)
+  every-other-for-any = every-other L fixed (wanted L f) wanted-filling

@@ -1,0 +1,105 @@
+-- Laws: The premises of demand 3 can be met together: one Dct8 block, as the layout, cut, context and order calls hand it on, starting grids of
+-- zeros; and the symbols of a filling of its cells.
+use mathlib.Core.Path.{_≡_, refl, ap, sym, subst, _∙_}
+use mathlib.Core.Bool.{true}
+use mathlib.Core.List.{[], _∷_}
+use Prim.Native.Nat.{_*_}
+use native.Mathlib.Omega.{arith}
+use lib.ListN.{length, replicate}
+use borrow.Author.Tests.{eq-eqb}
+use Rattle.bits.specs.Bits.{Value}
+use Rattle.filter_strength.specs.declared.Filter.the-variants.{Off}
+use Rattle.filter_strength.specs.Strength.{zero32}
+use Rattle.hf_metadata.specs.Call.{Inputs, inputs, layoutOf}
+use Rattle.refusal.specs.Answer as answer
+use Rattle.hf_pass_store.specs.Store.{PLACES}
+use Rattle.hf_block_context.specs.Call.{contextsOf}
+use Rattle.hf_coeff.specs.Call.{lengthsFit, readPreset}
+use Rattle.block_check.specs.Calls.{gives}
+use Rattle.block_record.specs.Calls.{group, outcome, cutOf}
+use Rattle.block_record.specs.laws.CutSteps.{cut-done}
+use Rattle.accepted_layout.specs.Theorems.{bwOf, bhOf}
+use Rattle.one_to_one.specs.Filling.{cell, wanted as wantedOf, Fixed, Filling, Fills, Given}
+use Rattle.one_to_one.specs.Sequence.{theSequence}
+use Rattle.one_to_one.specs.laws.Demand3.{one-sequence}
+use Rattle.one_to_one.specs.laws.Wanted.{wanted-filling}
+use Rattle.one_to_one.specs.laws.Chain.{fixed-by-calls}
+use Rattle.one_to_one.specs.laws.Computes.{layout-computes, cut-computes, bits-compute, sequence-computes, wanted-computes, below, cells-below}
+use Rattle.one_to_one.specs.Plain.{store}
+use Rattle.one_to_one.specs.laws.Plain.{store-long, order-0, store-wrote, defaults-read}
+use Rattle.one_to_one.specs.Witness.{one, wanted, zeros}
+
+-- 8 × 8 pixels, modes 0, one column (0,0), filter off
+abbrev pub columns : Inputs
+columns = inputs 8 8 (0 ∷ 0 ∷ 0 ∷ []) (0 ∷ []) (0 ∷ []) (0 ∷ []) Off (replicate 8 zero32) 1
+
+layout-accepted : layoutOf columns (0 ∷ []) (0 ∷ []) (0 ∷ []) ≡ record { answer = answer.gives 1; kinds = 2 ∷ []; hfMul = 1 ∷ []; sigma = 0 ∷ [] }
+unfolding layout-computes
+layout-accepted = refl
+
+lengths-fit : lengthsFit one ≡ true
+unfolding contextsOf
+lengths-fit = rw (eq-eqb (length store) (2 * PLACES) store-long)
+
+-- the cut call writes the one group there is
+cut-accepted : cutOf (bwOf columns) (bhOf columns) (2 ∷ []) (1 ∷ []) 0 (0 ∷ []) (0 ∷ []) ≡ outcome (gives (group 1 1)) (2 ∷ []) (1 ∷ [])
+unfolding cut-computes
+cut-accepted = cut-done (bwOf columns) (bhOf columns) (2 ∷ []) (1 ∷ []) 0 (0 ∷ []) (0 ∷ []) refl
+
+pub no-bits : readPreset one ≡ Value 0 0
+unfolding bits-compute
+no-bits = refl
+
+-- what the calls gave
+pub given : Given one
+given = record {
+  inputs = columns;
+  kinds = 0 ∷ [];
+  hfMul = 0 ∷ [];
+  sigma = 0 ∷ [];
+  used = 1;
+  layout = ap (λ o. o .answer) layout-accepted;
+  g = 0;
+  outKinds = 0 ∷ [];
+  outMuls = 0 ∷ [];
+  cutting = ap (λ o. cutOf (bwOf columns) (bhOf columns) (o .kinds) (o .hfMul) 0 (0 ∷ []) (0 ∷ [])) layout-accepted ∙ cut-accepted;
+  bytes = 1 ∷ [];
+  areBytes = below 256 (omega arith) (1 ∷ []) tt;
+  count = 0;
+  map = [];
+  bitsRead = 1;
+  contexts = ap (λ r. r .answer) defaults-read;
+  record-is = sym (ap (λ r. r .contexts) defaults-read);
+  wrote = store-wrote;
+  rest = record {
+    few = omega arith;
+    preset = 0;
+    bits = 0;
+    readWhole = no-bits;
+    below = omega arith;
+    lengths = lengths-fit;
+    three = refl;
+    start = cells-below zeros tt;
+    shift = refl;
+  };
+}
+
+-- all premises of demand 3
+pub fixed : Fixed one
+fixed = fixed-by-calls one given
+
+-- the filling is the one wanted of it: neither cell is low-frequency
+wanted-is : wantedOf one (cell wanted) ≡ wanted
+unfolding wanted-computes
+wanted-is = refl
+
+pub filling : Filling one wanted
+filling = subst (Filling one) wanted-is (wanted-filling one fixed (cell wanted) (cells-below wanted tt))
+
+-- its symbols: 2 cells change in channel 1, none in channels 0 and 2
+pub sequence-is : theSequence (one .pass) (one .grids) wanted ≡ 2 ∷ 3 ∷ 0 ∷ 4 ∷ 0 ∷ 0 ∷ []
+unfolding sequence-computes
+sequence-is = rw (order-0 0 (omega arith), order-0 1 (omega arith), order-0 2 (omega arith))
+
+pub filled : Fills one (2 ∷ 3 ∷ 0 ∷ 4 ∷ 0 ∷ 0 ∷ []) wanted
+filled = let o = one-sequence one fixed wanted filling in o .1 (2 ∷ 3 ∷ 0 ∷ 4 ∷ 0 ∷ 0 ∷ []) (rw sequence-is at (o .0)) .1 (sym sequence-is)
