@@ -3,6 +3,7 @@
  * (--wrap); HOSTILE_PLANT is the number of the fault, 0 for none. .ci/hostile tries each.
  */
 #include "netbuff.h"
+#include "promise.h"
 
 #include <stdlib.h>
 #include <string.h>
@@ -66,10 +67,15 @@ __typeof__(netbuff_coefficients) __real_netbuff_coefficients, __wrap_netbuff_coe
 
 static enum plant planted(void)
 {
-    static const char *number;
-    if (number == NULL)
-        number = getenv("HOSTILE_PLANT");
-    return number == NULL ? NONE : (enum plant)atoi(number);
+    static const char *word;
+    static long number;
+    if (word == NULL && (word = getenv("HOSTILE_PLANT")) != NULL) {
+        char *end;
+        number = strtol(word, &end, 10);
+        if (*word == '\0' || *end != '\0' || number < NONE)
+            give_up("HOSTILE_PLANT is no number");
+    }
+    return (enum plant)number;
 }
 
 uint32_t __wrap_netbuff_transform(uint32_t number, size_t *wide, size_t *high, size_t *order, bool *turn,

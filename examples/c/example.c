@@ -1,159 +1,171 @@
 /*
- * A walk through Netbuff's calls from C: the columns of a scan of 16 x 16 pixels become a layout, the
- * layout a pass group, and the group is read with default contexts and orders. Prints what it finds;
- * ends with 1 on anything unexpected.
+ * From the columns of a scan to its coefficients, by netbuff_structs.h: 16 x 16 pixels in three
+ * varblocks. What a decoder would take from a file stands here as constants. Prints what it finds;
+ * ends with 1 where a call refuses or something else than expected is found.
+ *
+ *     cc $(pkg-config --cflags netbuff) -o example example.c $(pkg-config --libs netbuff)
  */
-#include "netbuff.h"
+#include "netbuff_structs.h"
 
 #include <inttypes.h>
 #include <stdio.h>
 #include <stdlib.h>
 
-enum { SIDE = 16, BLOCKS = 4, CLUSTERS = 15 };
+enum { BLOCKS = 4, CELLS = 64 * BLOCKS, LOG = 192 * BLOCKS };
 
-/* What is read of a scan, call by call: its layout, the group that is cut from it, and so on. */
-struct scan {
-    uint8_t kinds[BLOCKS];
-    int32_t hf_mul[BLOCKS];
-    size_t wide, high;
-    uint8_t group_kinds[BLOCKS];
-    int32_t group_hf_mul[BLOCKS];
-    uint32_t clusters, lengths[4], qf[15];
-    int32_t lf[45];
-    uint8_t map[2496];
-    uint16_t store[NETBUFF_STORE_LENGTH];
-};
-
-static int failures = 0;
+/* Ends the program where a call refused. */
+static void accept(const char *call, struct netbuff_refusal no)
+{
+    if (no.number == NETBUFF_ACCEPTED)
+        return;
+    printf("%s: refused %" PRIu32 " (%s) at %zu, %zu\n", call, no.number,
+           netbuff_refusal_text(no.number), no.x, no.y);
+    exit(1);
+}
 
 static void expect(bool holds, const char *what)
 {
     if (!holds) {
         printf("unexpected: %s\n", what);
-        failures++;
+        exit(1);
     }
 }
 
-static void look_up(void)
+/* 1. How many columns: two bits that say 2, and 1 more. */
+static size_t count_columns(const struct netbuff_lf_group *group)
 {
-    size_t wide, high, order, x, y;
-    bool turn;
-    uint32_t refused = netbuff_transform(6, &wide, &high, &order, &turn, &x, &y);
-    printf("transform 6: %zu x %zu blocks, order %zu, turns: %s\n", wide, high, order,
-           turn ? "yes" : "no");
-    expect(refused == 0 && wide == 1 && high == 2 && order == 4 && turn, "transform 6");
-    refused = netbuff_transform(27, &wide, &high, &order, &turn, &x, &y);
-    printf("transform 27: refused %" PRIu32 " %zu %zu\n", refused, x, y);
-    expect(refused == 5 && x == 0 && y == 0, "transform 27");
-    expect(wide == 1 && high == 2 && order == 4 && turn, "a refusal leaves results as they were");
+    const uint8_t data[1] = {2};
+    struct netbuff_bytes bytes = {data, sizeof data};
+    struct netbuff_column_total total = {0, 0};
+    accept("column count", netbuff_count_columns(&bytes, group, &total));
+    printf("columns: %" PRIu32 ", %zu bits read\n", total.count, total.bits_read);
+    return total.count;
 }
 
-static void count_columns(void)
+/* 2. The layout: one Dct16x8 and two Dct8, filter off. */
+static void read_layout(const struct netbuff_lf_group *group, size_t columns,
+                        struct netbuff_blocks *layout)
 {
-    const uint8_t bytes[1] = {2};
-    uint32_t count;
-    size_t bits, x, y;
-    uint32_t refused = netbuff_column_count(bytes, 1, SIDE, SIDE, 0, 0, 0, &count, &bits, &x, &y);
-    printf("columns: %" PRIu32 ", %zu bits read\n", count, bits);
-    expect(refused == 0 && count == 3 && bits == 2, "column count");
-}
-
-/* The layout of so many of the three columns: one Dct16x8 and two Dct8. */
-static uint32_t lay_out(struct scan *scan, size_t columns, size_t *used, size_t *x, size_t *y)
-{
-    const int32_t types[3] = {6, 0, 0};
+    const int32_t types[3] = {NETBUFF_DCT16X8, NETBUFF_DCT8, NETBUFF_DCT8};
     const int32_t muls[3] = {4, 0, 2};
     const int32_t sharpness[BLOCKS] = {0};
-    const float lookup[8] = {0};
     float sigma[BLOCKS];
-    return netbuff_layout(SIDE, SIDE, 0, 0, 0, types, columns, muls, columns, sharpness, BLOCKS, false,
-                          0, lookup, 1, scan->kinds, BLOCKS, scan->hf_mul, BLOCKS, sigma, BLOCKS, used,
-                          x, y);
+    struct netbuff_filter off = NETBUFF_FILTER_OFF;
+    struct netbuff_layout_input input = {
+        .group = *group,
+        .columns = {.types = types, .muls = muls, .length = columns},
+        .sharpness = {sharpness, BLOCKS},
+        .filter = off,
+    };
+    struct netbuff_layout_output output = {
+        .blocks = *layout, .sigma = sigma, .sigma_length = BLOCKS};
+
+    input.columns.length = 2; /* one too few: what a refusal looks like */
+    struct netbuff_refusal no = netbuff_read_layout(&input, &output);
+    printf("layout of two columns: refused %" PRIu32 " %zu %zu (%s)\n", no.number, no.x, no.y,
+           netbuff_refusal_text(no.number));
+    expect(no.number == NETBUFF_REFUSED_COLUMNS_END && no.x == 1 && no.y == 1, "refusal");
+
+    input.columns.length = columns;
+    accept("layout", netbuff_read_layout(&input, &output));
+    *layout = output.blocks;
+    for (size_t block = 0; block < layout->length; block++)
+        if (netbuff_is_corner(layout, block))
+            printf("varblock at %zu %zu: type %" PRIu32 ", hf_mul %" PRId32 "\n",
+                   block % layout->bw, block / layout->bw, netbuff_type_at(layout, block),
+                   layout->hf_mul[block]);
 }
 
-static void read_layout(struct scan *scan)
+/* 3. A pass group: here there is only one, the whole layout. */
+static void cut_group(const struct netbuff_blocks *layout, struct netbuff_blocks *group)
 {
-    size_t used, x, y;
-    uint32_t refused = lay_out(scan, 2, &used, &x, &y);
-    printf("layout of two columns: refused %" PRIu32 " %zu %zu\n", refused, x, y);
-    expect(refused == 4 && x == 1 && y == 1 && scan->kinds[0] == 0, "layout of two columns");
-    refused = lay_out(scan, 3, &used, &x, &y);
-    expect(refused == 0 && used == 3, "layout");
-    for (size_t block = 0; block < BLOCKS; block++)
-        if (scan->kinds[block] >= 2)
-            printf("varblock at %zu %zu: type %d, hf_mul %" PRId32 "\n", block % 2, block / 2,
-                   scan->kinds[block] - 2, scan->hf_mul[block]);
+    group->length =
+        netbuff_group_bw(layout->bw, layout->bh, 0) * netbuff_group_bh(layout->bw, layout->bh, 0);
+    accept("cut", netbuff_cut_group(layout, 0, group));
+    printf("group 0: %zu x %zu blocks\n", group->bw, group->bh);
 }
 
-static void cut_group(struct scan *scan)
+/* 4. The contexts: a first bit of 1 says default. */
+static void read_contexts(struct netbuff_contexts *contexts)
 {
-    size_t x, y;
-    bool alike;
-    uint32_t refused =
-        netbuff_cut(2, 2, scan->kinds, BLOCKS, scan->hf_mul, BLOCKS, 0, scan->group_kinds, BLOCKS,
-                    scan->group_hf_mul, BLOCKS, &scan->wide, &scan->high, &x, &y);
-    printf("group 0: %zu x %zu blocks\n", scan->wide, scan->high);
-    expect(refused == 0 && scan->wide == 2 && scan->high == 2, "cut");
-    refused = netbuff_alike(2, 2, scan->kinds, BLOCKS, scan->hf_mul, BLOCKS, scan->wide, scan->high,
-                            scan->group_kinds, BLOCKS, scan->group_hf_mul, BLOCKS, &alike, &x, &y);
-    expect(refused == 0 && alike, "the group is the whole layout");
+    const uint8_t data[1] = {1};
+    struct netbuff_bytes bytes = {data, sizeof data};
+    struct netbuff_context_map none = {0, NULL, 0};
+    size_t bits_read = 0;
+    accept("contexts", netbuff_read_contexts(&bytes, &none, contexts, &bits_read));
+    printf("contexts: %" PRIu32 " clusters, %zu bits read\n", contexts->num_block_clusters,
+           bits_read);
 }
 
-static void read_contexts(struct scan *scan)
+/* 5. The orders: a selector of 2 says that none is permuted. */
+static void read_orders(struct netbuff_order_store *store)
 {
-    const uint8_t bytes[1] = {1};
-    size_t bits, x, y;
-    uint32_t refused =
-        netbuff_block_context(bytes, 1, 0, bytes, 0, &scan->clusters, scan->lengths, scan->lf,
-                              scan->qf, scan->map, &bits, &x, &y);
-    printf("contexts: %" PRIu32 " clusters, %zu bits read\n", scan->clusters, bits);
-    expect(refused == 0 && scan->clusters == CLUSTERS && bits == 1, "contexts");
+    const uint8_t data[1] = {2};
+    struct netbuff_bytes bytes = {data, sizeof data};
+    struct netbuff_symbols none = {NULL, 0};
+    size_t symbols_read = 0;
+    accept("orders", netbuff_read_orders(&bytes, &none, store, &symbols_read));
+    struct netbuff_order_list order = netbuff_find_order(store, 0, NETBUFF_CHANNEL_Y);
+    printf("orders: natural 8 x 8 has %zu places, starts (%d,%d) (%d,%d) (%d,%d)\n", order.places,
+           order.data[0], order.data[1], order.data[2], order.data[3], order.data[4],
+           order.data[5]);
 }
 
-static void read_orders(struct scan *scan)
+/* 6. The coefficients: one in channel 1 of the first varblock, none elsewhere. */
+static void read_coefficients(const struct netbuff_blocks *group,
+                              const struct netbuff_contexts *contexts,
+                              const struct netbuff_order_store *orders)
 {
-    const uint8_t bytes[1] = {2};
-    const uint32_t none[1] = {0};
-    const uint16_t *store = scan->store;
-    size_t read, x, y;
-    uint32_t refused =
-        netbuff_orders(bytes, 1, none, 0, scan->store, NETBUFF_STORE_LENGTH, &read, &x, &y);
-    printf("orders: natural 8 x 8 starts (%d,%d) (%d,%d) (%d,%d)\n", store[0], store[1], store[2],
-           store[3], store[4], store[5]);
-    expect(refused == 0 && read == 0 && store[2] == 1 && store[5] == 1, "orders");
-}
+    static const uint8_t cluster_map[495 * 15];
+    static int32_t cells[3][CELLS];
+    static uint8_t log[LOG];
+    /* Nine counts (three varblocks, channels 1, 0, 2), of which the first is 1; then it has its
+     * coefficient, 3, which is packed and stands for -2. */
+    const uint32_t symbols[10] = {1, 3, 0, 0, 0, 0, 0, 0, 0, 0};
 
-/* One coefficient in channel 1 of the first varblock, none elsewhere. */
-static void read_coefficients(const struct scan *scan)
-{
-    const uint32_t symbols[10] = {1, 3};
-    static const uint8_t cluster_map[495 * CLUSTERS];
-    static int32_t grids[3][64 * BLOCKS];
-    static uint8_t log[192 * BLOCKS];
-    const int32_t no_lf[1] = {0};
-    size_t read, x, y;
-    uint32_t refused = netbuff_coefficients(
-        scan->wide, scan->high, scan->group_kinds, BLOCKS, scan->group_hf_mul, BLOCKS,
-        scan->clusters, scan->lengths, scan->lf, scan->qf, scan->map, false, no_lf, 0, no_lf, 0, no_lf,
-        0, scan->store, NETBUFF_STORE_LENGTH, 1, cluster_map, sizeof cluster_map, 0, cluster_map, 0,
-        symbols, 10, log, sizeof log, grids[0], 64 * BLOCKS, grids[1], 64 * BLOCKS, grids[2],
-        64 * BLOCKS, &read, &x, &y);
-    printf("coefficients: %zu symbols read, channel 1 at (1,0) holds %" PRId32 "\n", read, grids[1][1]);
-    expect(refused == 0 && read == 10 && grids[1][1] == -2, "coefficients");
+    struct netbuff_coefficients_input input = {
+        .group = *group,
+        .contexts = contexts,
+        .orders = *orders,
+        .presets = {.count = 1, /* so the preset number has no bits */
+                    .cluster_map = cluster_map,
+                    .cluster_map_length =
+                        netbuff_cluster_map_length(contexts->num_block_clusters, 1)},
+        .symbols = {symbols, 10},
+    };
+    struct netbuff_coefficients_output output = {
+        .grids = {{cells[0], CELLS}, {cells[1], CELLS}, {cells[2], CELLS}},
+        .log = log,
+        .log_length = LOG,
+    };
+    accept("coefficients", netbuff_read_coefficients(&input, &output));
+    size_t row = NETBUFF_BLOCK_SIDE * group->bw;
+    int32_t found = cells[NETBUFF_CHANNEL_Y][0 * row + 1];
+    printf("coefficients: %zu symbols read, channel 1 at (1,0) holds %" PRId32 "\n",
+           output.symbols_read, found);
+    expect(output.symbols_read == 10 && found == -2, "coefficients");
 }
 
 int main(void)
 {
-    struct scan *scan = calloc(1, sizeof *scan);
-    if (scan == NULL)
-        return 2;
-    look_up();
-    count_columns();
-    read_layout(scan);
-    cut_group(scan);
-    read_contexts(scan);
-    read_orders(scan);
-    read_coefficients(scan);
-    free(scan);
-    return failures == 0 ? 0 : 1;
+    const struct netbuff_lf_group lf_group = {16, 16, {0, 0, 0}};
+    uint8_t kinds[BLOCKS], group_kinds[BLOCKS];
+    int32_t hf_mul[BLOCKS], group_hf_mul[BLOCKS];
+    struct netbuff_blocks layout = {0, 0, kinds, hf_mul, netbuff_blocks_of(&lf_group)};
+    struct netbuff_blocks group = {0, 0, group_kinds, group_hf_mul, 0};
+    static struct netbuff_contexts contexts;
+    struct netbuff_order_store orders = {NULL, NETBUFF_STORE_LENGTH};
+
+    expect(netbuff_version() == NETBUFF_VERSION, "header and library of one version");
+    orders.data = calloc(orders.length, sizeof *orders.data);
+    expect(orders.data != NULL, "memory");
+
+    size_t columns = count_columns(&lf_group);
+    read_layout(&lf_group, columns, &layout);
+    cut_group(&layout, &group);
+    read_contexts(&contexts);
+    read_orders(&orders);
+    read_coefficients(&group, &contexts, &orders);
+    free(orders.data);
+    return 0;
 }

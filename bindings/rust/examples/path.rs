@@ -3,109 +3,60 @@
 //! `cargo run --release --example path` (in bindings/rust, once `.ci/archive` has been run).
 
 use netbuff::{
-    block_context, coefficients, column_count, cut, layout, orders, BlockContexts,
-    CoefficientInput, CoefficientOutput, Filter, Layout, LayoutInput, LayoutOutput, LfGroup,
-    Refusal, STORE_LENGTH,
+    coefficients, column_count, BlockContexts, CoefficientInput, Columns, GridsBuf, LayoutBuf,
+    LayoutInput, LfGroup, OrdersBuf, Presets, Refusal,
 };
-
-const GROUP: LfGroup = LfGroup {
-    width: 16,
-    height: 16,
-    modes: [0; 3],
-};
-const BLOCKS: usize = 4;
 
 fn main() -> Result<(), Refusal> {
-    let columns = column_count(&[2], GROUP)?;
+    // How many columns the scan has; they are decoded by the caller.
+    let scan = LfGroup::new(16, 16);
+    let columns = column_count(&[2], scan)?;
     println!(
         "columns: {}, {} bits read",
         columns.count, columns.bits_read
     );
 
-    let (mut kinds, mut hf_mul) = ([0; BLOCKS], [0; BLOCKS]);
-    read_layout(&mut kinds, &mut hf_mul)?;
-    for (block, &kind) in kinds.iter().enumerate().filter(|(_, &kind)| kind >= 2) {
-        let (x, y) = (block % 2, block / 2);
+    // Columns to varblocks: one Dct16x8 and two Dct8. The filter is off.
+    let columns = Columns {
+        types: &[6, 0, 0],
+        muls: &[4, 0, 2],
+    };
+    let sharpness = vec![0; scan.sides().blocks()];
+    let layout = LayoutBuf::read(&LayoutInput::unfiltered(scan, columns, &sharpness))?;
+    for varblock in layout.layout().varblocks() {
         println!(
-            "varblock at {x} {y}: type {}, hf_mul {}",
-            kind - 2,
-            hf_mul[block]
+            "varblock at {} {}: type {}, hf_mul {}",
+            varblock.x, varblock.y, varblock.transform, varblock.hf_mul
         );
     }
 
-    let whole = Layout {
-        wide: 2,
-        high: 2,
-        kinds: &kinds,
-        hf_mul: &hf_mul,
-    };
-    let (mut group_kinds, mut group_mul) = ([0; BLOCKS], [0; BLOCKS]);
-    let sides = cut(whole, 0, &mut group_kinds, &mut group_mul)?;
-    println!("group 0: {} x {} blocks", sides.wide, sides.high);
+    // Coefficients are read group by group; this layout is one group.
+    let group = layout.layout().cut(0)?;
+    println!("group 0: {} x {} blocks", group.sides.bw, group.sides.bh);
 
-    let mut contexts = BlockContexts::ZERO;
-    block_context(&[1], 0, &[], &mut contexts)?;
-    let mut store = vec![0; STORE_LENGTH];
-    orders(&[2], &[], &mut store)?;
-    let group = Layout {
-        wide: sides.wide,
-        high: sides.high,
-        kinds: &group_kinds,
-        hf_mul: &group_mul,
-    };
-    read_coefficients(group, &contexts, &store)
-}
+    // What all groups share: block contexts, orders, and a preset whose clusters are all 0.
+    let contexts = BlockContexts::standard();
+    let orders = OrdersBuf::natural();
+    let cluster_map = vec![0; Presets::map_length(&contexts, 1)];
 
-/// One Dct16x8 and two Dct8, filter off.
-fn read_layout(kinds: &mut [u8], hf_mul: &mut [i32]) -> Result<(), Refusal> {
-    let input = LayoutInput {
-        group: GROUP,
-        types: &[6, 0, 0],
-        muls: &[4, 0, 2],
-        sharpness: &[0; BLOCKS],
-        filter: Filter::Off,
-        lookup: &[0.0; 8],
-        scale: 1,
-    };
-    let sigma = &mut [0.0; BLOCKS];
-    layout(
-        input,
-        LayoutOutput {
-            kinds,
-            hf_mul,
-            sigma,
-        },
-    )?;
-    Ok(())
-}
-
-/// One coefficient in channel 1 of the first varblock, none elsewhere.
-fn read_coefficients(
-    group: Layout,
-    contexts: &BlockContexts,
-    store: &[u16],
-) -> Result<(), Refusal> {
-    let cluster_map = vec![0; 495 * contexts.num_block_clusters as usize];
-    let mut grids = [[0; 64 * BLOCKS]; 3];
-    let mut log = [0; 192 * BLOCKS];
+    // One coefficient in channel 1 of the first varblock, and a count of 0 for each other channel.
     let input = CoefficientInput {
-        group,
-        contexts,
+        group: group.group(),
+        contexts: &contexts,
         lf: None,
-        store,
-        presets: 1,
-        cluster_map: &cluster_map,
+        orders: orders.orders(),
+        presets: Presets {
+            count: 1,
+            cluster_map: &cluster_map,
+        },
         shift: 0,
         bytes: &[],
         symbols: &[1, 3, 0, 0, 0, 0, 0, 0, 0, 0],
     };
-    let grids_lent = grids.each_mut().map(|grid| grid.as_mut_slice());
-    let output = CoefficientOutput {
-        grids: grids_lent,
-        log: &mut log,
-    };
-    let read = coefficients(input, output)?;
-    let cell = grids[1][1];
+    let mut grids = GridsBuf::zero(group.sides);
+    let mut log = vec![0; group.sides.log_length()];
+    let read = coefficients(&input, grids.lend(&mut log))?;
+    let cell = grids.at(1, 1, 0);
     println!("coefficients: {read} symbols read, channel 1 at (1,0) holds {cell}");
     assert_eq!((read, cell), (10, -2));
     Ok(())

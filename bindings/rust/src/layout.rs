@@ -1,21 +1,90 @@
-use crate::{call, sys, Result};
+use netbuff_sys as sys;
 
-/// Size of an LF group in pixels, and the upsampling modes of its three channels.
+use crate::refusal::call;
+use crate::{Result, Sides};
+
+#[cfg(feature = "alloc")]
+use crate::Layout;
+#[cfg(feature = "alloc")]
+use alloc::{vec, vec::Vec};
+
+/// The size of an LF group in pixels, 1 to 2,048 each way, and the upsampling modes of its three
+/// channels, 0 to 3.
 #[derive(Debug, Copy, Clone, PartialEq, Eq)]
 pub struct LfGroup {
+    /// In pixels.
     pub width: u32,
+    /// In pixels.
     pub height: u32,
+    /// Of channels 0, 1, 2: 0 none, 1 both ways, 2 horizontal, 3 vertical.
     pub modes: [u32; 3],
+}
+
+impl LfGroup {
+    /// The largest width and height.
+    pub const MOST: u32 = 2048;
+
+    /// An LF group with modes 0.
+    pub const fn new(width: u32, height: u32) -> Self {
+        Self {
+            width,
+            height,
+            modes: [0; 3],
+        }
+    }
+
+    /// The sides of its grid of blocks: the pixels divided by 8, rounded up; bw is made even if a
+    /// mode is 1 or 2, bh if one is 1 or 3. No blocks where width or height is outside its limits,
+    /// which every call refuses.
+    ///
+    /// ```
+    /// use netbuff::{LfGroup, Sides};
+    ///
+    /// assert_eq!(LfGroup::new(17, 8).sides(), Sides { bw: 3, bh: 1 });
+    /// let halved = LfGroup { modes: [0, 1, 0], ..LfGroup::new(17, 8) };
+    /// assert_eq!(halved.sides(), Sides { bw: 4, bh: 2 });
+    /// ```
+    pub fn sides(&self) -> Sides {
+        let limits = 1..=Self::MOST;
+        if !limits.contains(&self.width) || !limits.contains(&self.height) {
+            return Sides::default();
+        }
+        let side = |pixels: u32, halved: u32| {
+            let blocks = pixels.div_ceil(8) as usize;
+            let even = self.modes.iter().any(|&mode| mode == 1 || mode == halved);
+            blocks + usize::from(even) * (blocks % 2)
+        };
+        Sides {
+            bw: side(self.width, 2),
+            bh: side(self.height, 3),
+        }
+    }
 }
 
 /// A column count and the bits read for it.
 #[derive(Debug, Copy, Clone, Default, PartialEq, Eq)]
 pub struct ColumnCount {
+    /// How many columns an LF group has.
     pub count: u32,
+    /// As many as the exponent of the least power of two not below the number of blocks.
     pub bits_read: usize,
 }
 
-/// Reads the column count of an LF group.
+/// The column count of an LF group, from the first bit on: 1 plus as many bits as the exponent of
+/// the least power of two not below its number of blocks.
+///
+/// # Errors
+///
+/// 2 (width, height), 11 (modes), 3.
+///
+/// ```
+/// use netbuff::{column_count, LfGroup};
+///
+/// let read = column_count(&[2], LfGroup::new(16, 16))?;
+/// assert_eq!((read.count, read.bits_read), (3, 2));
+/// assert_eq!(column_count(&[2], LfGroup::new(2049, 16)).unwrap_err().number(), 2);
+/// # Ok::<(), netbuff::Refusal>(())
+/// ```
 pub fn column_count(bytes: &[u8], group: LfGroup) -> Result<ColumnCount> {
     let mut read = ColumnCount::default();
     let ColumnCount { count, bits_read } = &mut read;
@@ -39,49 +108,101 @@ pub fn column_count(bytes: &[u8], group: LfGroup) -> Result<ColumnCount> {
     Ok(read)
 }
 
-/// What the layout call reads: columns as two lists, and a sharpness number per block.
+/// Columns as an LF group sends them: two lists of one length.
 #[derive(Debug, Copy, Clone)]
-pub struct LayoutInput<'a> {
-    pub group: LfGroup,
-    /// Of each column; only the low eight bits count.
+pub struct Columns<'a> {
+    /// Each column's transform number; only the low eight bits count.
     pub types: &'a [i32],
-    /// Of each column; its hf_mul is mul + 1 and must be positive. The largest mul wraps, and is
+    /// Each column's mul. Its hf_mul is mul + 1 and must be positive; the largest mul wraps, and is
     /// refused with 6.
     pub muls: &'a [i32],
+}
+
+/// What the layout call reads.
+#[derive(Debug, Copy, Clone)]
+pub struct LayoutInput<'a> {
+    /// The LF group that is laid out.
+    pub group: LfGroup,
+    /// Surplus ones are accepted.
+    pub columns: Columns<'a>,
+    /// A number for each block, row by row; their contents are looked at with the filter on, and
+    /// must be 0 to 7 then.
     pub sharpness: &'a [i32],
+    /// Off, or on with its multiplier.
     pub filter: Filter,
+    /// By sharpness, −65,504 to 65,504 each; looked at even when the filter is off.
     pub lookup: &'a [f32; 8],
+    /// 1 to 73,728; looked at even when the filter is off.
     pub scale: u32,
 }
 
-/// The edge-preserving filter: off, or on with its multiplier.
+impl<'a> LayoutInput<'a> {
+    /// With the filter off.
+    pub fn unfiltered(group: LfGroup, columns: Columns<'a>, sharpness: &'a [i32]) -> Self {
+        Self {
+            group,
+            columns,
+            sharpness,
+            filter: Filter::Off,
+            lookup: &[0.0; 8],
+            scale: 1,
+        }
+    }
+}
+
+/// The edge-preserving filter.
 #[derive(Debug, Copy, Clone, PartialEq)]
 pub enum Filter {
+    /// Every strength is +0.0.
     Off,
+    /// With its multiplier, −65,504 to 65,504.
     On(f32),
 }
 
-/// What the layout call fills, one place per block: kind, hf_mul and filter strength.
+/// What the layout call fills: a place per block, row by row.
 #[derive(Debug)]
-pub struct LayoutOutput<'a> {
+pub struct LayoutMut<'a> {
+    /// 1 occupied, 2 + transform number at a varblock's corner.
     pub kinds: &'a mut [u8],
+    /// 0 off corners.
     pub hf_mul: &'a mut [i32],
+    /// Filter strengths: multiplier × 65536 / scale / hf_mul × lookup\[sharpness\], each step
+    /// rounded once.
     pub sigma: &'a mut [f32],
 }
 
-/// Reads a layout; the answer is the number of columns used. Refused with 2, 11 or 1, the output
-/// stays as it was; refused with 4 to 10, it is all zero.
-pub fn layout(input: LayoutInput, output: LayoutOutput) -> Result<usize> {
+/// Reads a layout; the answer is the number of columns used.
+///
+/// Blocks are visited row by row, and a free block takes the next column. `sharpness`, `kinds`,
+/// `hf_mul` and `sigma` have as many places as the group has blocks ([`LfGroup::sides`]), and both
+/// lists of columns are equally long. [`LayoutBuf::read`] brings the memory along.
+///
+/// # Errors
+///
+/// 2, 11, 1: the output stays as it was. Then 4 to 10: the output is all zero.
+///
+/// ```
+/// use netbuff::{layout, Columns, LayoutInput, LayoutMut, LfGroup};
+///
+/// let columns = Columns { types: &[6, 0, 0], muls: &[4, 0, 2] };
+/// let input = LayoutInput::unfiltered(LfGroup::new(16, 16), columns, &[0; 4]);
+/// let (mut kinds, mut hf_mul, mut sigma) = ([0; 4], [0; 4], [0.0; 4]);
+/// let output = LayoutMut { kinds: &mut kinds, hf_mul: &mut hf_mul, sigma: &mut sigma };
+/// assert_eq!(layout(&input, output)?, 3);
+/// assert_eq!(kinds, [2 + 6, 2, 1, 2]);
+/// assert_eq!(hf_mul, [5, 1, 0, 3]);
+/// # Ok::<(), netbuff::Refusal>(())
+/// ```
+pub fn layout(input: &LayoutInput, output: LayoutMut) -> Result<usize> {
     let LayoutInput {
         group,
-        types,
-        muls,
+        columns: Columns { types, muls },
         sharpness,
         filter,
         lookup,
         scale,
-    } = input;
-    let LayoutOutput {
+    } = *input;
+    let LayoutMut {
         kinds,
         hf_mul,
         sigma,
@@ -123,4 +244,72 @@ pub fn layout(input: LayoutInput, output: LayoutOutput) -> Result<usize> {
         )
     })?;
     Ok(used)
+}
+
+/// A layout with its filter strengths, in memory of its own.
+#[cfg(feature = "alloc")]
+#[derive(Debug, Clone, PartialEq)]
+pub struct LayoutBuf {
+    /// In blocks.
+    pub sides: Sides,
+    /// As [`LayoutMut::kinds`].
+    pub kinds: Vec<u8>,
+    /// As [`LayoutMut::hf_mul`].
+    pub hf_mul: Vec<i32>,
+    /// As [`LayoutMut::sigma`].
+    pub sigma: Vec<f32>,
+    /// How many of the columns it took.
+    pub columns_used: usize,
+}
+
+#[cfg(feature = "alloc")]
+impl LayoutBuf {
+    /// Reads a layout into memory of its own.
+    ///
+    /// # Errors
+    ///
+    /// Those of [`layout`].
+    ///
+    /// ```
+    /// use netbuff::{Columns, LayoutBuf, LayoutInput, LfGroup, Refusal};
+    ///
+    /// let group = LfGroup::new(16, 16);
+    /// let read = |types: &[i32], muls: &[i32]| {
+    ///     let columns = Columns { types, muls };
+    ///     LayoutBuf::read(&LayoutInput::unfiltered(group, columns, &[0; 4]))
+    /// };
+    /// let layout = read(&[6, 0, 0], &[4, 0, 2])?;
+    /// let corners: Vec<_> = layout.layout().varblocks().map(|v| (v.x, v.y)).collect();
+    /// assert_eq!(corners, [(0, 0), (1, 0), (1, 1)]);
+    ///
+    /// let refused = read(&[0, 6, 7], &[0; 3]).unwrap_err();
+    /// assert_eq!(refused, Refusal::Overlap { x: 0, y: 1 });
+    /// # Ok::<(), Refusal>(())
+    /// ```
+    pub fn read(input: &LayoutInput) -> Result<Self> {
+        let sides = input.group.sides();
+        let mut read = Self {
+            sides,
+            kinds: vec![0; sides.blocks()],
+            hf_mul: vec![0; sides.blocks()],
+            sigma: vec![0.0; sides.blocks()],
+            columns_used: 0,
+        };
+        let output = LayoutMut {
+            kinds: &mut read.kinds,
+            hf_mul: &mut read.hf_mul,
+            sigma: &mut read.sigma,
+        };
+        read.columns_used = layout(input, output)?;
+        Ok(read)
+    }
+
+    /// Lends the layout.
+    pub fn layout(&self) -> Layout<'_> {
+        Layout {
+            sides: self.sides,
+            kinds: &self.kinds,
+            hf_mul: &self.hf_mul,
+        }
+    }
 }

@@ -1,15 +1,15 @@
 /// A lent layout or group: sides in blocks, kinds and hf_mul row by row.
 #[derive(Debug, Clone, Default, PartialEq, Eq)]
 pub struct Layout {
-    pub wide: usize,
-    pub high: usize,
+    pub bw: usize,
+    pub bh: usize,
     pub kinds: Vec<u8>,
     pub hf_mul: Vec<i32>,
 }
 
 impl Layout {
     pub fn blocks(&self) -> usize {
-        self.wide.saturating_mul(self.high)
+        self.bw.saturating_mul(self.bh)
     }
 }
 

@@ -25,18 +25,18 @@ impl LfGroupCall {
 
     /// The pass groups, row by row.
     pub fn groups(&self) -> Vec<PassGroup> {
-        let (wide, high) = self.sides();
+        let (bw, bh) = self.sides();
         let parts = |side: usize| {
             let starts = (0..side).step_by(PassGroup::SIDE);
             starts.map(move |start| start..side.min(start + PassGroup::SIDE))
         };
         let row = |rows: Range<usize>| {
-            parts(wide).map(move |columns| PassGroup {
+            parts(bw).map(move |columns| PassGroup {
                 columns,
                 rows: rows.clone(),
             })
         };
-        parts(high).flat_map(row).collect()
+        parts(bh).flat_map(row).collect()
     }
 }
 

@@ -46,8 +46,8 @@ pub fn group(call: &LayoutCall) -> Layout {
     let outcome = expected::layout(call);
     assert!(outcome.answer.is_ok(), "{:?}", outcome.answer);
     Layout {
-        wide: bw,
-        high: bh,
+        bw,
+        bh,
         kinds: outcome.buffers.kinds,
         hf_mul: outcome.buffers.hf_mul,
     }

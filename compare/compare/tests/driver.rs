@@ -53,7 +53,7 @@ fn a_coefficient_call_is_made_small() {
     let difference = report.difference.expect("a difference");
     let input = difference.lines().next().expect("a line").to_string();
     println!("{input}");
-    for small in ["wide: 1, high: 1", "lf: None", "presets: 1,", "shift: 0"] {
+    for small in ["bw: 1, bh: 1", "lf: None", "presets: 1,", "shift: 0"] {
         assert!(input.contains(small), "not small: {small}");
     }
 }

@@ -18,12 +18,12 @@ fn sides_of_the_transforms() {
 #[test]
 fn sizes_of_the_orders() {
     let store = expected::orders(&make::orders(0, &[])).buffers;
-    for (order, (wide, high)) in ORDER_SIZES.into_iter().enumerate().take(ORDER_COUNT) {
+    for (order, (width, height)) in ORDER_SIZES.into_iter().enumerate().take(ORDER_COUNT) {
         for channel in 0..3 {
             let list = &store[list_start(order, channel)..][..list_length(order)];
             let mut places: Vec<_> = list.chunks(2).map(|place| (place[1], place[0])).collect();
             places.sort_unstable();
-            let rows = (0..high as u16).flat_map(|y| (0..wide as u16).map(move |x| (y, x)));
+            let rows = (0..height as u16).flat_map(|y| (0..width as u16).map(move |x| (y, x)));
             assert!(places.into_iter().eq(rows), "order {order}");
         }
     }

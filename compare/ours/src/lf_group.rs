@@ -1,7 +1,7 @@
 use calls::{Answer, LayoutBuffers, LfGroupCall, LfGroupOutput, PassGroup, Store};
 use netbuff::{
-    block_context, coefficients, cut, orders, BlockContexts, CoefficientInput, CoefficientOutput,
-    Layout,
+    block_context, coefficients, cut, orders, BlockClusters, BlockContexts, CoefficientInput,
+    CoefficientMut, Group, GroupMut, Layout, LfGrids, Orders, Presets, Sides,
 };
 
 use super::{answer, layout_into};
@@ -52,8 +52,11 @@ impl LfGroupBuffers {
     pub fn run(&mut self, call: &LfGroupCall, output: &mut LfGroupOutput) -> Answer<usize> {
         layout_into(&call.layout, &mut self.layout)?;
         let lent = &call.contexts;
-        let contexts = &mut self.contexts;
-        answer(block_context(&lent.bytes, lent.count, &lent.map, contexts))?;
+        let clusters = BlockClusters {
+            count: lent.count,
+            map: &lent.map,
+        };
+        answer(block_context(&lent.bytes, clusters, &mut self.contexts))?;
         let lent = &call.orders;
         answer(orders(&lent.bytes, &lent.symbols, &mut self.store))?;
         let mut read = 0;
@@ -66,25 +69,24 @@ impl LfGroupBuffers {
 
     /// Fills the record of a pass group.
     fn cut(&mut self, call: &LfGroupCall, index: usize, group: &PassGroup) -> Answer<()> {
-        let (wide, high) = call.sides();
+        let (bw, bh) = call.sides();
         let (rows, index) = match self.cut_of {
-            CutOf::Layout => (0..high, index),
+            CutOf::Layout => (0..bh, index),
             CutOf::Rows => (group.rows.clone(), group.columns.start / PassGroup::SIDE),
         };
-        let cells = rows.start * wide..rows.end * wide;
+        let cells = rows.start * bw..rows.end * bw;
         let lent = Layout {
-            wide,
-            high: rows.len(),
+            sides: Sides { bw, bh: rows.len() },
             kinds: &self.layout.kinds[cells.clone()],
             hf_mul: &self.layout.hf_mul[cells],
         };
         let GroupRecord { kinds, hf_mul, lf } = &mut self.group;
         let (kinds, hf_mul) = (&mut kinds[..group.blocks()], &mut hf_mul[..group.blocks()]);
-        answer(cut(lent, index, kinds, hf_mul))?;
+        answer(cut(lent, index, GroupMut { kinds, hf_mul }))?;
         for (own, numbers) in lf.iter_mut().zip(&call.lf) {
             own.clear();
             for row in group.rows.clone() {
-                own.extend_from_slice(&numbers[row * wide..][group.columns.clone()]);
+                own.extend_from_slice(&numbers[row * bw..][group.columns.clone()]);
             }
         }
         Ok(())
@@ -100,23 +102,29 @@ impl LfGroupBuffers {
     ) -> Answer<usize> {
         let blocks = group.blocks();
         let input = CoefficientInput {
-            group: Layout {
-                wide: group.columns.len(),
-                high: group.rows.len(),
+            group: Group {
+                sides: Sides {
+                    bw: group.columns.len(),
+                    bh: group.rows.len(),
+                },
                 kinds: &self.group.kinds[..blocks],
                 hf_mul: &self.group.hf_mul[..blocks],
             },
             contexts: &self.contexts,
-            lf: Some(self.group.lf.each_ref().map(Vec::as_slice)),
-            store: &self.store,
-            presets: 1,
-            cluster_map: &call.cluster_map,
+            lf: Some(LfGrids {
+                channels: self.group.lf.each_ref().map(Vec::as_slice),
+            }),
+            orders: Orders { store: &self.store },
+            presets: Presets {
+                count: 1,
+                cluster_map: &call.cluster_map,
+            },
             shift: 0,
             bytes: &[],
             symbols: &call.symbols[index],
         };
         let grids = output.grids[index].each_mut().map(Vec::as_mut_slice);
         let log = &mut output.log;
-        answer(coefficients(input, CoefficientOutput { grids, log }))
+        answer(coefficients(&input, CoefficientMut { grids, log }))
     }
 }

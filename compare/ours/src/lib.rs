@@ -10,12 +10,16 @@ use calls::{
     OrdersCall, Outcome, ReadCall, ReadKind, Refusal, Store, Transform,
 };
 use netbuff::{
-    BlockContexts, Choice, CoefficientInput, CoefficientOutput, Filter, LayoutInput, LayoutOutput,
-    LfGroup, Place,
+    BlockClusters, BlockContexts, Choice, CoefficientInput, CoefficientMut, Columns, Filter, Group,
+    GroupMut, LayoutInput, LayoutMut, LfGrids, LfGroup, Orders, Place, Presets, Sides,
 };
 
 fn answer<T>(result: netbuff::Result<T>) -> Answer<T> {
-    result.map_err(|netbuff::Refusal { number, x, y }| Refusal { number, x, y })
+    result.map_err(|refusal| {
+        let (x, y) = refusal.position();
+        let number = refusal.number();
+        Refusal { number, x, y }
+    })
 }
 
 /// The outcome of a call that is lent nothing to write to.
@@ -84,19 +88,21 @@ pub fn layout_into(call: &LayoutCall, buffers: &mut LayoutBuffers) -> Answer<usi
             height: call.height,
             modes: call.modes,
         },
-        types: &call.types,
-        muls: &call.muls,
+        columns: Columns {
+            types: &call.types,
+            muls: &call.muls,
+        },
         sharpness: &call.sharpness,
         filter: call.filter.map_or(Filter::Off, Filter::On),
         lookup: &call.lookup,
         scale: call.scale,
     };
-    let output = LayoutOutput {
+    let output = LayoutMut {
         kinds: &mut buffers.kinds,
         hf_mul: &mut buffers.hf_mul,
         sigma: &mut buffers.sigma,
     };
-    answer(netbuff::layout(input, output))
+    answer(netbuff::layout(&input, output))
 }
 
 pub fn orders(call: &OrdersCall) -> Outcome<usize, Store> {
@@ -122,8 +128,8 @@ pub fn cut(call: &CutCall) -> Outcome<(usize, usize), GroupBuffers> {
 
 /// The cut on other buffers than its own.
 pub fn cut_into(call: &CutCall, (kinds, hf_mul): &mut GroupBuffers) -> Answer<(usize, usize)> {
-    let sides = netbuff::cut(lent(&call.layout), call.group, kinds, hf_mul);
-    answer(sides.map(|sides| (sides.wide, sides.high)))
+    let sides = netbuff::cut(lent(&call.layout), call.group, GroupMut { kinds, hf_mul });
+    answer(sides.map(|sides| (sides.bw, sides.bh)))
 }
 
 pub fn alike(call: &AlikeCall) -> Outcome<bool, ()> {
@@ -132,10 +138,16 @@ pub fn alike(call: &AlikeCall) -> Outcome<bool, ()> {
 
 fn lent(layout: &calls::Layout) -> netbuff::Layout<'_> {
     netbuff::Layout {
-        wide: layout.wide,
-        high: layout.high,
+        sides: sides(layout),
         kinds: &layout.kinds,
         hf_mul: &layout.hf_mul,
+    }
+}
+
+fn sides(layout: &calls::Layout) -> Sides {
+    Sides {
+        bw: layout.bw,
+        bh: layout.bh,
     }
 }
 
@@ -165,12 +177,11 @@ pub fn contexts(call: &ContextsCall) -> Outcome<usize, Contexts> {
 
 /// The context call into a record of the wrapper.
 pub fn contexts_into(call: &ContextsCall, record: &mut BlockContexts) -> Answer<usize> {
-    answer(netbuff::block_context(
-        &call.bytes,
-        call.count,
-        &call.map,
-        record,
-    ))
+    let clusters = BlockClusters {
+        count: call.count,
+        map: &call.map,
+    };
+    answer(netbuff::block_context(&call.bytes, clusters, record))
 }
 
 pub fn order(call: &OrderCall) -> Outcome<Store, ()> {
@@ -205,19 +216,27 @@ pub fn coefficients_into(
     };
     let lf = call.lf.as_ref();
     let input = CoefficientInput {
-        group: lent(&call.group),
+        group: Group {
+            sides: sides(&call.group),
+            kinds: &call.group.kinds,
+            hf_mul: &call.group.hf_mul,
+        },
         contexts: &contexts,
-        lf: lf.map(|grids| grids.each_ref().map(Vec::as_slice)),
-        store: &call.store,
-        presets: call.presets,
-        cluster_map: &call.cluster_map,
+        lf: lf.map(|grids| LfGrids {
+            channels: grids.each_ref().map(Vec::as_slice),
+        }),
+        orders: Orders { store: &call.store },
+        presets: Presets {
+            count: call.presets,
+            cluster_map: &call.cluster_map,
+        },
         shift: call.shift,
         bytes: &call.bytes,
         symbols: &call.symbols,
     };
-    let output = CoefficientOutput {
+    let output = CoefficientMut {
         grids: buffers.grids.each_mut().map(Vec::as_mut_slice),
         log: &mut buffers.log,
     };
-    answer(netbuff::coefficients(input, output))
+    answer(netbuff::coefficients(&input, output))
 }

@@ -11,7 +11,7 @@ pub const ENTRIES_PER_CLUSTER: usize = 495;
 /// What the coefficient call refuses before it reads the preset: 2, 11, 12, 1, 18, stored places.
 pub fn coefficients_before_work(call: &CoefficientsCall) -> Option<Refusal> {
     let group = &call.group;
-    let sized = [group.wide, group.high]
+    let sized = [group.bw, group.bh]
         .iter()
         .all(|side| (1..=GROUP_SIDE_MOST).contains(side));
     let parameters = call.shift <= SHIFT_MOST && call.presets <= PRESETS_MOST;

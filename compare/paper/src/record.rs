@@ -51,19 +51,19 @@ pub fn kind_sides(kind: u8) -> Option<(usize, usize)> {
 pub type Rectangles = Vec<(usize, usize, usize, usize, i32)>;
 
 fn rectangles(layout: &Layout) -> Rectangles {
-    let wide = layout.wide;
+    let bw = layout.bw;
     let corners = layout.kinds.iter().zip(&layout.hf_mul).enumerate();
     corners
         .filter_map(|(cell, (&kind, &hf_mul))| {
             let (w, h) = kind_sides(kind)?;
-            Some((cell % wide, cell / wide, w, h, hf_mul))
+            Some((cell % bw, cell / bw, w, h, hf_mul))
         })
         .collect()
 }
 
 /// Whether kinds and hf_mul, of the lengths that the sides ask for, are what 18 lets pass.
 pub fn is_layout(layout: &Layout) -> bool {
-    let (wide, high) = (layout.wide, layout.high);
+    let (bw, bh) = (layout.bw, layout.bh);
     let cells = layout.kinds.iter().zip(&layout.hf_mul);
     let kinds_fit = cells
         .clone()
@@ -74,17 +74,17 @@ pub fn is_layout(layout: &Layout) -> bool {
     let rectangles = rectangles(layout);
     let placed = rectangles.iter().all(|&(x, y, w, h, _)| {
         let in_square = x % GROUP_SIDE + w <= GROUP_SIDE && y % GROUP_SIDE + h <= GROUP_SIDE;
-        in_square && x + w <= wide && y + h <= high
+        in_square && x + w <= bw && y + h <= bh
     });
-    kinds_fit && placed && covered_once(&rectangles, wide, high)
+    kinds_fit && placed && covered_once(&rectangles, bw, bh)
 }
 
 /// Whether every cell is in just one of the rectangles, which are all inside the grid.
-fn covered_once(rectangles: &Rectangles, wide: usize, high: usize) -> bool {
-    let mut covers = vec![0u32; wide * high];
+fn covered_once(rectangles: &Rectangles, bw: usize, bh: usize) -> bool {
+    let mut covers = vec![0u32; bw * bh];
     for &(x, y, w, h, _) in rectangles {
         for row in y..y + h {
-            for cover in &mut covers[row * wide + x..][..w] {
+            for cover in &mut covers[row * bw + x..][..w] {
                 *cover += 1;
             }
         }
@@ -98,7 +98,7 @@ pub fn cut(call: &CutCall) -> Outcome<(usize, usize), GroupBuffers> {
     match group_of(call) {
         Err(refusal) => Outcome::untouched(refusal, buffers),
         Ok(group) => Outcome {
-            answer: Ok((group.wide, group.high)),
+            answer: Ok((group.bw, group.bh)),
             buffers: (group.kinds, group.hf_mul),
         },
     }
@@ -106,29 +106,29 @@ pub fn cut(call: &CutCall) -> Outcome<(usize, usize), GroupBuffers> {
 
 fn group_of(call: &CutCall) -> Answer<Layout> {
     let layout = &call.layout;
-    let (wide, high) = (layout.wide, layout.high);
-    let groups_wide = wide.div_ceil(GROUP_SIDE);
-    let groups = groups_wide * high.div_ceil(GROUP_SIDE);
+    let (bw, bh) = (layout.bw, layout.bh);
+    let across = bw.div_ceil(GROUP_SIDE);
+    let groups = across * bh.div_ceil(GROUP_SIDE);
     refuse(first_refusal([
         (2, sides_fit(layout)),
         (2, call.group < groups),
     ]))?;
     let (x0, y0) = (
-        call.group % groups_wide * GROUP_SIDE,
-        call.group / groups_wide * GROUP_SIDE,
+        call.group % across * GROUP_SIDE,
+        call.group / across * GROUP_SIDE,
     );
-    let (group_wide, group_high) = (GROUP_SIDE.min(wide - x0), GROUP_SIDE.min(high - y0));
-    let cells = group_wide * group_high;
+    let (group_bw, group_bh) = (GROUP_SIDE.min(bw - x0), GROUP_SIDE.min(bh - y0));
+    let cells = group_bw * group_bh;
     let outs_fit = call.kinds.len() == cells && call.hf_mul.len() == cells;
     refuse(first_refusal([(1, lengths_fit(layout) && outs_fit)]))?;
     refuse(first_refusal([(18, is_layout(layout))]))?;
-    let sources = (0..group_high).flat_map(|y| {
-        let row = (y0 + y) * wide + x0;
-        row..row + group_wide
+    let sources = (0..group_bh).flat_map(|y| {
+        let row = (y0 + y) * bw + x0;
+        row..row + group_bw
     });
     Ok(Layout {
-        wide: group_wide,
-        high: group_high,
+        bw: group_bw,
+        bh: group_bh,
         kinds: sources.clone().map(|cell| layout.kinds[cell]).collect(),
         hf_mul: sources.map(|cell| layout.hf_mul[cell]).collect(),
     })
@@ -140,7 +140,7 @@ pub fn alike(call: &AlikeCall) -> Answer<bool> {
     refuse(first_refusal([(2, both(sides_fit))]))?;
     refuse(first_refusal([(1, both(lengths_fit))]))?;
     refuse(first_refusal([(18, both(is_layout))]))?;
-    let same_sides = (call.left.wide, call.left.high) == (call.right.wide, call.right.high);
+    let same_sides = (call.left.bw, call.left.bh) == (call.right.bw, call.right.bh);
     Ok(same_sides && rectangles(&call.left) == rectangles(&call.right))
 }
 
@@ -149,7 +149,7 @@ fn refuse(refusal: Option<calls::Refusal>) -> Answer<()> {
 }
 
 fn sides_fit(layout: &Layout) -> bool {
-    let sides = [layout.wide, layout.high];
+    let sides = [layout.bw, layout.bh];
     sides
         .iter()
         .all(|side| (1..=LAYOUT_SIDE_MOST).contains(side))

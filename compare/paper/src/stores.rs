@@ -7,10 +7,10 @@ pub fn store_fits(store: &Store) -> bool {
 /// Whether every place of each of the 39 lists is inside its order's size.
 pub fn places_inside(store: &Store) -> bool {
     (0..ORDER_COUNT).all(|order| {
-        let (wide, high) = ORDER_SIZES[order];
+        let (width, height) = ORDER_SIZES[order];
         let lists = &store[list_start(order, 0)..list_start(order + 1, 0)];
         let (x, y) = largest(lists);
-        usize::from(x) < wide && usize::from(y) < high
+        usize::from(x) < width && usize::from(y) < height
     })
 }
 

@@ -1,5 +1,6 @@
 -- what is proved from the definitions
 pub mod Laws
 pub mod Corners
-pub mod Loops
 pub mod Theorems
+pub mod Flaws
+pub mod TwoSteps

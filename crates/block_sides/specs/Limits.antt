@@ -5,14 +5,14 @@ use lib.Dec.{leb, eqb}
 
 -- both sides are 1 to limit
 unfoldable pub inLimits : ℕ → ℕ → ℕ → Bool
-inLimits limit w h = leb 1 w && leb w limit && (leb 1 h && leb h limit)
+inLimits limit bw bh = leb 1 bw && leb bw limit && (leb 1 bh && leb bh limit)
 
 -- as many kinds and as many hf_mul as cells
 unfoldable pub lengthsFit : ℕ → ℕ → ℕ → ℕ → Bool
-lengthsFit w h kinds muls = eqb kinds (h * w) && eqb muls (h * w)
+lengthsFit bw bh kinds hfMul = eqb kinds (bh * bw) && eqb hfMul (bh * bw)
 
-pub record Sided (limit w h : ℕ) : Type 0 where
-  pub wideFrom : 1 ≤ w
-  pub wideTo : w ≤ limit
-  pub highFrom : 1 ≤ h
-  pub highTo : h ≤ limit
+pub record Sided (limit bw bh : ℕ) : Type 0 where
+  pub bwFrom : 1 ≤ bw
+  pub bwTo : bw ≤ limit
+  pub bhFrom : 1 ≤ bh
+  pub bhTo : bh ≤ limit

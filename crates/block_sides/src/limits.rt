@@ -3,33 +3,33 @@ ghost use mathlib.Core.Path.{_≡_};
 ghost use Rattle.block_sides.specs.Limits.{inLimits, lengthsFit};
 
 // Both sides are 1 to limit.
-pub fn in_limits(limit: usize, wide: usize, high: usize) -> bool
-    ensures { λ r. ⌜ r ≡ inLimits limit wide high ⌝ }
+pub fn in_limits(limit: usize, bw: usize, bh: usize) -> bool
+    ensures { λ r. ⌜ r ≡ inLimits limit bw bh ⌝ }
 {
-    if wide < 1 {
+    if bw < 1 {
         return false;
     }
-    if limit < wide {
+    if limit < bw {
         return false;
     }
-    if high < 1 {
+    if bh < 1 {
         return false;
     }
-    high <= limit
+    bh <= limit
 }
 
-// As many kinds and as many hf_mul as wide x high cells, a product that may be too large for a number here.
-pub fn lengths_fit(wide: usize, high: usize, kinds: usize, muls: usize) -> bool
-    ensures { λ r. ⌜ r ≡ lengthsFit wide high kinds muls ⌝ }
+// As many kinds and as many hf_mul as bw x bh cells, a product that may be too large for a number here.
+pub fn lengths_fit(bw: usize, bh: usize, kinds: usize, hf_mul: usize) -> bool
+    ensures { λ r. ⌜ r ≡ lengthsFit bw bh kinds «hf_mul» ⌝ }
 {
-    if kinds != muls {
+    if kinds != hf_mul {
         return false;
     }
-    if wide == 0 {
+    if bw == 0 {
         return kinds == 0;
     }
-    if kinds % wide != 0 {
+    if kinds % bw != 0 {
         return false;
     }
-    kinds / wide == high
+    kinds / bw == bh
 }

@@ -1,4 +1,4 @@
 -- what is proved from the definitions
-pub mod LookUp
 pub mod Rules
 pub mod Sides
+pub mod LookUp

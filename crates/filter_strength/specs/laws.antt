@@ -1,5 +1,4 @@
 -- what is proved from the definitions
 pub mod Strength
 pub mod Limits
-pub mod LimitLaws
 pub mod Finite

@@ -18,7 +18,7 @@ fn answer(step: Step) -> LayoutAnswer
 {
     match step {
         Step::Going(used) => LayoutAnswer::Accepted(used),
-        Step::Stopped(why) => LayoutAnswer::Refused(why),
+        Step::Stopped(_, why) => LayoutAnswer::Refused(why),
     }
 }
 

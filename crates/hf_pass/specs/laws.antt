@@ -3,7 +3,6 @@ pub mod Read
 pub mod Accepted
 pub mod Accepts
 pub mod Stretch
-pub mod Fits
 pub mod Wrote
 pub mod Positions
 pub mod Marked

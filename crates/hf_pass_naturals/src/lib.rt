@@ -44,9 +44,9 @@ pub fn fill_natural_orders(store: &mut [u16]) -> bool
     let mut k = 0;
     while k < 13 {
         let size = block_size(k);
-        let bw = size.wide;
-        let bh = size.high;
-        let n = 2 * (bw * bh);
+        let width = size.wide;
+        let height = size.high;
+        let n = 2 * (width * height);
         let e = start + 3 * n;
         fill_order(&mut store[start..e], k, n);
         start = e;

@@ -1,3 +1,2 @@
 -- what is proved from the definitions
-pub mod Columns
 pub mod Judged

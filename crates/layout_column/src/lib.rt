@@ -4,9 +4,9 @@ use dct_select::TransformType;
 use refusal::Refusal;
 ghost use mathlib.Core.Path.{_≡_};
 ghost use Rattle.layout_column.specs.Columns.{lowEight, hfMulOf};
-ghost use Rattle.layout_column.specs.laws.Columns.{saidJudged, judgedOf};
+ghost use Rattle.layout_column.specs.laws.Judged.{saidJudged, judgedOf};
 
-// What a column asks for: the kind of its corner, hf_mul, and the blocks across and down.
+// What a column asks for: the kind of its varblock's corner, hf_mul, and the blocks across and down.
 pub struct JudgedColumn {
     pub kind: u8,
     pub hf_mul: u32,

@@ -4,7 +4,7 @@ use libc::STDOUT_FILENO;
 ghost use mathlib.Core.Path.{_≡_};
 ghost use Prim.Native.Nat.{_<_};
 
-fn wide(x: u8) -> usize
+fn to_usize(x: u8) -> usize
     ensures { λ r. ⌜ (r ≡ x) × (r < 256) ⌝ }
 {
     x as usize
@@ -24,7 +24,7 @@ fn run_at(jobs: &[u8], at: usize) -> usize {
     if jobs.len() - 2 < at {
         return at;
     }
-    let length = wide(jobs[at]) + 256 * wide(jobs[at + 1]);
+    let length = to_usize(jobs[at]) + 256 * to_usize(jobs[at + 1]);
     let start = at + 2;
     if jobs.len() - start < length {
         return at;

@@ -1,19 +1,20 @@
 -- The layout reading (document 01, Layout and filter strength): blocks are visited row by row, a free block takes the next column.
-use mathlib.Core.Bool.{Bool, cond}
+use mathlib.Core.Bool.{cond}
 use mathlib.Core.List.{List}
 use Prim.Native.Nat.{ℕ, _+_, _*_}
-use lib.Dec.{leb, eqb}
+use lib.Dec.{ltb, eqb}
 use lib.ListN.{length, getD, set, replicate}
 use lib.Ieee.{Float}
 use Rattle.refusal.specs.declared.Said.{Said}
 use Rattle.refusal.specs.Said as refusals
+use Rattle.refusal.specs.Answer.{Answer, unless, answeredBy}
 use Rattle.dct_select.specs.Transforms.{wide, high}
 use Rattle.layout.specs.Walk.{walk}
 use Rattle.layout.specs.Grid.{at}
 use Rattle.filter_strength.specs.declared.Filter.{Filter}
 use Rattle.filter_strength.specs.declared.ScaledFilter.{ScaledFilter}
 use Rattle.filter_strength.specs.Strength.{scaledBy, dividedBy}
-use Rattle.layout_column.specs.Columns.{lowEight, hfMulOf, checks}
+use Rattle.layout_column.specs.Columns.{lowEight, hfMulOf, columnChecks}
 use Rattle.layout_reading.specs.Scan.{Scan, Taking, Left, scan}
 
 -- what is read: a grid of bw x bh blocks, columns, a sharpness number per block, the filter with its multiplier × 65536 / scale,
@@ -34,17 +35,18 @@ pub record Placed : Type 0 where
   pub hfMul : List ℕ
   pub sigma : List ℕ
 
-pub data Reading : Type 0 where
-  Going : Placed → Reading
-  Stopped : Said → Reading
+-- Stopped n s: refused with s, n columns having been placed before
+pub data Placing : Type 0 where
+  Going : Placed → Placing
+  Stopped : ℕ → Said → Placing
 
--- refused with n at (x, y), or else what follows
-abbrev pub refuseIf : Bool → ℕ → ℕ → ℕ → Reading → Reading
-refuseIf test n x y next = cond test (Stopped (refusals.at n x y)) next
+-- refused with n at the free block (x, y)
+abbrev pub stopAt : ℕ → ℕ → ℕ → Placed → Placing
+stopAt n x y p = Stopped (p .used) (refusals.at n x y)
 
 -- after the scan of the rectangle: the corner gets its kind and hf_mul
-abbrev pub placed : ℕ → ℕ → ℕ → ℕ → ℕ → Placed → Scan → Reading
-placed bw kind h x y p (Left n cx cy) = Stopped (refusals.at n x y)
+abbrev pub placed : ℕ → ℕ → ℕ → ℕ → ℕ → Placed → Scan → Placing
+placed bw kind h x y p (Left n cx cy) = stopAt n x y p
 placed bw kind h x y p (Taking kinds sigma) =
     Going (record {
       used = p .used + 1;
@@ -55,25 +57,32 @@ placed bw kind h x y p (Taking kinds sigma) =
 
 module _ (bw bh : ℕ) (filter : ScaledFilter) (lookups : List Float) (sharpness : List ℕ) where
   -- a varblock of w x n blocks at the free block (x, y)
-  unfoldable pub place : ℕ → ℕ → ℕ → ℕ → ℕ → ℕ → Placed → Reading
+  unfoldable pub place : ℕ → ℕ → ℕ → ℕ → ℕ → ℕ → Placed → Placing
   place kind h w n x y p = placed bw kind h x y p (scan bw bh (dividedBy filter h) lookups sharpness x y w n (Taking (p .kinds) (p .sigma)))
 
 module _ (J : Job) where
-  abbrev pub placeIn : ℕ → ℕ → ℕ → ℕ → ℕ → ℕ → Placed → Reading
+  abbrev pub placeIn : ℕ → ℕ → ℕ → ℕ → ℕ → ℕ → Placed → Placing
   placeIn = place (J .bw) (J .bh) (J .filter) (J .lookups) (J .sharpness)
 
-  -- a column of type t and hf_mul h at the free block (x, y): checks in turn, then its varblock is placed
-  unfoldable pub judge : ℕ → ℕ → ℕ → ℕ → Placed → Reading
-  judge t h x y p = checks (λ (n : ℕ). Stopped (refusals.at n x y)) (placeIn (2 + t) h (wide t) (high t) x y p) t h x y
+  -- type and hf_mul of the next column
+  abbrev pub nextType : Placed → ℕ
+  nextType p = lowEight (getD (J .types) (p .used) 0)
 
-  -- the free block (x, y) takes the next column
-  unfoldable pub column : ℕ → ℕ → Placed → Reading
+  abbrev pub nextHfMul : Placed → ℕ
+  nextHfMul p = hfMulOf (getD (J .muls) (p .used) 0)
+
+  -- there is a next column, and it fits at the block (x, y)
+  abbrev pub nextChecks : ℕ → ℕ → Placed → Answer Unit
+  nextChecks x y p = unless 4 (ltb (p .used) (length (J .types))) (columnChecks (nextType p) (nextHfMul p) x y)
+
+  -- the free block (x, y) takes the next column: it is refused there, or its varblock is placed
+  unfoldable pub column : ℕ → ℕ → Placed → Placing
   column x y p =
-      refuseIf (leb (length (J .types)) (p .used)) 4 x y
-      (judge (lowEight (getD (J .types) (p .used) 0)) (hfMulOf (getD (J .muls) (p .used) 0)) x y p)
+      answeredBy (nextChecks x y p) (λ (s : Said). stopAt (s .number) x y p)
+      (λ (u : Unit). placeIn (2 + nextType p) (nextHfMul p) (wide (nextType p)) (high (nextType p)) x y p)
 
-  abbrev pub visit : ℕ → ℕ → Reading → Reading
-  visit x y (Stopped r) = Stopped r
+  abbrev pub visit : ℕ → ℕ → Placing → Placing
+  visit x y (Stopped n s) = Stopped n s
   visit x y (Going p) = cond (eqb (at (p .kinds) (J .bw) x y) 0) (column x y p) (Going p)
 
   -- all free, hf_mul 0, sigma +0.0
@@ -83,7 +92,7 @@ module _ (J : Job) where
   abbrev pub start : Placed
   start = record { used = 0; kinds = zeros; hfMul = zeros; sigma = zeros }
 
-  unfoldable pub reading : Reading
+  unfoldable pub reading : Placing
   reading = walk visit (J .bw) (J .bh) (Going start)
 
 abbrev pub jobWith : ℕ → ℕ → List ℕ → List ℕ → List ℕ → ScaledFilter → List Float → Job

@@ -1,7 +1,6 @@
 -- what is proved from the definitions
 pub mod Scan
 pub mod ScanSteps
-pub mod Reading
 pub mod Outcome
 pub mod Places
 pub mod Lengths

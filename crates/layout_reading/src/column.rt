@@ -11,12 +11,12 @@ ghost use Prim.Native.Nat.{_+_, _*_, _≤_, _<_};
 ghost use lib.ListN.{length};
 ghost use Rattle.filter_strength.specs.laws.Finite.{ScaledBounded};
 ghost use Rattle.layout_reading.specs.Reading.{Going, place as placeOf, visit as visitOf, jobWith};
-ghost use Rattle.layout_reading.specs.laws.Reading.{stateOf, stepped};
+ghost use Rattle.layout_reading.specs.laws.Outcome.{stateOf, stepped};
 
-// The reading goes on with that many columns used, or stops.
+// The reading goes on with that many columns used, or stops after that many were placed.
 pub enum Step {
     Going(usize),
-    Stopped(Refusal),
+    Stopped(usize, Refusal),
 }
 
 // A varblock at the free block (x, y). A refusal hands back the free block, not the cell.
@@ -52,9 +52,9 @@ fn place(
         v.high,
     );
     match outcome {
-        Scanned::Outside(_cx, _cy) => Step::Stopped(Refusal::Outside(x, y)),
-        Scanned::Overlap(_cx, _cy) => Step::Stopped(Refusal::Overlap(x, y)),
-        Scanned::Sharpness(_cx, _cy) => Step::Stopped(Refusal::Sharpness(x, y)),
+        Scanned::Outside(_cx, _cy) => Step::Stopped(used, Refusal::Outside(x, y)),
+        Scanned::Overlap(_cx, _cy) => Step::Stopped(used, Refusal::Overlap(x, y)),
+        Scanned::Sharpness(_cx, _cy) => Step::Stopped(used, Refusal::Sharpness(x, y)),
         Scanned::Taken => {
             let i = y * bw + x;
             kinds[i] = v.kind;
@@ -88,11 +88,11 @@ pub(crate) fn visit(
         return Step::Going(used);
     }
     if types.len() <= used {
-        return Step::Stopped(Refusal::ColumnsEnd(x, y));
+        return Step::Stopped(used, Refusal::ColumnsEnd(x, y));
     }
     let judged = judge(types[used], muls[used], x, y);
     match judged {
-        Judged::Refused(why) => Step::Stopped(why),
+        Judged::Refused(why) => Step::Stopped(used, why),
         Judged::Asks(v) => place(
             kinds,
             hf_mul,

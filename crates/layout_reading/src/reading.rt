@@ -4,7 +4,7 @@ use crate::column::visit;
 use filter_strength::Filter;
 use filter_strength::ScaledFilter;
 use filter_strength::params_fit;
-use layout_counts::counts_fit;
+use lf_group::counts_fit;
 use refusal::Refusal;
 ghost use mathlib.Core.Path.{_≡_};
 ghost use Prim.Native.Nat.{_*_, _≤_};
@@ -12,9 +12,7 @@ ghost use lib.ListN.{length};
 ghost use Rattle.filter_strength.specs.laws.Finite.{ScaledBounded};
 ghost use Rattle.layout.specs.Walk.{walk};
 ghost use Rattle.layout_reading.specs.Reading.{Going, visit as visitOf, reading as readingOf, jobWith, jobBy};
-ghost use Rattle.layout_reading.specs.laws.Reading.{stateOf, stepped};
-ghost use Rattle.layout_reading.specs.Outcome.{outcomeOf};
-ghost use Rattle.layout_reading.specs.laws.Outcome.{handed, readOf};
+ghost use Rattle.layout_reading.specs.laws.Outcome.{stateOf, stepped, toldBy, handed, readOf};
 
 // All blocks, over lengths that fit.
 fn read_blocks(
@@ -77,7 +75,7 @@ fn read_cleared(
     bh: usize,
 ) -> Step
     requires { ⌜ (length (now kinds) ≡ bh * bw) × (length (now «hf_mul») ≡ bh * bw) × (length (now sigma) ≡ bh * bw) × (length (now sharpness) ≡ bh * bw) × (length (now muls) ≡ length (now types)) × (bw ≤ 256) × (bh ≤ 256) × ScaledBounded filter (now lookups) ⌝ }
-    ensures { λ r. ⌜ handed r (now (kinds .exit)) (now («hf_mul» .exit)) (now (sigma .exit)) ≡ outcomeOf (jobWith bw bh (now (types .entry)) (now (muls .entry)) (now (sharpness .entry)) filter (now (lookups .entry))) (readingOf (jobWith bw bh (now (types .entry)) (now (muls .entry)) (now (sharpness .entry)) filter (now (lookups .entry)))) ⌝ }
+    ensures { λ r. ⌜ handed r (now (kinds .exit)) (now («hf_mul» .exit)) (now (sigma .exit)) ≡ toldBy (jobWith bw bh (now (types .entry)) (now (muls .entry)) (now (sharpness .entry)) filter (now (lookups .entry))) (readingOf (jobWith bw bh (now (types .entry)) (now (muls .entry)) (now (sharpness .entry)) filter (now (lookups .entry)))) ⌝ }
 {
     zeros::clear_u8(kinds);
     zeros::clear_u32(hf_mul);
@@ -94,16 +92,16 @@ fn read_cleared(
         bw,
         bh,
     );
-    let Step::Stopped(why) = step else {
+    let Step::Stopped(placed, why) = step else {
         return step;
     };
     zeros::clear_u8(kinds);
     zeros::clear_u32(hf_mul);
     zeros::clear_u32(sigma);
-    Step::Stopped(why)
+    Step::Stopped(placed, why)
 }
 
-// Reads a layout into lent buffers. Filter, look-up numbers or scale outside their limits, more than 256 blocks either way, or
+// Reads a layout into lent buffers, and tells how many columns were placed. Filter, look-up numbers or scale outside their limits, more than 256 blocks either way, or
 // lengths that do not fit: refused, and nothing is written.
 pub fn read(
     kinds: &mut [u8],
@@ -121,13 +119,13 @@ pub fn read(
     ensures { λ r. ⌜ handed r (now (kinds .exit)) (now («hf_mul» .exit)) (now (sigma .exit)) ≡ readOf (jobBy bw bh (now (types .entry)) (now (muls .entry)) (now (sharpness .entry)) filter lookups scale) (now (kinds .entry)) (now («hf_mul» .entry)) (now (sigma .entry)) filter scale ⌝ }
 {
     if !params_fit(filter, lookups, scale) {
-        return Step::Stopped(Refusal::Parameter);
+        return Step::Stopped(0, Refusal::Parameter);
     }
     if 256 < bw {
-        return Step::Stopped(Refusal::Length);
+        return Step::Stopped(0, Refusal::Length);
     }
     if 256 < bh {
-        return Step::Stopped(Refusal::Length);
+        return Step::Stopped(0, Refusal::Length);
     }
     if !counts_fit(
         types.len(),
@@ -138,7 +136,7 @@ pub fn read(
         sigma.len(),
         bh * bw,
     ) {
-        return Step::Stopped(Refusal::Length);
+        return Step::Stopped(0, Refusal::Length);
     }
     let scaled = filter.scaled_by(scale);
     read_cleared(

@@ -1,4 +1,4 @@
--- The size of an LF group in pixels and in blocks (document 01, Layout and filter strength).
+-- The size of an LF group in pixels and in blocks, and the lengths lent for its layout (document 01, Layout and filter strength; Refused, 1).
 use mathlib.Core.Bool.{Bool, cond, _&&_, _||_}
 use mathlib.Core.List.{List}
 use Prim.Native.Nat.{ℕ, _+_, _*_, _/_}
@@ -33,3 +33,7 @@ bwIn width modes = evenIf (anyEither modes 1 2) (blocks width)
 
 unfoldable pub bhIn : ℕ → List ℕ → ℕ
 bhIn height modes = evenIf (anyEither modes 1 3) (blocks height)
+
+-- the lengths lent for a layout of n blocks: a mul for each type; a sharpness number, a kind, an hf_mul and a sigma for each block
+abbrev pub countsFit : ℕ → ℕ → ℕ → ℕ → ℕ → ℕ → ℕ → Bool
+countsFit types muls sharpness kinds hfMul sigma n = eqb muls types && eqb sharpness n && eqb kinds n && eqb hfMul n && eqb sigma n

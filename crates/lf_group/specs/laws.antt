@@ -1,3 +1,3 @@
 -- what is proved from the definitions
-pub mod Blocks
 pub mod Bounds
+pub mod Counts

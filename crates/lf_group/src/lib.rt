@@ -1,7 +1,7 @@
-// An LF group: its size in pixels and in blocks (document 01, Layout and filter strength).
+// An LF group: its size in pixels and in blocks, and the lengths lent for its layout (document 01, Layout and filter strength).
 ghost use mathlib.Core.Path.{_≡_};
-ghost use Rattle.lf_group.specs.Blocks.{sizeFits, modesFit, isEither, anyEither, blocks, evenIf};
-ghost use Rattle.lf_group.specs.laws.Blocks.{blocksOf};
+ghost use Rattle.lf_group.specs.Blocks.{sizeFits, modesFit, isEither, anyEither, blocks, evenIf, countsFit};
+ghost use Rattle.lf_group.specs.laws.Bounds.{blocksOf};
 
 // Width and height in blocks.
 pub struct Blocks {
@@ -75,9 +75,36 @@ fn side(pixels: u32, even: bool) -> usize
 pub fn blocks_of(width: u32, height: u32, modes: [u32; 3]) -> Blocks
     ensures { λ r. ⌜ r ≡ blocksOf width height modes ⌝ }
 {
-    let wide = any_either(modes, 1, 2);
-    let high = any_either(modes, 1, 3);
-    let bw = side(width, wide);
-    let bh = side(height, high);
+    let even_bw = any_either(modes, 1, 2);
+    let even_bh = any_either(modes, 1, 3);
+    let bw = side(width, even_bw);
+    let bh = side(height, even_bh);
     Blocks { bw, bh }
+}
+
+// The lengths lent for a layout of n blocks: as many muls as types, and n of each of the others.
+pub fn counts_fit(
+    types: usize,
+    muls: usize,
+    sharpness: usize,
+    kinds: usize,
+    hf_mul: usize,
+    sigma: usize,
+    n: usize,
+) -> bool
+    ensures { λ r. ⌜ r ≡ countsFit types muls sharpness kinds «hf_mul» sigma n ⌝ }
+{
+    if muls != types {
+        return false;
+    }
+    if sharpness != n {
+        return false;
+    }
+    if kinds != n {
+        return false;
+    }
+    if hf_mul != n {
+        return false;
+    }
+    sigma == n
 }

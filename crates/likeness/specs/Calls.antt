@@ -4,7 +4,7 @@ use lib.ListN.{length}
 use Rattle.refusal.specs.Said.{said}
 use Rattle.layout.specs.Check.{isLayout}
 use Rattle.layout.specs.Like.{Lent, alike}
-use Rattle.block_check.specs.Calls.{Answer, gives, refuses, unless}
+use Rattle.refusal.specs.Answer.{Answer, gives, refuses, unless}
 use Rattle.block_sides.specs.Limits.{inLimits, lengthsFit}
 use Rattle.likeness.specs.declared.LikeAnswer.{LikeAnswer}
 

@@ -23,12 +23,12 @@ fn alike_cell(
     wides: &[usize; 27],
     highs: &[usize; 27],
     kind: u8,
-    mul: u32,
+    hf_mul: u32,
     kind2: u8,
-    mul2: u32,
+    hf_mul2: u32,
 ) -> bool
     requires { ⌜ (now wides ≡ widths) × (now highs ≡ heights) ⌝ }
-    ensures { λ r. ⌜ r ≡ alikeCell kind mul kind2 mul2 ⌝ }
+    ensures { λ r. ⌜ r ≡ alikeCell kind «hf_mul» kind2 «hf_mul2» ⌝ }
 {
     if kind < 2 {
         return kind2 < 2;
@@ -36,7 +36,7 @@ fn alike_cell(
     if kind2 < 2 {
         return false;
     }
-    if mul != mul2 {
+    if hf_mul != hf_mul2 {
         return false;
     }
     let size = size_of(wides, highs, kind);
@@ -48,15 +48,15 @@ fn alike_cell(
 }
 
 // All cells of two layouts of the same sides.
-fn alike_cells(kinds: &[u8], muls: &[u32], kinds2: &[u8], muls2: &[u32]) -> bool
-    requires { ⌜ (length (now muls) ≡ length (now kinds)) × (length (now kinds2) ≡ length (now kinds)) × (length (now muls2) ≡ length (now kinds)) ⌝ }
-    ensures { λ r. ⌜ r ≡ alikeFrom (now (kinds .entry)) (now (muls .entry)) (now (kinds2 .entry)) (now (muls2 .entry)) (length (now (kinds .entry))) 0 ⌝ }
+fn alike_cells(kinds: &[u8], hf_mul: &[u32], kinds2: &[u8], hf_mul2: &[u32]) -> bool
+    requires { ⌜ (length (now «hf_mul») ≡ length (now kinds)) × (length (now kinds2) ≡ length (now kinds)) × (length (now «hf_mul2») ≡ length (now kinds)) ⌝ }
+    ensures { λ r. ⌜ r ≡ alikeFrom (now (kinds .entry)) (now («hf_mul» .entry)) (now (kinds2 .entry)) (now («hf_mul2» .entry)) (length (now (kinds .entry))) 0 ⌝ }
 {
     let wides = WIDE;
     let highs = HIGH;
     let mut i = 0;
     while i < kinds.len() {
-        if !alike_cell(&wides, &highs, kinds[i], muls[i], kinds2[i], muls2[i]) {
+        if !alike_cell(&wides, &highs, kinds[i], hf_mul[i], kinds2[i], hf_mul2[i]) {
             return false;
         }
         i += 1;
@@ -69,13 +69,13 @@ pub fn alike(
     bw: usize,
     bh: usize,
     kinds: &[u8],
-    muls: &[u32],
+    hf_mul: &[u32],
     bw2: usize,
     bh2: usize,
     kinds2: &[u8],
-    muls2: &[u32],
+    hf_mul2: &[u32],
 ) -> LikeAnswer
-    ensures { λ r. ⌜ saidLike r ≡ likeOf (lent bw bh (now (kinds .entry)) (now (muls .entry))) (lent bw2 bh2 (now (kinds2 .entry)) (now (muls2 .entry))) ⌝ }
+    ensures { λ r. ⌜ saidLike r ≡ likeOf (lent bw bh (now (kinds .entry)) (now («hf_mul» .entry))) (lent bw2 bh2 (now (kinds2 .entry)) (now («hf_mul2» .entry))) ⌝ }
 {
     if !in_limits(256, bw, bh) {
         return LikeAnswer::Refused(Refusal::Size);
@@ -83,16 +83,16 @@ pub fn alike(
     if !in_limits(256, bw2, bh2) {
         return LikeAnswer::Refused(Refusal::Size);
     }
-    if !lengths_fit(bw, bh, kinds.len(), muls.len()) {
+    if !lengths_fit(bw, bh, kinds.len(), hf_mul.len()) {
         return LikeAnswer::Refused(Refusal::Length);
     }
-    if !lengths_fit(bw2, bh2, kinds2.len(), muls2.len()) {
+    if !lengths_fit(bw2, bh2, kinds2.len(), hf_mul2.len()) {
         return LikeAnswer::Refused(Refusal::Length);
     }
-    if !is_layout(bw, bh, kinds, muls) {
+    if !is_layout(bw, bh, kinds, hf_mul) {
         return LikeAnswer::Refused(Refusal::Layout);
     }
-    if !is_layout(bw2, bh2, kinds2, muls2) {
+    if !is_layout(bw2, bh2, kinds2, hf_mul2) {
         return LikeAnswer::Refused(Refusal::Layout);
     }
     if bw != bw2 {
@@ -101,7 +101,7 @@ pub fn alike(
     if bh != bh2 {
         return LikeAnswer::Unlike;
     }
-    if alike_cells(kinds, muls, kinds2, muls2) {
+    if alike_cells(kinds, hf_mul, kinds2, hf_mul2) {
         return LikeAnswer::Alike;
     }
     LikeAnswer::Unlike

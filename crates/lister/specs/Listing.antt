@@ -4,16 +4,16 @@ use mathlib.Core.List.{List, [], _∷_}
 use Prim.Native.Nat.{ℕ, _*_}
 use lib.ListN.{replicate}
 use lib.Ieee.{Float}
+use Rattle.refusal.specs.Answer.{Answer, answeredBy}
 use Rattle.lf_group.specs.Blocks.{bwIn, bhIn}
 use Rattle.filter_strength.specs.declared.Filter.the-variants.{Off}
 use Rattle.filter_strength.specs.Strength.{zero32}
-use Rattle.hf_metadata.specs.Call.{Answer, accepted, refused, Outcome, Inputs, inputs, layoutOf}
+use Rattle.hf_metadata.specs.Call.{Outcome, Inputs, inputs, layoutOf}
 use Rattle.lister.specs.Texts.{BAD-INPUT, acceptedText, refusedText}
 use Rattle.lister_job.specs.Job.{width, height, types, muls, hasSize, hasEnd}
 
-abbrev pub textBy : ℕ → ℕ → Outcome → Answer → List ℕ
-textBy bw bh o (accepted used) = acceptedText bw bh (o .kinds) (o .hfMul)
-textBy bw bh o (refused r) = refusedText r
+abbrev pub textBy : ℕ → ℕ → Outcome → Answer ℕ → List ℕ
+textBy bw bh o a = answeredBy a refusedText (λ (used : ℕ). acceptedText bw bh (o .kinds) (o .hfMul))
 
 -- modes 0
 abbrev pub MODES : List ℕ

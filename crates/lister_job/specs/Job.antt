@@ -1,9 +1,10 @@
 -- The lister's job (document 01, The lister): command bytes 10 size, 11 column, 00 end, hexadecimal; numbers little-endian.
-use mathlib.Core.Bool.{Bool, cond, _&&_}
-use mathlib.Core.List.{List}
+use mathlib.Core.Path.{_≡_}
+use mathlib.Core.Bool.{Bool, true, cond, _&&_}
+use mathlib.Core.List.{List, [], _++_}
 use Prim.Native.Nat.{ℕ, zero, suc, _+_, _-_, _*_, _/_}
 use lib.Dec.{leb, ltb, eqb}
-use lib.ListN.{length, getD}
+use lib.ListN.{length, getD, take, drop}
 use Rattle.laws.specs.Lists.{tabulate}
 
 -- where column k begins, of 9 bytes each
@@ -54,13 +55,17 @@ module _ (s : List ℕ) where
   abbrev pub muls : List ℕ
   muls = tabulate mulAt columns 0
 
-  -- behind its columns a job ends; what follows is not read
+  -- where the job ends: behind the command byte that follows its columns
+  abbrev pub jobEnd : ℕ
+  jobEnd = columnPlace columns + 1
+
+  -- the end is there; what follows is not read
   abbrev pub hasEnd : Bool
-  hasEnd = leb (columnPlace columns + 1) (length s) && eqb (getD s (columnPlace columns) 0) 0
+  hasEnd = leb jobEnd (length s) && eqb (getD s (columnPlace columns) 0) 0
 
   -- a job: one 10, its columns, one 00, and nothing behind
   abbrev pub isJob : Bool
-  isJob = hasSize && hasEnd && eqb (length s) (columnPlace columns + 1)
+  isJob = hasSize && hasEnd && eqb (length s) jobEnd
 
   -- What a job that begins with s needs is read record by record: a command byte, then the rest of its record. Of the size record:
   abbrev pub sizeNeeds : ℕ
@@ -73,3 +78,24 @@ module _ (s : List ℕ) where
   -- how many bytes are asked for behind s, read so: none behind the end of a job, none behind a record or command that no job has there
   unfoldable pub needed : ℕ
   needed = cond (ltb (length s) 5) sizeNeeds (cond hasSize (columnNeeds ((length s - 5) / 9)) 0)
+
+-- A job is read record by record, and nothing behind its end.
+
+-- what is read behind s of the bytes u, by at most n reads of as many bytes as are needed
+unfoldable pub readBy : ℕ → List ℕ → List ℕ → List ℕ
+readBy zero s u = s
+readBy (suc n) s u = cond (eqb (needed s) 0) s (readBy n (s ++ take (needed s) u) (drop (needed s) u))
+
+-- what is read of the bytes u, each read being of one byte or more
+abbrev pub read : List ℕ → List ℕ
+read u = readBy 36870 [] u
+
+-- s′ is no job either, or has the same size, columns and end
+pub record Same (s s′ : List ℕ) : Type 0 where
+  pub sizeIs : hasSize s′ ≡ hasSize s
+  pub widthIs : hasSize s ≡ true → width s′ ≡ width s
+  pub heightIs : hasSize s ≡ true → height s′ ≡ height s
+  pub endsAt : hasSize s ≡ true → jobEnd s′ ≡ jobEnd s
+  pub endIs : hasSize s ≡ true → hasEnd s′ ≡ hasEnd s
+  pub typesAre : hasSize s ≡ true → types s′ ≡ types s
+  pub mulsAre : hasSize s ≡ true → muls s′ ≡ muls s

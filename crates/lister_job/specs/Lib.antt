@@ -1,5 +1,3 @@
--- a job's bytes, how they are read, and laws on them
+-- a job's bytes, and how they are read
 pub mod Job
-pub mod Needed
-pub mod Reading
 pub mod laws

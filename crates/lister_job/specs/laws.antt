@@ -1,5 +1,4 @@
 -- what is proved from the definitions
-pub mod Job
 pub mod JobSteps
 pub mod Needed
 pub mod Reading

@@ -3,9 +3,9 @@ ghost use mathlib.Core.Path.{_≡_};
 ghost use Prim.Native.Nat.{_+_, _≤_, _<_};
 ghost use lib.ListN.{length};
 ghost use Rattle.lister_job.specs.Job.{number16 as number16Of, number32 as number32Of, columnPlace, hasSize, sizeNeeds, columnNeeds, needed as neededOf};
-ghost use Rattle.lister_job.specs.laws.Job.{ReadColumns};
+ghost use Rattle.lister_job.specs.laws.JobSteps.{ReadColumns};
 
-fn wide(x: u8) -> u32
+fn to_u32(x: u8) -> u32
     ensures { λ r. ⌜ r ≡ x ⌝ }
 {
     x as u32
@@ -16,7 +16,7 @@ fn two_bytes(s: &[u8], i: usize) -> u32
     requires { ⌜ i + 2 ≤ length (now s) ⌝ }
     ensures { λ r. ⌜ r ≡ number16Of (now (s .entry)) i ⌝ }
 {
-    wide(s[i]) + 256 * wide(s[i + 1])
+    to_u32(s[i]) + 256 * to_u32(s[i + 1])
 }
 
 // Bytes beyond the end count as 0.
@@ -27,7 +27,7 @@ pub fn number16(s: &[u8], i: usize) -> u32
         return 0;
     }
     if s.len() == i + 1 {
-        return wide(s[i]);
+        return to_u32(s[i]);
     }
     two_bytes(s, i)
 }

@@ -8,10 +8,8 @@ pub mod Keep
 pub mod Whole
 pub mod Listing
 pub mod Order
-pub mod Facts
 pub mod Beyond
 pub mod Turns
 pub mod Flat
-pub mod Filled
 pub mod Filling
 pub mod Slants

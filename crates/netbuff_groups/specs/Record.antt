@@ -6,7 +6,7 @@ use Prim.Native.Nat.{ℕ}
 use Rattle.refusal.specs.declared.Said.{Said}
 use Rattle.refusal.specs.Said.{at}
 use Rattle.block_check.specs.declared.Group.{Group}
-use Rattle.block_check.specs.Calls.{Answer, gives, refuses}
+use Rattle.refusal.specs.Answer.{Answer, gives, refuses}
 use Rattle.block_record.specs.Calls.{Outcome}
 
 -- number and position, and what the group's sides hold then
@@ -23,10 +23,10 @@ handedCut (gives g) kept = withSides (at 0 0 0) g
 handedCut (refuses s) kept = withSides s kept
 
 -- what is handed out, where the sides held kept before, and what the buffers hold then, against the call's outcome
-pub record CutLeaves (handed : SidesHanded) (kinds muls : List ℕ) (kept : Group) (o : Outcome) : Type 0 where
+pub record CutLeaves (handed : SidesHanded) (kinds hfMul : List ℕ) (kept : Group) (o : Outcome) : Type 0 where
   pub handedIs : handed ≡ handedCut (o .answer) kept
   pub kindsAre : kinds ≡ o .kinds
-  pub mulsAre : muls ≡ o .muls
+  pub hfMulIs : hfMul ≡ o .hfMul
 
 -- number and position, and yes or no
 pub record AlikeHanded : Type 0 where

@@ -5,9 +5,10 @@ use hf_metadata::LayoutAnswer;
 ghost use mathlib.Core.Path.{_≡_};
 ghost use mathlib.Core.List.{[], _∷_};
 ghost use Rattle.refusal.specs.Said.{at};
-ghost use Rattle.column_count.specs.Count.{countOf};
+ghost use Rattle.refusal.specs.Handed.{with, handed};
+ghost use Rattle.column_count.specs.Count.{counts, countOf};
 ghost use Rattle.hf_metadata.specs.Call.{inputs, layoutOf};
-ghost use Rattle.netbuff_layout.specs.Layout.{filterOf, withCount, handedCount, withUsed, LayoutLeaves};
+ghost use Rattle.netbuff_layout.specs.Layout.{filterOf, LayoutLeaves};
 
 fn filter_of(on: bool, multiplier: f32) -> Filter
     ensures { λ r. ⌜ r ≡ filterOf on multiplier ⌝ }
@@ -32,8 +33,8 @@ pub extern "C" fn netbuff_column_count(
     x: &mut usize,
     y: &mut usize,
 ) -> u32
-    ensures { λ r. ⌜ withCount (at r (now (x .exit)) (now (y .exit))) (now (count .exit)) (now (bits .exit))
-        ≡ handedCount (countOf width height (mode0 ∷ mode1 ∷ mode2 ∷ []) (now (bytes .entry))) (now (count .entry)) (now (bits .entry)) ⌝ }
+    ensures { λ r. ⌜ with (at r (now (x .exit)) (now (y .exit))) (counts (now (count .exit)) (now (bits .exit)))
+        ≡ handed (countOf width height (mode0 ∷ mode1 ∷ mode2 ∷ []) (now (bytes .entry))) (counts (now (count .entry)) (now (bits .entry))) ⌝ }
 {
     match column_count::column_count(width, height, [mode0, mode1, mode2], bytes) {
         ColumnCount::Count(columns, read) => {
@@ -74,7 +75,7 @@ pub extern "C" fn netbuff_layout(
     x: &mut usize,
     y: &mut usize,
 ) -> u32
-    ensures { λ r. ⌜ LayoutLeaves (withUsed (at r (now (x .exit)) (now (y .exit))) (now (used .exit))) (now (kinds .exit)) (now («hf_mul» .exit)) (now (sigma .exit)) (now (used .entry))
+    ensures { λ r. ⌜ LayoutLeaves (with (at r (now (x .exit)) (now (y .exit))) (now (used .exit))) (now (kinds .exit)) (now («hf_mul» .exit)) (now (sigma .exit)) (now (used .entry))
         (layoutOf (inputs width height (mode0 ∷ mode1 ∷ mode2 ∷ []) (now (types .entry)) (now (muls .entry)) (now (sharpness .entry)) (filterOf «filter_on» multiplier) (now (lookup .entry)) scale)
         (now (kinds .entry)) (now («hf_mul» .entry)) (now (sigma .entry))) ⌝ }
 {

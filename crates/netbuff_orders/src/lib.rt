@@ -3,10 +3,11 @@ use hf_pass::OrdersAnswer;
 ghost use mathlib.Core.Path.{_≡_};
 ghost use lib.ListN.{length};
 ghost use Rattle.refusal.specs.Said.{at};
+ghost use Rattle.refusal.specs.Handed.{with};
 ghost use Rattle.hf_pass.specs.Call.{parsed};
 ghost use Rattle.hf_pass_store.specs.Store.{placesFit};
 ghost use Rattle.hf_pass_store.specs.LookedUp.{stretchAt, stretchFrom};
-ghost use Rattle.netbuff_orders.specs.Orders.{with, OrdersLeave};
+ghost use Rattle.netbuff_orders.specs.Orders.{OrdersLeave};
 
 // Beside a refusal the number of symbols read stays as it was.
 #[no_mangle]

@@ -3,8 +3,9 @@ use dct_select::Looked;
 use dct_select::TransformType;
 ghost use mathlib.Core.Path.{_≡_};
 ghost use Rattle.refusal.specs.Said.{at};
+ghost use Rattle.refusal.specs.Handed.{with, handed};
 ghost use Rattle.dct_select.specs.LookUp.{lookUp};
-ghost use Rattle.netbuff_transform.specs.Transform.{results, with, handed};
+ghost use Rattle.netbuff_transform.specs.Transform.{results, answered};
 
 // Beside a refusal the four results stay as they were.
 #[no_mangle]
@@ -18,7 +19,7 @@ pub extern "C" fn netbuff_transform(
     y: &mut usize,
 ) -> u32
     ensures { λ r. ⌜ with (at r (now (x .exit)) (now (y .exit))) (results (now (wide .exit)) (now (high .exit)) (now (order .exit)) (now (turn .exit)))
-        ≡ handed (lookUp number) (results (now (wide .entry)) (now (high .entry)) (now (order .entry)) (now (turn .entry))) ⌝ }
+        ≡ handed (answered (lookUp number)) (results (now (wide .entry)) (now (high .entry)) (now (order .entry)) (now (turn .entry))) ⌝ }
 {
     match TransformType::from_number(number) {
         Looked::Known(t) => {

@@ -1,3 +1,4 @@
--- what was recorded against what a call gave
+-- digests, and what was recorded against what a call gave
+pub mod Digest
 pub mod Compare
 pub mod laws

@@ -1,2 +1,3 @@
 -- what is proved from the definitions
-pub mod CompareLaws
+pub mod Digest
+pub mod Compare

@@ -1,10 +1,12 @@
-// The comparison of what a call gave with what was recorded (compare/RECORD.md).
+// What a call gave: digests of its lists, and the comparison with what was recorded (compare/RECORD.md).
+pub mod digest;
+
 ghost use mathlib.Core.Path.{_≡_};
 ghost use Prim.Native.Nat.{_≤_, _<_};
 ghost use lib.ListN.{length};
 ghost use Rattle.recorded_answers.specs.Compare.{common};
 
-fn wide(x: u32) -> usize
+fn to_usize(x: u32) -> usize
     ensures { λ r. ⌜ (r ≡ x) × (r < 4294967296) ⌝ }
 {
     x as usize
@@ -20,7 +22,7 @@ pub fn agreeing(theirs: &[u32], mine: &[usize]) -> usize
         if theirs.len() <= i {
             return i;
         }
-        if wide(theirs[i]) != mine[i] {
+        if to_usize(theirs[i]) != mine[i] {
             return i;
         }
         i += 1;

@@ -1,7 +1,7 @@
 // The records of a list, one behind the other.
 use crate::list::has_room;
 use crate::list::second;
-use crate::wide;
+use crate::to_usize;
 ghost use mathlib.Core.Path.{_≡_};
 ghost use Rattle.recorded_lists.specs.Frames.{frameOf};
 
@@ -24,5 +24,5 @@ pub fn next(words: &[u32], at: usize) -> Frame
         return Frame::Malformed;
     }
     let start = at + 2;
-    Frame::Record(words[at], start, start + wide(size))
+    Frame::Record(words[at], start, start + to_usize(size))
 }

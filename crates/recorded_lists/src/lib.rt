@@ -5,7 +5,7 @@ ghost use Prim.Native.Nat.{_<_};
 pub mod frame;
 pub mod list;
 
-fn wide(x: u32) -> usize
+fn to_usize(x: u32) -> usize
     ensures { λ r. ⌜ (r ≡ x) × (r < 4294967296) ⌝ }
 {
     x as usize

@@ -1,6 +1,6 @@
 // The numbers and lists of a record. A list is its size in numbers, its count of elements, and the
 // elements: one to a number, or bytes, four to a number.
-use crate::wide;
+use crate::to_usize;
 ghost use mathlib.Core.Path.{_≡_};
 ghost use Prim.Native.Nat.{_+_, _≤_};
 ghost use lib.Dec.{leb};
@@ -31,7 +31,7 @@ pub(crate) fn second(words: &[u32], at: usize) -> u32
 pub(crate) fn has_room(at: usize, n: u32, most: usize) -> bool
     ensures { λ r. ⌜ r ≡ leb (at + 2 + n) most ⌝ }
 {
-    let size = wide(n) + 2;
+    let size = to_usize(n) + 2;
     if most < size {
         return false;
     }
@@ -46,7 +46,7 @@ fn behind_one(words: &[u32], at: usize) -> usize
     if !has_room(at, size, words.len()) {
         return words.len();
     }
-    at + 2 + wide(size)
+    at + 2 + to_usize(size)
 }
 
 // The place behind the first k lists from a place on.
@@ -79,7 +79,7 @@ fn span_at(words: &[u32], at: usize) -> Span
     let start = at + 2;
     Span {
         start,
-        end: start + wide(count),
+        end: start + to_usize(count),
     }
 }
 
@@ -102,7 +102,7 @@ fn byte_span(words: &[u32], at: usize, bytes: usize) -> Span
     if !has_room(at, 0, bytes / 4) {
         return Span { start: 0, end: 0 };
     }
-    let count = wide(second(words, at));
+    let count = to_usize(second(words, at));
     let start = 4 * (at + 2);
     if bytes - start < count {
         return Span { start: 0, end: 0 };

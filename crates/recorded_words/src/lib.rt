@@ -6,7 +6,7 @@ ghost use lib.ListN.{length, drop};
 ghost use Rattle.recorded_words.specs.Words.{wordAt, wordCount, wordsOf};
 ghost use Rattle.io.specs.Counts.{Counts};
 
-fn wide(x: u8) -> u32
+fn to_u32(x: u8) -> u32
     ensures { λ r. ⌜ (r ≡ x) × (r < 256) ⌝ }
 {
     x as u32
@@ -18,8 +18,8 @@ fn word(file: &[u8], i: usize) -> u32
     ensures { λ r. ⌜ r ≡ wordAt (now (file .entry)) i ⌝ }
 {
     let p = 4 * i;
-    let low = wide(file[p]) + 256 * wide(file[p + 1]);
-    let high = wide(file[p + 2]) + 256 * wide(file[p + 3]);
+    let low = to_u32(file[p]) + 256 * to_u32(file[p + 1]);
+    let high = to_u32(file[p + 2]) + 256 * to_u32(file[p + 3]);
     low + 65536 * high
 }
 

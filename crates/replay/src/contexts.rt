@@ -3,8 +3,8 @@ use crate::answer::refuse;
 use block_context::HfBlockContext;
 use hf_block_context::ContextAnswer;
 use hf_block_context::parse;
-use recorded_digests::of_bytes;
-use recorded_digests::of_words;
+use recorded_answers::digest::of_bytes;
+use recorded_answers::digest::of_words;
 use recorded_lists::list::bytes;
 use recorded_lists::list::number;
 

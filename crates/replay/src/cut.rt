@@ -6,8 +6,8 @@ use crate::lent::fit_words;
 use crate::lent::length;
 use block_record::cut::CutAnswer;
 use block_record::cut::cut;
-use recorded_digests::of_bytes;
-use recorded_digests::of_words;
+use recorded_answers::digest::of_bytes;
+use recorded_answers::digest::of_words;
 use recorded_lists::list::bytes;
 use recorded_lists::list::list;
 

@@ -9,8 +9,8 @@ use crate::lent::length;
 use filter_strength::Filter;
 use hf_metadata::LayoutAnswer;
 use hf_metadata::layout;
-use recorded_digests::of_bytes;
-use recorded_digests::of_words;
+use recorded_answers::digest::of_bytes;
+use recorded_answers::digest::of_words;
 use recorded_lists::list::list;
 use recorded_lists::list::number;
 

@@ -5,7 +5,7 @@ use crate::lent::length;
 use hf_pass::OrdersAnswer;
 use hf_pass::parse;
 use hf_pass_store::order;
-use recorded_digests::of_shorts;
+use recorded_answers::digest::of_shorts;
 use recorded_lists::list::bytes;
 use recorded_lists::list::list;
 

@@ -2,7 +2,7 @@
 use mathlib.Core.List.{List, [], _∷_, _++_}
 use Prim.Native.Nat.{ℕ, zero, suc, _+_, _-_}
 use lib.ListN.{length, replicate}
-use Rattle.bits.specs.Bits.{Read, Value, Ended, then, Offset, readBits, readU32}
+use Rattle.bits.specs.Bits.{Read, Value, then, Offset, readBits, readU32}
 use Rattle.coded_numbers.specs.Signed.{unpackSigned}
 
 -- U32(4 bits, 16 + 8 bits, 272 + 16, 65808 + 32)

@@ -43,7 +43,7 @@ impl Case for AlikeCase {
             0 => right = random_layout(rng),
             1 => damage(rng, &mut right),
             2 => misfit(rng, &mut right),
-            3 => std::mem::swap(&mut right.wide, &mut right.high),
+            3 => std::mem::swap(&mut right.bw, &mut right.bh),
             4 | 5 => exchange(rng, &mut right.kinds),
             6 => {
                 let cell = rng.below(right.hf_mul.len());

@@ -20,8 +20,8 @@ pub fn damage_symbols(rng: &mut Rng, symbols: &mut Vec<u32>) {
 pub fn damage_call(rng: &mut Rng, call: &mut CoefficientsCall) {
     let channel = rng.below(3);
     match rng.below(18) {
-        0 => call.group.wide = rng.pick(&[0, 33, usize::MAX]),
-        1 => call.group.high = rng.pick(&[0, 33, usize::MAX]),
+        0 => call.group.bw = rng.pick(&[0, 33, usize::MAX]),
+        1 => call.group.bh = rng.pick(&[0, 33, usize::MAX]),
         2 => call.shift = rng.pick(&[4, u32::MAX]),
         3 => call.presets = rng.pick(&[257, u32::MAX]),
         4 => call.contexts.count = rng.pick(&[0, 17, u32::MAX, 1]),

@@ -97,9 +97,9 @@ impl CoefficientsCase {
 
     /// A group of each width and height.
     fn of_sides(&self, number: usize) -> CoefficientsInput {
-        let (wide, high) = (number % SIDES + 1, number / SIDES + 1);
+        let (bw, bh) = (number % SIDES + 1, number / SIDES + 1);
         let mut rng = Rng::new(number as u64);
-        let group = fill(&mut rng, wide, high, None).layout;
+        let group = fill(&mut rng, bw, bh, None).layout;
         let which = rng.below(self.orders.len());
         let mut input = self.input(which, group, contexts(&mut rng));
         input.call.symbols = symbol_stream(&mut rng, &input.call.group, 4);
@@ -175,7 +175,7 @@ impl Case for CoefficientsCase {
     fn digest(&self, input: &CoefficientsInput) -> Option<u64> {
         let group = &input.call.group;
         let mut hasher = DefaultHasher::new();
-        (group.wide, group.high, &group.kinds, &group.hf_mul).hash(&mut hasher);
+        (group.bw, group.bh, &group.kinds, &group.hf_mul).hash(&mut hasher);
         (input.orders.used, input.call.shift, &input.call.symbols).hash(&mut hasher);
         Some(hasher.finish())
     }
@@ -216,12 +216,12 @@ fn threshold(rng: &mut Rng) -> i32 {
 
 fn group(rng: &mut Rng) -> Layout {
     let favoured = rng.once_in(2).then(|| rng.below(27) as u8);
-    let (wide, high) = match (rng.below(40), favoured) {
+    let (bw, bh) = match (rng.below(40), favoured) {
         (0, _) => (rng.between(1, 32), rng.between(1, 32)),
         (1..=12, Some(transform)) => paper::kind_sides(transform + 2).expect("a transform"),
         _ => (rng.between(1, 5), rng.between(1, 5)),
     };
-    fill(rng, wide, high, favoured).layout
+    fill(rng, bw, bh, favoured).layout
 }
 
 /// LF numbers, mostly around the thresholds of their channel.

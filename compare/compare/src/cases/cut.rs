@@ -33,7 +33,7 @@ impl Case for CutCase {
 
     fn random(&self, rng: &mut Rng) -> CutCall {
         let layout = random_layout(rng);
-        let groups = layout.wide.div_ceil(32) * layout.high.div_ceil(32);
+        let groups = layout.bw.div_ceil(32) * layout.bh.div_ceil(32);
         let group = rng.below(groups);
         let mut call = call(layout, group);
         match rng.below(24) {
@@ -65,10 +65,10 @@ pub fn plain_layouts(layout: &Layout) -> Vec<Layout> {
 }
 
 fn call(layout: Layout, group: usize) -> CutCall {
-    let groups_wide = layout.wide.div_ceil(32).max(1);
-    let (x, y) = (group % groups_wide * 32, group / groups_wide * 32);
+    let across = layout.bw.div_ceil(32).max(1);
+    let (x, y) = (group % across * 32, group / across * 32);
     let side = |layout: usize, start| layout.saturating_sub(start).min(32);
-    let cells = side(layout.wide, x) * side(layout.high, y);
+    let cells = side(layout.bw, x) * side(layout.bh, y);
     CutCall {
         layout,
         group,
@@ -83,16 +83,14 @@ pub fn short_layouts() -> usize {
 
 pub fn short_layout(number: usize) -> Layout {
     let mut digits = Digits::of(number);
-    let (wide, high) = digits.pick(&SHORT_GRIDS);
-    let kinds: Vec<u8> = (0..wide * high)
-        .map(|_| digits.pick(&SHORT_KINDS))
-        .collect();
+    let (bw, bh) = digits.pick(&SHORT_GRIDS);
+    let kinds: Vec<u8> = (0..bw * bh).map(|_| digits.pick(&SHORT_KINDS)).collect();
     let hf_mul = kinds
         .iter()
         .map(|&kind| i32::from((2..=28).contains(&kind)));
     Layout {
-        wide,
-        high,
+        bw,
+        bh,
         hf_mul: hf_mul.collect(),
         kinds,
     }
@@ -101,9 +99,9 @@ pub fn short_layout(number: usize) -> Layout {
 /// A layout, mostly whole, seldom large.
 pub fn random_layout(rng: &mut Rng) -> Layout {
     let most = rng.pick(&[4, 8, 8, 8, 40, 40, 70, 256]);
-    let (wide, high) = (rng.between(1, most), rng.between(1, most.min(70)));
+    let (bw, bh) = (rng.between(1, most), rng.between(1, most.min(70)));
     let favoured = rng.once_in(3).then(|| rng.below(27) as u8);
-    let mut layout = fill(rng, wide, high, favoured).layout;
+    let mut layout = fill(rng, bw, bh, favoured).layout;
     if rng.once_in(2) {
         damage(rng, &mut layout);
     }
@@ -113,8 +111,8 @@ pub fn random_layout(rng: &mut Rng) -> Layout {
 /// Sides outside the limits, or lengths that do not fit.
 pub fn misfit(rng: &mut Rng, layout: &mut Layout) {
     match rng.below(4) {
-        0 => layout.wide = rng.pick(&[0, 257, usize::MAX]),
-        1 => layout.high = rng.pick(&[0, 257, usize::MAX]),
+        0 => layout.bw = rng.pick(&[0, 257, usize::MAX]),
+        1 => layout.bh = rng.pick(&[0, 257, usize::MAX]),
         2 => layout.kinds.resize(rng.misfit(layout.kinds.len()), 1),
         _ => layout.hf_mul.resize(rng.misfit(layout.hf_mul.len()), 0),
     }

@@ -73,12 +73,12 @@ impl Case for OrdersCase {
 /// Lengths and digits for the used orders, all inside their limits.
 pub fn symbols(rng: &mut Rng, used: u32) -> Vec<u32> {
     let mut symbols = Vec::new();
-    for (order, (wide, high)) in ORDER_SIZES.into_iter().enumerate() {
+    for (order, (width, height)) in ORDER_SIZES.into_iter().enumerate() {
         if used >> order & 1 == 0 {
             continue;
         }
         for _ in 0..3 {
-            list(rng, wide * high, &mut symbols);
+            list(rng, width * height, &mut symbols);
         }
     }
     symbols

@@ -16,17 +16,17 @@ pub struct Filled {
 }
 
 /// Fills a grid of the given sides; `favoured` is tried first at each free block.
-pub fn fill(rng: &mut Rng, wide: usize, high: usize, favoured: Option<u8>) -> Filled {
+pub fn fill(rng: &mut Rng, bw: usize, bh: usize, favoured: Option<u8>) -> Filled {
     let mut columns = Vec::new();
-    let mut kinds = vec![0u8; wide * high];
-    let mut hf_mul = vec![0i32; wide * high];
+    let mut kinds = vec![0u8; bw * bh];
+    let mut hf_mul = vec![0i32; bw * bh];
     let larger_once_in = rng.pick(&[2, 4, 16, 1000]);
-    for cell in 0..wide * high {
+    for cell in 0..bw * bh {
         if kinds[cell] != 0 {
             continue;
         }
-        let (x, y) = (cell % wide, cell / wide);
-        let fits = |&transform: &u8| free_at(&kinds, wide, high, x, y, transform);
+        let (x, y) = (cell % bw, cell / bw);
+        let fits = |&transform: &u8| free_at(&kinds, bw, bh, x, y, transform);
         let wished = match favoured {
             Some(transform) if !rng.once_in(4) => transform,
             _ if rng.once_in(larger_once_in) => rng.pick(&LARGER),
@@ -36,7 +36,7 @@ pub fn fill(rng: &mut Rng, wide: usize, high: usize, favoured: Option<u8>) -> Fi
         let mul = any_mul(rng);
         let (w, h) = sides(transform);
         for row in y..y + h {
-            kinds[row * wide + x..][..w].fill(1);
+            kinds[row * bw + x..][..w].fill(1);
         }
         kinds[cell] = 2 + transform;
         hf_mul[cell] = mul + 1;
@@ -45,8 +45,8 @@ pub fn fill(rng: &mut Rng, wide: usize, high: usize, favoured: Option<u8>) -> Fi
     Filled {
         columns,
         layout: Layout {
-            wide,
-            high,
+            bw,
+            bh,
             kinds,
             hf_mul,
         },
@@ -55,13 +55,13 @@ pub fn fill(rng: &mut Rng, wide: usize, high: usize, favoured: Option<u8>) -> Fi
 
 /// A group that is one varblock.
 pub fn single(transform: u8) -> Layout {
-    let (wide, high) = sides(transform);
-    let mut kinds = vec![1; wide * high];
-    let mut hf_mul = vec![0; wide * high];
+    let (bw, bh) = sides(transform);
+    let mut kinds = vec![1; bw * bh];
+    let mut hf_mul = vec![0; bw * bh];
     (kinds[0], hf_mul[0]) = (2 + transform, 1);
     Layout {
-        wide,
-        high,
+        bw,
+        bh,
         kinds,
         hf_mul,
     }
@@ -71,10 +71,10 @@ fn sides(transform: u8) -> (usize, usize) {
     paper::kind_sides(transform + 2).expect("a transform number")
 }
 
-fn free_at(kinds: &[u8], wide: usize, high: usize, x: usize, y: usize, transform: u8) -> bool {
+fn free_at(kinds: &[u8], bw: usize, bh: usize, x: usize, y: usize, transform: u8) -> bool {
     let (w, h) = sides(transform);
-    let inside = x % 32 + w <= 32 && y % 32 + h <= 32 && x + w <= wide && y + h <= high;
-    inside && (y..y + h).all(|row| kinds[row * wide + x..][..w].iter().all(|&kind| kind == 0))
+    let inside = x % 32 + w <= 32 && y % 32 + h <= 32 && x + w <= bw && y + h <= bh;
+    inside && (y..y + h).all(|row| kinds[row * bw + x..][..w].iter().all(|&kind| kind == 0))
 }
 
 /// A mul that is accepted: mostly small, with those at which f32 rounds among them.

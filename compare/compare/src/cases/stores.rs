@@ -142,8 +142,8 @@ impl Case for PlacesCase {
         let (order, channel) = (digits.next(ORDER_COUNT), digits.next(3));
         let length = list_length(order);
         let place = digits.pick(&[0, 1, length - 2, length - 1]);
-        let (wide, high) = calls::ORDER_SIZES[order];
-        let side = [wide, high][place % 2];
+        let (width, height) = calls::ORDER_SIZES[order];
+        let side = [width, height][place % 2];
         let held = side - digits.next(2);
         self.changed(vec![(list_start(order, channel) + place, held as u16)])
     }

@@ -131,8 +131,8 @@ fn strengths(calls: &Calls) -> [Said; 2] {
 fn free_cell(calls: &Calls) -> String {
     let call = CutCall {
         layout: Layout {
-            wide: 1,
-            high: 1,
+            bw: 1,
+            bh: 1,
             kinds: vec![0],
             hf_mul: vec![0],
         },

@@ -44,17 +44,14 @@ impl<'a> CoefficientsRun<'a> {
 
     pub fn run(&self, buffers: &mut CoefficientBuffers) -> Answer<usize> {
         let call = self.call;
-        let (wide, high) = (call.group.wide, call.group.high);
+        let (bw, bh) = (call.group.bw, call.group.bh);
         let lf = call.lf.as_ref();
         let params = HfCoeffParams::<i32> {
             num_hf_presets: call.presets,
             hf_block_ctx: &self.contexts,
-            block_info: SharedSubgrid::of(wide, high, &self.blocks),
+            block_info: SharedSubgrid::of(bw, bh, &self.blocks),
             jpeg_upsampling: [0; 3],
-            lf_quant: lf.map(|lf| {
-                lf.each_ref()
-                    .map(|grid| SharedSubgrid::of(wide, high, grid))
-            }),
+            lf_quant: lf.map(|lf| lf.each_ref().map(|grid| SharedSubgrid::of(bw, bh, grid))),
             hf_pass: &self.orders.pass,
             coeff_shift: call.shift,
             tracker: None,
@@ -75,10 +72,10 @@ pub(super) fn read_group(
     mut bitstream: Bitstream,
     grids: &mut [Vec<i32>; 3],
 ) -> Answer<usize> {
-    let (wide, high) = (params.block_info.width(), params.block_info.height());
+    let (bw, bh) = (params.block_info.width(), params.block_info.height());
     let mut output = grids
         .each_mut()
-        .map(|grid| MutableSubgrid::of(8 * wide, 8 * high, grid));
+        .map(|grid| MutableSubgrid::of(8 * bw, 8 * bh, grid));
     match write_hf_coeff(&mut bitstream, params, &mut output) {
         Ok(()) => Ok(bitstream.coded.symbols_read),
         Err(error) => Err(refusal_of(&error, &bitstream)),

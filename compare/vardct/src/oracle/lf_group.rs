@@ -33,9 +33,9 @@ impl<'a> LfGroupRun<'a> {
             .map_err(|error| refusal_of(&error, &Bitstream::new(&[])))?;
         let contexts = contexts(&call.contexts)?.contexts;
         let orders = orders(&call.orders.bytes, &call.orders.symbols, &call.cluster_map)?;
-        let (wide, high) = call.sides();
+        let (bw, bh) = call.sides();
         let lf = call.lf.each_ref();
-        let lf = lf.map(|numbers| SharedSubgrid::of(wide, high, numbers));
+        let lf = lf.map(|numbers| SharedSubgrid::of(bw, bh, numbers));
         let mut read = 0;
         let groups = call.groups().into_iter().zip(&call.symbols);
         for ((group, symbols), grids) in groups.zip(&mut output.grids) {

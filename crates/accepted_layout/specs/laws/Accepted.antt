@@ -1,4 +1,4 @@
--- Laws: An accepted reading has written a layout.
+-- An accepted reading has written a layout.
 use mathlib.Core.Path.{_≡_, refl, _∙_}
 use mathlib.Core.Bool.{Bool, true, false, cond}
 use mathlib.Core.Logic.{_⊎_, inl, inr}
@@ -15,13 +15,12 @@ use Rattle.layout.specs.laws.Walk.{forward}
 use Rattle.layout.specs.Grid.{at}
 use Rattle.layout.specs.laws.Grid.{place-lt}
 use Rattle.layout.specs.Valid.{Cells, Covers, Fits, Owned, Layout}
-use Rattle.layout.specs.Order.{Before}
+use Rattle.layout.specs.Walk.{Before}
 use Rattle.layout.specs.laws.Order.{Here, later, last}
-use Rattle.layout_column.specs.Columns.{lowEight, hfMulOf}
-use Rattle.layout_reading.specs.Reading.{Job, Placed, Reading, Going, Stopped, column, visit, start, reading}
+use Rattle.layout_reading.specs.Reading.{Job, Placed, Placing, Going, Stopped, nextType, nextHfMul, column, visit, start, reading}
 use Rattle.accepted_layout.specs.laws.Took.{InRect}
 use Rattle.accepted_layout.specs.laws.Puts.{Puts, Column, Spot, corner, body, beyond, spot, column-put}
-use Rattle.accepted_layout.specs.Accepted.{Part, Sofar}
+use Rattle.accepted_layout.specs.Refused.{Part, Sofar}
 
 -- one varblock more
 module _ (bw bh : ℕ) (K M K′ M′ : Cells) (t h x y : ℕ) (r : Part bw bh K M)
@@ -157,8 +156,9 @@ module _ (J : Job) where
   fitting : (x y t h : ℕ) (p p′ : Placed) → Column J x y p p′ t h → Fits (J .bw) (J .bh) x y (2 + t) h
   fitting x y t h p p′ c =
       let same : 2 + t - 2 ≡ t = omega arith in
-      let a = c .known in
-      record { known = omega arith; inX = rw same (c .inX); inY = rw same (c .inY); squareX = rw same (c .squareX); squareY = rw same (c .squareY); positive = c .positive; signed = c .signed }
+      let f = c .fits in
+      let a = f .known in
+      record { known = omega arith; inX = rw same (c .inX); inY = rw same (c .inY); squareX = rw same (f .squareX); squareY = rw same (f .squareY); positive = f .positive; signed = f .signed }
 
   -- a rectangle after a column was placed is the column's or an old one
   pub after : (x y t h : ℕ) (p p′ : Placed) → Column J x y p p′ t h → Sofar J x y p → (a b c d : ℕ) → a < J .bw → Covers (at (p′ .kinds) (J .bw)) c d a b
@@ -218,7 +218,7 @@ module _ (J : Job) where
       fwd a b (inl g) = inl (omega arith)
       fwd a b (inr g) = inl (omega arith)
 
-  blank : (a b : ℕ) → a < J .bw → b < J .bh → at (start J .kinds) (J .bw) a b ≡ 0
+  pub blank : (a b : ℕ) → a < J .bw → b < J .bh → at (start J .kinds) (J .bw) a b ≡ 0
   blank a b i j = getD-replicate {A = ℕ} (J .bh * J .bw) (b * J .bw + a) 0 0 (place-lt (J .bw) (J .bh) a b i j)
 
   pub begun : (Sofar J) 0 0 (start J)
@@ -242,18 +242,18 @@ module _ (J : Job) where
   -- what holds before anything is placed, and is kept by each column placed, holds of what was read
   module _ (Q : Placed → Type 0) (begin : Q (start J))
       (keep : (x y : ℕ) (p p′ : Placed) → x < J .bw → y < J .bh → p .used < length (J .types) → Sofar J x y p
-      → Column J x y p p′ (lowEight (getD (J .types) (p .used) 0)) (hfMulOf (getD (J .muls) (p .used) 0)) → Q p → Q p′) where
-    Along : ℕ → ℕ → Reading → Type 0
+      → Column J x y p p′ (nextType J p) (nextHfMul J p) → Q p → Q p′) where
+    Along : ℕ → ℕ → Placing → Type 0
     Along x y (Going p) = Sofar J x y p × Q p
-    Along x y (Stopped r) = Unit
+    Along x y (Stopped n r) = Unit
 
-    one : (x y : ℕ) (s : Reading) → x < J .bw → y < J .bh → Along x y s → Along (x + 1) y (visit J x y s)
+    one : (x y : ℕ) (s : Placing) → x < J .bw → y < J .bh → Along x y s → Along (x + 1) y (visit J x y s)
     unfolding Along
-    one x y (Stopped r) hx hy q = tt
+    one x y (Stopped n r) hx hy q = tt
     one x y (Going p) hx hy q = go (eqb (at (p .kinds) (J .bw) x y) 0) refl
       where
-        col : (s : Reading) → column J x y p ≡ s → Along (x + 1) y s
-        col (Stopped r) e = tt
+        col : (s : Placing) → column J x y p ≡ s → Along (x + 1) y s
+        col (Stopped n r) e = tt
         col (Going p′) e =
             let c = column-put J x y p p′ (q .0 .lengthK) (q .0 .lengthM) hx hy e in
             (placing x y _ _ p p′ (c .0) (q .0), keep x y p p′ hx hy (c .1) (q .0) (c .0) (q .1))
@@ -262,9 +262,9 @@ module _ (J : Job) where
         go true e = col (column J x y p) refl
         go false e = (passing x y p (let n = eqb-false (at (p .kinds) (J .bw) x y) 0 e in omega arith) (q .0), q .1)
 
-    row : (y : ℕ) (s : Reading) → y < J .bh → Along (J .bw) y s → Along 0 (y + 1) s
+    row : (y : ℕ) (s : Placing) → y < J .bh → Along (J .bw) y s → Along 0 (y + 1) s
     unfolding Along
-    row y (Stopped r) h q = tt
+    row y (Stopped n r) h q = tt
     row y (Going p) h q = (turned y p h (q .0), q .1)
 
     pub along : (p : Placed) → reading J ≡ Going p → Sofar J 0 (J .bh) p × Q p

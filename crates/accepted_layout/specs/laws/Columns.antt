@@ -1,4 +1,5 @@
--- Laws: The columns of an accepted layout call (document 01, Layout and filter strength): a free block takes the next column, surplus columns are
+-- The columns of an accepted layout call (document 01, Layout and filter strength): a free block takes the next column, surplus columns
+-- decide nothing.
 use mathlib.Core.Path.{_≡_, refl, ap, sym, _∙_}
 use mathlib.Core.Bool.{Bool, true, false, cond, _&&_}
 use mathlib.Core.Logic.{_⊎_, inl, inr}
@@ -6,27 +7,27 @@ use mathlib.Core.List.{List, [], _∷_, _++_, map}
 use Prim.Native.Nat.{ℕ, zero, suc, _+_, _*_, _-_, _≤_, _<_, min}
 use native.Mathlib.Omega.{arith}
 use lib.Dec.{leb, eqb}
-use lib.ListN.{length, getD, take, length-map, length-take, getD-replicate}
+use lib.ListN.{length, getD, take, length-map, length-take}
 use lib.Seq.{take-suc, getD-take, length-take-le}
-use borrow.Author.Tests.{le-leb, lt-leb, eqb-true, eqb-false, eq-eqb}
-use Rattle.laws.specs.laws.Cases.{eq-or-ne, le-or-lt, and-true}
+use borrow.Author.Tests.{le-leb, lt-leb, lt-ltb, eqb-false, eq-eqb}
+use Rattle.laws.specs.laws.Cases.{eq-or-ne, le-or-lt}
 use Rattle.dct_select.specs.Transforms.{wide, high}
 use Rattle.layout.specs.laws.Walk.{beside}
 use Rattle.layout.specs.Grid.{at}
-use Rattle.layout.specs.laws.Grid.{place-lt}
 use Rattle.layout.specs.Valid.{Cells}
-use Rattle.layout.specs.Order.{Before}
+use Rattle.layout.specs.Walk.{Before}
 use Rattle.layout.specs.laws.Order.{Here, From, from-start}
 use Rattle.layout.specs.Varblocks.{Varblock, addVarblock, cornersRow, cornersFrom, varblocksOf}
 use Rattle.layout_column.specs.Columns.{lowEight, hfMulOf}
-use Rattle.layout_reading.specs.Reading.{Job, Placed, Reading, Going, Stopped, judge, column, visit, start, reading}
-use Rattle.hf_metadata.specs.Call.{accepted, outcomeOf, Inputs, jobOf, lengthsFit, layoutOf}
+use Rattle.layout_reading.specs.Reading.{Job, Placed, Placing, Going, Stopped, nextType, nextHfMul, column, visit, start, reading}
+use Rattle.refusal.specs.Answer.{gives}
+use Rattle.hf_metadata.specs.Call.{outcomeOf, Inputs, jobOf, lengthsFit, layoutOf}
+use Rattle.lf_group.specs.laws.Counts.{counts}
 use Rattle.accepted_layout.specs.laws.Puts.{Column, Spot, corner, body, beyond, spot, column-put}
-use Rattle.accepted_layout.specs.Accepted.{Sofar}
-use Rattle.accepted_layout.specs.laws.Accepted.{passing, placing, turned, begun, along}
-use Rattle.accepted_layout.specs.Theorems.{bwOf, bhOf}
+use Rattle.accepted_layout.specs.Refused.{Sofar}
+use Rattle.accepted_layout.specs.laws.Accepted.{passing, placing, turned, blank, begun, along}
+use Rattle.accepted_layout.specs.Outcome.{bhOf, bwOf, varblocksLeft, withColumns}
 use Rattle.accepted_layout.specs.laws.Theorems.{works, Read, accepted-read}
-use Rattle.accepted_layout.specs.Columns.{outcome, varblocksLeft, withColumns}
 
 -- One corner more, behind all others.
 add-append : (b : Bool) (v : Varblock) (l m : List Varblock) → addVarblock b v (l ++ m) ≡ addVarblock b v l ++ m
@@ -122,30 +123,27 @@ map-last f (u ∷ l) v = ap (λ (k : List ℕ). f u ∷ k) (map-last f l v)
 
 -- A column placed.
 module _ (J : Job) (pairs : length (J .muls) ≡ length (J .types)) where
-  abbrev varblocks : Placed → List Varblock
+  abbrev pub varblocks : Placed → List Varblock
   varblocks p = varblocksOf (J .bw) (J .bh) (p .kinds) (p .hfMul)
 
   -- the varblocks are those of the columns used so far
-  record InTurn (p : Placed) : Type 0 where
-    enough : p .used ≤ length (J .types)
-    typesAre : map (λ (v : Varblock). v .type) (varblocks p) ≡ map lowEight (take (p .used) (J .types))
-    mulsAre : map (λ (v : Varblock). v .hfMul) (varblocks p) ≡ map hfMulOf (take (p .used) (J .muls))
+  pub record InTurn (p : Placed) : Type 0 where
+    pub enough : p .used ≤ length (J .types)
+    pub typesAre : map (λ (v : Varblock). v .type) (varblocks p) ≡ map lowEight (take (p .used) (J .types))
+    pub mulsAre : map (λ (v : Varblock). v .hfMul) (varblocks p) ≡ map hfMulOf (take (p .used) (J .muls))
 
   begin : InTurn (start J)
   begin = record { enough = omega arith; typesAre = ap (map (λ (v : Varblock). v .type)) nothing; mulsAre = ap (map (λ (v : Varblock). v .hfMul)) nothing }
     where
       nothing : varblocks (start J) ≡ []
-      nothing = rows-none (J .bw) (J .bh) 0 0 (at (start J .kinds) (J .bw)) (at (start J .hfMul) (J .bw)) (λ a b i j f. blank a b i j) (J .bh) 0 (omega arith) (from-start 0 0)
-        where
-          blank : (a b : ℕ) → a < J .bw → b < J .bh → at (start J .kinds) (J .bw) a b < 2
-          blank a b i j = let z = getD-replicate {A = ℕ} (J .bh * J .bw) (b * J .bw + a) 0 0 (place-lt (J .bw) (J .bh) a b i j) in omega arith
+      nothing = rows-none (J .bw) (J .bh) 0 0 (at (start J .kinds) (J .bw)) (at (start J .hfMul) (J .bw)) (λ a b i j f. let z = blank J a b i j in omega arith) (J .bh) 0 (omega arith) (from-start 0 0)
 
   module _ (x y : ℕ) (p q : Placed) (hx : x < J .bw) (hy : y < J .bh) (more : p .used < length (J .types)) (o : Sofar J x y p) where
     abbrev type : ℕ
-    type = lowEight (getD (J .types) (p .used) 0)
+    type = nextType J p
 
     abbrev hfMul : ℕ
-    hfMul = hfMulOf (getD (J .muls) (p .used) 0)
+    hfMul = nextHfMul J p
 
     module _ (c : Column J x y p q type hfMul) (r : InTurn p) where
       no-corner : (a b : ℕ) → a < J .bw → b < J .bh → From x y a b → at (p .kinds) (J .bw) a b < 2
@@ -200,6 +198,10 @@ module _ (J : Job) (pairs : length (J .muls) ≡ length (J .types)) where
           typeIs : at (q .kinds) (J .bw) x y - 2 ≡ type
           typeIs = let z = c .puts .atCorner in omega arith
 
+-- the varblocks of a reading that was not stopped are those of its columns in turn
+pub read-in-turn : (J : Job) (pairs : length (J .muls) ≡ length (J .types)) (p : Placed) → reading J ≡ Going p → InTurn J pairs p
+read-in-turn J pairs p e = along J (InTurn J pairs) (begin J pairs) (λ x y q q′ hx hy u o c r. placed-in-turn J pairs x y q q′ hx hy u o c r) p e .1
+
 -- Other columns behind the first n.
 module _ (J : Job) (n : ℕ) (types muls : List ℕ) (long : n ≤ length types) (sameTypes : take n types ≡ take n (J .types)) (sameMuls : take n muls ≡ take n (J .muls)) where
   abbrev other : Job
@@ -209,22 +211,22 @@ module _ (J : Job) (n : ℕ) (types muls : List ℕ) (long : n ≤ length types)
   entry l m k e h = sym (getD-take n l k 0 h) ∙ ap (λ (z : List ℕ). getD z k 0) e ∙ getD-take n m k 0 h
 
   column-same : (x y : ℕ) (p : Placed) → p .used < n → p .used < length (J .types) → column other x y p ≡ column J x y p
-  unfolding column judge
+  unfolding column
   column-same x y p h l =
-      rw (lt-leb (length types) (p .used) (omega arith), lt-leb (length (J .types)) (p .used) l, entry types (J .types) (p .used) sameTypes h, entry muls (J .muls) (p .used) sameMuls h)
+      rw (lt-ltb (p .used) (length types) (omega arith), lt-ltb (p .used) (length (J .types)) l, entry types (J .types) (p .used) sameTypes h, entry muls (J .muls) (p .used) sameMuls h)
 
   -- the two readings are at one, up to n columns
-  Beside : ℕ → ℕ → Reading → Reading → Type 0
+  Beside : ℕ → ℕ → Placing → Placing → Type 0
   Beside x y (Going p) r = Sofar J x y p × (p .used ≤ n → r ≡ Going p)
-  Beside x y (Stopped s) r = Unit
+  Beside x y (Stopped m s) r = Unit
 
-  step : (x y : ℕ) (s r : Reading) → x < J .bw → y < J .bh → Beside x y s r → Beside (x + 1) y (visit J x y s) (visit other x y r)
+  step : (x y : ℕ) (s r : Placing) → x < J .bw → y < J .bh → Beside x y s r → Beside (x + 1) y (visit J x y s) (visit other x y r)
   unfolding Beside
-  step x y (Stopped s) r hx hy q = tt
+  step x y (Stopped m s) r hx hy q = tt
   step x y (Going p) r hx hy q = go (eqb (at (p .kinds) (J .bw) x y) 0) refl
     where
-      col : eqb (at (p .kinds) (J .bw) x y) 0 ≡ true → (s : Reading) → column J x y p ≡ s → Beside (x + 1) y s (visit other x y r)
-      col e (Stopped s) f = tt
+      col : eqb (at (p .kinds) (J .bw) x y) 0 ≡ true → (s : Placing) → column J x y p ≡ s → Beside (x + 1) y s (visit other x y r)
+      col e (Stopped m s) f = tt
       col e (Going p′) f =
           let c = column-put J x y p p′ (q .0 .lengthK) (q .0 .lengthM) hx hy f in
           let u = c .0 .usedIs in (
@@ -239,9 +241,9 @@ module _ (J : Job) (n : ℕ) (types muls : List ℕ) (long : n ≤ length types)
         λ l. ap (visit other x y) (q .1 l) ∙ ap (λ (b : Bool). cond b (column other x y p) (Going p)) e,
       )
 
-  turn : (y : ℕ) (s r : Reading) → y < J .bh → Beside (J .bw) y s r → Beside 0 (y + 1) s r
+  turn : (y : ℕ) (s r : Placing) → y < J .bh → Beside (J .bw) y s r → Beside 0 (y + 1) s r
   unfolding Beside
-  turn y (Stopped s) r h q = tt
+  turn y (Stopped m s) r h q = tt
   turn y (Going p) r h q = (turned J y p h (q .0), q .1)
 
   reads-same : (p : Placed) → reading J ≡ Going p → p .used ≤ n → reading other ≡ Going p
@@ -249,25 +251,17 @@ module _ (J : Job) (n : ℕ) (types muls : List ℕ) (long : n ≤ length types)
   reads-same p e l = (rw e at (beside (visit J) (visit other) (J .bw) (J .bh) Beside step turn (Going (start J)) (Going (start J)) (begun J, λ l. refl))) .1 l
 
 module _ (i : Inputs) (kinds hfMul sigma : List ℕ) where
-  module _ (n : ℕ) (e : outcome i kinds hfMul sigma .answer ≡ accepted n) where
+  module _ (n : ℕ) (e : layoutOf i kinds hfMul sigma .answer ≡ gives n) where
     read : Read i kinds hfMul sigma n
     read = accepted-read i kinds hfMul sigma n e
 
-    pairs : eqb (length (i .muls)) (length (i .types)) ≡ true
-    pairs =
-        let blocks = bhOf i * bwOf i in
-        let a = and-true (eqb (length (i .muls)) (length (i .types)) && eqb (length (i .sharpness)) blocks && eqb (length kinds) blocks && eqb (length hfMul) blocks) (eqb (length sigma) blocks) (read .lengths) in
-        let b = and-true (eqb (length (i .muls)) (length (i .types)) && eqb (length (i .sharpness)) blocks && eqb (length kinds) blocks) (eqb (length hfMul) blocks) (a .0) in
-        let c = and-true (eqb (length (i .muls)) (length (i .types)) && eqb (length (i .sharpness)) blocks) (eqb (length kinds) blocks) (b .0) in
-        and-true (eqb (length (i .muls)) (length (i .types))) (eqb (length (i .sharpness)) blocks) (c .0) .0
-
     paired : length (i .muls) ≡ length (i .types)
-    paired = eqb-true (length (i .muls)) (length (i .types)) pairs
+    paired = counts (length (i .types)) (length (i .muls)) (length (i .sharpness)) (length kinds) (length hfMul) (length sigma) (bhOf i * bwOf i) (read .lengths) .mulsAre
 
     in-turn : InTurn (jobOf i) paired (read .last)
-    in-turn = along (jobOf i) (InTurn (jobOf i) paired) (begin (jobOf i) paired) (λ x y p q hx hy u o c r. placed-in-turn (jobOf i) paired x y p q hx hy u o c r) (read .last) (read .read) .1
+    in-turn = read-in-turn (jobOf i) paired (read .last) (read .read)
 
-    left-are : (varblocksLeft i kinds hfMul sigma n e) ≡ varblocksOf (bwOf i) (bhOf i) (read .last .kinds) (read .last .hfMul)
+    left-are : (varblocksLeft i kinds hfMul sigma) ≡ varblocksOf (bwOf i) (bhOf i) (read .last .kinds) (read .last .hfMul)
     left-are = rw (read .kindsAre, read .hfMulAre)
 
     -- n columns were there
@@ -275,30 +269,30 @@ module _ (i : Inputs) (kinds hfMul sigma : List ℕ) where
     accepted-enough = let z = in-turn .enough in let u = read .used in omega arith
 
     -- the types of the varblocks are the first n columns' low eight bits, in turn
-    pub accepted-types : map (λ (v : Varblock). v .type) (varblocksLeft i kinds hfMul sigma n e) ≡ map lowEight (take n (i .types))
+    pub accepted-types : map (λ (v : Varblock). v .type) (varblocksLeft i kinds hfMul sigma) ≡ map lowEight (take n (i .types))
     accepted-types = ap (map (λ (v : Varblock). v .type)) left-are ∙ in-turn .typesAre ∙ ap (λ (k : ℕ). map lowEight (take k (i .types))) (read .used)
 
     -- their hf_mul are the first n columns' mul + 1, in turn
-    pub accepted-muls : map (λ (v : Varblock). v .hfMul) (varblocksLeft i kinds hfMul sigma n e) ≡ map hfMulOf (take n (i .muls))
+    pub accepted-muls : map (λ (v : Varblock). v .hfMul) (varblocksLeft i kinds hfMul sigma) ≡ map hfMulOf (take n (i .muls))
     accepted-muls = ap (map (λ (v : Varblock). v .hfMul)) left-are ∙ in-turn .mulsAre ∙ ap (λ (k : ℕ). map hfMulOf (take k (i .muls))) (read .used)
 
     -- so there are n of them
-    pub accepted-count : length (varblocksLeft i kinds hfMul sigma n e) ≡ n
+    pub accepted-count : length (varblocksLeft i kinds hfMul sigma) ≡ n
     accepted-count =
         let h = accepted-enough in
-        sym (length-map (varblocksLeft i kinds hfMul sigma n e) (λ (v : Varblock). v .type)) ∙ ap length accepted-types ∙ length-map (take n (i .types)) lowEight ∙ length-take-le n (i .types) h
+        sym (length-map (varblocksLeft i kinds hfMul sigma) (λ (v : Varblock). v .type)) ∙ ap length accepted-types ∙ length-map (take n (i .types)) lowEight ∙ length-take-le n (i .types) h
 
     -- columns behind the first n do not matter: any others, or none, give the same
     pub accepted-surplus : (types muls : List ℕ) → length muls ≡ length types → take n types ≡ take n (i .types) → take n muls ≡ take n (i .muls)
-        → layoutOf (withColumns i kinds hfMul sigma types muls) kinds hfMul sigma ≡ outcome i kinds hfMul sigma
+        → layoutOf (withColumns i types muls) kinds hfMul sigma ≡ layoutOf i kinds hfMul sigma
     accepted-surplus types muls p s m =
         let r = read in
         let u = r .used in
         let h = accepted-enough in
         let long : n ≤ length types = let z : min n (length types) ≡ min n (length (i .types)) = sym (length-take n types) ∙ ap length s ∙ length-take n (i .types) in omega arith in
-        let l : lengthsFit (withColumns i kinds hfMul sigma types muls) kinds hfMul sigma ≡ true =
+        let l : lengthsFit (withColumns i types muls) kinds hfMul sigma ≡ true =
         ap (λ (b : Bool). b && eqb (length (i .sharpness)) (bhOf i * bwOf i) && eqb (length kinds) (bhOf i * bwOf i) && eqb (length hfMul) (bhOf i * bwOf i) && eqb (length sigma) (bhOf i * bwOf i))
-        (eq-eqb (length muls) (length types) p ∙ sym pairs) ∙ r .lengths in
-        sym (works (withColumns i kinds hfMul sigma types muls) kinds hfMul sigma (r .sizes) (r .parameters) l)
-        ∙ ap (outcomeOf (jobOf (withColumns i kinds hfMul sigma types muls))) (reads-same (jobOf i) n types muls long s m (r .last) (r .read) (omega arith))
+        (eq-eqb (length muls) (length types) p ∙ sym (eq-eqb (length (i .muls)) (length (i .types)) paired)) ∙ r .lengths in
+        sym (works (withColumns i types muls) kinds hfMul sigma (r .sizes) (r .parameters) l)
+        ∙ ap (outcomeOf (jobOf (withColumns i types muls))) (reads-same (jobOf i) n types muls long s m (r .last) (r .read) (omega arith))
         ∙ sym (ap (outcomeOf (jobOf i)) (r .read)) ∙ works i kinds hfMul sigma (r .sizes) (r .parameters) (r .lengths)

@@ -1,25 +1,25 @@
 -- A column that was placed: what it is, and what its varblock changes.
 use mathlib.Core.Path.{_≡_, refl, ap, sym, _∙_}
-use mathlib.Core.Bool.{Bool, true, false, not}
 use mathlib.Core.Logic.{_⊎_, inl, inr}
 use mathlib.Core.List.{List}
-use Prim.Native.Nat.{ℕ, _+_, _*_, _-_, _%_, _^_, _≤_, _<_}
+use Prim.Native.Nat.{ℕ, _+_, _*_, _-_, _≤_, _<_}
 use native.Mathlib.Omega.{arith}
-use lib.Dec.{T, ltb, leb, leb→le, ltb→lt}
-use lib.ListN.{length, getD, set, length-set}
-use lib.Ieee.Fits.{and-l, and-r}
-use borrow.Author.Tests.{ltb-false, leb-false, not-false}
+use lib.Dec.{ltb}
+use lib.ListN.{length, set, length-set}
+use borrow.Author.Tests.{ltb-true}
 use Rattle.laws.specs.laws.Cases.{eq-or-ne}
-use Rattle.dct_select.specs.Transforms.{COUNT, wide, high}
+use Rattle.refusal.specs.declared.Said.{Said}
+use Rattle.refusal.specs.laws.Answer.{pass, worked}
+use Rattle.dct_select.specs.Transforms.{wide, high}
 use Rattle.dct_select.specs.laws.Sides.{wide-some, high-some}
 use Rattle.layout.specs.laws.Stretch.{Place, left, inside, right, place}
 use Rattle.layout.specs.Grid.{at}
 use Rattle.layout.specs.laws.Grid.{set-same, set-other}
 use Rattle.layout.specs.laws.Order.{Here}
 use Rattle.filter_strength.specs.Strength.{dividedBy}
-use Rattle.layout_column.specs.Columns.{lowEight, hfMulOf, positive}
+use Rattle.layout_column.specs.laws.Judged.{Fitting, fitting}
 use Rattle.layout_reading.specs.Scan.{Scan, Taking, Left, scan}
-use Rattle.layout_reading.specs.Reading.{Job, Placed, Reading, Going, refuseIf, placed, placeIn, judge, column}
+use Rattle.layout_reading.specs.Reading.{Job, Placed, Going, stopAt, placed, placeIn, nextType, nextHfMul, nextChecks, column}
 use Rattle.layout_reading.specs.Reading as reading
 use Rattle.accepted_layout.specs.laws.Took.{InRect, Took, took}
 
@@ -33,11 +33,7 @@ pub record Puts (bw : ℕ) (K M K′ M′ : ℕ → ℕ → ℕ) (t h x y : ℕ)
 
 -- a column of type t and hf_mul h that was placed at (x, y), with p before and q after it
 pub record Column (J : Job) (x y : ℕ) (p q : Placed) (t h : ℕ) : Type 0 where
-  pub known : t < 27
-  pub positive : 1 ≤ h
-  pub signed : h < 2 ^ 31
-  pub squareX : x % 32 + wide t ≤ 32
-  pub squareY : y % 32 + high t ≤ 32
+  pub fits : Fitting t h x y
   pub inX : x + wide t ≤ J .bw
   pub inY : y + high t ≤ J .bh
   pub free : (a b : ℕ) → InRect x y (wide t) (high t) a b → at (p .kinds) (J .bw) a b ≡ 0
@@ -47,10 +43,6 @@ pub record Column (J : Job) (x y : ℕ) (p q : Placed) (t h : ℕ) : Type 0 wher
   pub usedIs : q .used ≡ p .used + 1
   pub taken : List ℕ
   pub scanIs : scan (J .bw) (J .bh) (dividedBy (J .filter) h) (J .lookups) (J .sharpness) x y (wide t) (high t) (Taking (p .kinds) (p .sigma)) ≡ Taking taken (q .sigma)
-
-passed : (b : Bool) (n x y : ℕ) (r : Reading) (q : Placed) → refuseIf b n x y r ≡ Going q → (b ≡ false) × (r ≡ Going q)
-passed true n x y r q e = absurd (let z : _≡_ {A = ℕ} 0 1 = cc in omega arith)
-passed false n x y r q e = (refl, e)
 
 -- where a cell stands to a rectangle
 pub data Spot (x y w h a b : ℕ) : Type 0 where
@@ -72,7 +64,10 @@ spot x y w h a b = go (place x w a) (place y h b) (eq-or-ne a x) (eq-or-ne b y)
 
 module _ (J : Job) (x y : ℕ) (p q : Placed) (lk : length (p .kinds) ≡ J .bh * J .bw) (lm : length (p .hfMul) ≡ J .bh * J .bw) (hx : x < J .bw) (hy : y < J .bh) where
   -- after the scan
-  module _ (t h : ℕ) (a : t < 27) (b : 1 ≤ h) (c : h < 2 ^ 31) (d : x % 32 + wide t ≤ 32) (e : y % 32 + high t ≤ 32) where
+  module _ (t h : ℕ) (fits : Fitting t h x y) where
+    a : t < 27
+    a = fits .known
+
     scanned : Scan
     scanned = scan (J .bw) (J .bh) (dividedBy (J .filter) h) (J .lookups) (J .sharpness) x y (wide t) (high t) (Taking (p .kinds) (p .sigma))
 
@@ -80,11 +75,7 @@ module _ (J : Job) (x y : ℕ) (p q : Placed) (lk : length (p .kinds) ≡ J .bh 
         → q ≡ record { used = p .used + 1; kinds = set k (y * J .bw + x) (2 + t); hfMul = set (p .hfMul) (y * J .bw + x) h; sigma = s } → Column J x y p q t h
     unfolding scanned
     put k s f g = record {
-      known = a;
-      positive = b;
-      signed = c;
-      squareX = d;
-      squareY = e;
+      fits = fits;
       inX = let z = w .inX (x + (wide t - 1)) y (let m = wide-some t a in let n = high-some t a in (omega arith, omega arith, omega arith, omega arith)) in let m = wide-some t a in omega arith;
       inY = let z = w .inY x (y + (high t - 1)) (let m = wide-some t a in let n = high-some t a in (omega arith, omega arith, omega arith, omega arith)) in let m = high-some t a in omega arith;
       free = w .free;
@@ -131,26 +122,18 @@ module _ (J : Job) (x y : ℕ) (p q : Placed) (lk : length (p .kinds) ≡ J .bh 
         go (Left n i j) g i′ = absurd (let z : _≡_ {A = ℕ} 0 1 = cc in omega arith)
         go (Taking k s) g i′ = put k s g (sym (going _ q i′))
 
-  judged : (t h : ℕ) → judge J t h x y p ≡ Going q → Column J x y p q t h
-  unfolding judge
-  judged t h e =
-      let p1 = passed (leb COUNT t) 5 x y _ q e in
-      let p2 = passed (not (positive h)) 6 x y _ q (p1 .1) in
-      let p3 = passed (ltb 32 (x % 32 + wide t)) 7 x y _ q (p2 .1) in
-      let p4 = passed (ltb 32 (y % 32 + high t)) 7 x y _ q (p3 .1) in
-      let pos : T (positive h) = rw (not-false (positive h) (p2 .0)) tt in
-      put-by t h (leb-false 27 t (p1 .0)) (leb→le 1 h (and-l (leb 1 h) (ltb h (2 ^ 31)) pos)) (ltb→lt h (2 ^ 31) (and-r (leb 1 h) (ltb h (2 ^ 31)) pos))
-      (ltb-false 32 (x % 32 + wide t) (p3 .0)) (ltb-false 32 (y % 32 + high t) (p4 .0)) (p4 .1)
-
-  -- the type and hf_mul are those of the next column
-  abbrev pub nextType : ℕ
-  nextType = lowEight (getD (J .types) (p .used) 0)
-
-  abbrev pub nextHfMul : ℕ
-  nextHfMul = hfMulOf (getD (J .muls) (p .used) 0)
-
-  pub column-put : column J x y p ≡ Going q → Column J x y p q nextType nextHfMul × (p .used < length (J .types))
+  pub column-put : column J x y p ≡ Going q → Column J x y p q (nextType J p) (nextHfMul J p) × (p .used < length (J .types))
   unfolding column
   column-put e =
-      let f = passed (leb (length (J .types)) (p .used)) 4 x y _ q e in
-      (judged nextType nextHfMul (f .1), leb-false (length (J .types)) (p .used) (f .0))
+      let w = worked (nextChecks J x y p) (λ (s : Said). stopAt (s .number) x y p) (λ (u : Unit). placeIn J (2 + t) h (wide t) (high t) x y p) (Going q) stopped e in
+      let f = pass 4 (ltb (p .used) (length (J .types))) _ (w .0) (w .1) in
+      (put-by t h (fitting t h x y (w .0) (f .1)) (w .2), ltb-true (p .used) (length (J .types)) (f .0))
+    where
+      t : ℕ
+      t = nextType J p
+
+      h : ℕ
+      h = nextHfMul J p
+
+      stopped : (s : Said) → stopAt (s .number) x y p ≡ Going q → ⊥
+      stopped s e = let z : _≡_ {A = ℕ} 0 1 = cc in omega arith

@@ -1,33 +1,33 @@
--- Laws: What a refused layout call hands back and leaves (document 01, Refused): 1, 2 and 11 write nothing; 4 to 10 hand back the free block
+-- What a refused layout call hands back and leaves (document 01, Refused).
 use mathlib.Core.Path.{_≡_, refl, ap, sym, _∙_}
-use mathlib.Core.Bool.{Bool, true, false, cond, not, _&&_}
+use mathlib.Core.Bool.{Bool, true, false, cond, _&&_}
 use mathlib.Core.List.{List}
 use Prim.Native.Nat.{ℕ, _+_, _%_, _≤_, _<_}
 use native.Mathlib.Omega.{arith}
 use lib.Dec.{ltb, leb, eqb}
-use lib.ListN.{length, getD}
+use lib.ListN.{length}
 use lib.Ieee.{Float}
 use borrow.Author.Tests.{eqb-true, eqb-false}
 use Rattle.refusal.specs.declared.Said.{Said}
 use Rattle.refusal.specs.Said as refusals
+use Rattle.refusal.specs.Answer.{Answer, gives, refuses, unless, passed, answeredBy}
 use Rattle.dct_select.specs.Transforms.{COUNT, wide, high}
 use Rattle.layout.specs.laws.Walk.{forward}
 use Rattle.layout.specs.Grid.{at}
 use Rattle.lf_group.specs.Blocks.{sizeFits}
 use Rattle.filter_strength.specs.declared.DividedFilter.{DividedFilter}
 use Rattle.filter_strength.specs.Strength.{dividedBy}
-use Rattle.layout_column.specs.Columns.{lowEight, hfMulOf, positive}
+use Rattle.layout_column.specs.Columns.{positive}
 use Rattle.layout_reading.specs.Scan.{Scan, Taking, Left, isOn, takeCell, scan}
-use Rattle.layout_reading.specs.Reading.{Job, Placed, Reading, Going, Stopped, refuseIf, placed, place, placeIn, judge, column, visit, start, reading}
-use Rattle.hf_metadata.specs.Call.{accepted, refused, Outcome, outcomeOf, Inputs, jobOf, parametersFit, lengthsFit, refuseWith}
+use Rattle.layout_reading.specs.Reading.{Job, Placed, Placing, Going, Stopped, stopAt, placed, place, placeIn, nextType, nextHfMul, nextChecks, column, visit, start, reading}
+use Rattle.hf_metadata.specs.Call.{Outcome, outcomeOf, Inputs, jobOf, parametersFit, lengthsFit, refuse, layoutOf}
 use Rattle.accepted_layout.specs.laws.Puts.{column-put}
-use Rattle.accepted_layout.specs.Accepted.{Sofar}
 use Rattle.accepted_layout.specs.laws.Accepted.{passing, placing, turned, begun}
 use Rattle.accepted_layout.specs.laws.Theorems.{off-size, off-parameters, off-lengths, works}
-use Rattle.accepted_layout.specs.Refused.{AtBlock, AtFree, AtWork, BeforeWork, Refuses, lengths, outcome, parameter, size, work}
+use Rattle.accepted_layout.specs.Refused.{Sofar, AtBlock, AtFree, AtWork, BeforeWork, Refuses, lengths, parameter, size, work}
 
 -- a scan is left with 8, 9 or 10
-LeftWell : Scan → Type 0
+unfoldable pub LeftWell : Scan → Type 0
 LeftWell (Taking k s) = Unit
 LeftWell (Left n a b) = (8 ≤ n) × (n ≤ 10)
 
@@ -44,7 +44,7 @@ module _ (bw bh : ℕ) (filter : DividedFilter) (lookups : List Float) (sharpnes
       (cond-left (leb bh cy) (Left 9 cx cy) _ (omega arith)
       (cond-left (ltb 0 (at k bw cx cy)) (Left 8 cx cy) _ (omega arith) (cond-left (isOn filter && leb 8 (at sharpness bw cx cy)) (Left 10 cx cy) _ (omega arith) tt)))
 
-  scan-left : (x y w h : ℕ) (s : Scan) → LeftWell s → LeftWell (scan bw bh filter lookups sharpness x y w h s)
+  pub scan-left : (x y w h : ℕ) (s : Scan) → LeftWell s → LeftWell (scan bw bh filter lookups sharpness x y w h s)
   unfolding scan
   scan-left x y w h s p =
       forward (λ (dx dy : ℕ). takeCell bw bh filter lookups sharpness (x + dx) (y + dy)) w h (λ dx dy t. LeftWell t) (λ dx dy t i j q. cell-left (x + dx) (y + dy) t q) (λ dy t j q. q) s p
@@ -52,17 +52,9 @@ module _ (bw bh : ℕ) (filter : DividedFilter) (lookups : List Float) (sharpnes
 module _ (J : Job) where
   module _ (x y : ℕ) (p : Placed) where
     -- refused with 4 to 10 at (x, y)
-    Well : Reading → Type 0
+    Well : Placing → Type 0
     Well (Going q) = Unit
-    Well (Stopped r) = (4 ≤ r .number) × (r .number ≤ 10) × (x ≡ r .x) × (y ≡ r .y)
-
-    cond-well : (b : Bool) (s t : Reading) → Well s → Well t → Well (cond b s t)
-    cond-well true s t q w = q
-    cond-well false s t q w = w
-
-    if-well : (b : Bool) (n : ℕ) (t : Reading) → 4 ≤ n → n ≤ 10 → Well t → Well (refuseIf b n x y t)
-    unfolding Well
-    if-well b n t l m q = cond-well b (Stopped (refusals.at n x y)) t (l, m, refl, refl) q
+    Well (Stopped n r) = (4 ≤ r .number) × (r .number ≤ 10) × (x ≡ r .x) × (y ≡ r .y) × (n ≡ p .used)
 
     place-well : (kind h w n : ℕ) → Well (placeIn J kind h w n x y p)
     unfolding Well LeftWell place
@@ -72,60 +64,70 @@ module _ (J : Job) where
       where
         go : (s : Scan) → LeftWell s → Well (placed (J .bw) kind h x y p s)
         go (Taking k s) q = tt
-        go (Left m a b) q = (omega arith, omega arith, refl, refl)
+        go (Left m a b) q = (omega arith, omega arith, refl, refl, refl)
+
+    -- a chain of checks, then what follows
+    abbrev afterChecks : Answer Unit → Placing → Placing
+    afterChecks a next = answeredBy a (λ (s : Said). stopAt (s .number) x y p) (λ (u : Unit). next)
+
+    check-well : (n : ℕ) (b : Bool) (a : Answer Unit) (next : Placing) → 4 ≤ n → n ≤ 10 → Well (afterChecks a next) → Well (afterChecks (unless n b a) next)
+    unfolding Well
+    check-well n true a next l m w = w
+    check-well n false a next l m w = (l, m, refl, refl, refl)
 
     column-well : Well (column J x y p)
-    unfolding column judge
+    unfolding column
     column-well =
-        let t = lowEight (getD (J .types) (p .used) 0) in
-        let h = hfMulOf (getD (J .muls) (p .used) 0) in
-        if-well (leb (length (J .types)) (p .used)) 4 _ (omega arith) (omega arith)
-        (if-well (leb COUNT t) 5 _ (omega arith) (omega arith)
-        (if-well (not (positive h)) 6 _ (omega arith) (omega arith)
-        (if-well (ltb 32 (x % 32 + wide t)) 7 _ (omega arith) (omega arith)
-        (if-well (ltb 32 (y % 32 + high t)) 7 _ (omega arith) (omega arith) (place-well (2 + t) h (wide t) (high t))))))
+        let t = nextType J p in
+        let h = nextHfMul J p in
+        let next = placeIn J (2 + t) h (wide t) (high t) x y p in
+        check-well 4 (ltb (p .used) (length (J .types))) _ next (omega arith) (omega arith)
+        (check-well 5 (ltb t COUNT) _ next (omega arith) (omega arith)
+        (check-well 6 (positive h) _ next (omega arith) (omega arith)
+        (check-well 7 (leb (x % 32 + wide t) 32) _ next (omega arith) (omega arith)
+        (check-well 7 (leb (y % 32 + high t) 32) passed next (omega arith) (omega arith) (place-well (2 + t) h (wide t) (high t))))))
 
-    column-stops : (r : Said) → x < J .bw → y < J .bh → Sofar J x y p → at (p .kinds) (J .bw) x y ≡ 0 → column J x y p ≡ Stopped r → AtBlock (J .bw) (J .bh) r × AtFree J r
+    column-stops : (n : ℕ) (r : Said) → x < J .bw → y < J .bh → Sofar J x y p → at (p .kinds) (J .bw) x y ≡ 0 → column J x y p ≡ Stopped n r → AtBlock (J .bw) (J .bh) r × AtFree J r
     unfolding Well
-    column-stops r hx hy o f e =
-        let w : Well (Stopped r) = rw e at column-well in
+    column-stops n r hx hy o f e =
+        let w : Well (Stopped n r) = rw e at column-well in
         let u = w .2 in
         let v = w .3 in (
           record { least = w .0; most = w .1; inX = omega arith; inY = omega arith },
-          record { before = p; sofar = rw (u, v) at o; free = rw (u, v) at f; stops = rw (u, v) at e },
+          record { before = p; sofar = rw (u, v) at o; free = rw (u, v) at f; stops = rw (u, v) at (e ∙ ap (λ (m : ℕ). Stopped m r) (w .4)) },
         )
 
-  Sound : ℕ → ℕ → Reading → Type 0
+  Sound : ℕ → ℕ → Placing → Type 0
   Sound x y (Going p) = Sofar J x y p
-  Sound x y (Stopped r) = AtBlock (J .bw) (J .bh) r × AtFree J r
+  Sound x y (Stopped n r) = AtBlock (J .bw) (J .bh) r × AtFree J r
 
-  step : (x y : ℕ) (s : Reading) → x < J .bw → y < J .bh → Sound x y s → Sound (x + 1) y (visit J x y s)
+  step : (x y : ℕ) (s : Placing) → x < J .bw → y < J .bh → Sound x y s → Sound (x + 1) y (visit J x y s)
   unfolding Sound
-  step x y (Stopped r) hx hy q = q
+  step x y (Stopped n r) hx hy q = q
   step x y (Going p) hx hy q = go (eqb (at (p .kinds) (J .bw) x y) 0) refl
     where
-      col : at (p .kinds) (J .bw) x y ≡ 0 → (s : Reading) → column J x y p ≡ s → Sound (x + 1) y s
-      col f (Stopped r) e = column-stops x y p r hx hy q f e
+      col : at (p .kinds) (J .bw) x y ≡ 0 → (s : Placing) → column J x y p ≡ s → Sound (x + 1) y s
+      col f (Stopped n r) e = column-stops x y p n r hx hy q f e
       col f (Going p′) e = placing J x y _ _ p p′ (column-put J x y p p′ (q .lengthK) (q .lengthM) hx hy e .0) q
 
       go : (b : Bool) → eqb (at (p .kinds) (J .bw) x y) 0 ≡ b → Sound (x + 1) y (cond b (column J x y p) (Going p))
       go true e = col (eqb-true (at (p .kinds) (J .bw) x y) 0 e) (column J x y p) refl
       go false e = passing J x y p (let n = eqb-false (at (p .kinds) (J .bw) x y) 0 e in omega arith) q
 
-  turn : (y : ℕ) (s : Reading) → y < J .bh → Sound (J .bw) y s → Sound 0 (y + 1) s
+  turn : (y : ℕ) (s : Placing) → y < J .bh → Sound (J .bw) y s → Sound 0 (y + 1) s
   unfolding Sound
-  turn y (Stopped r) h q = q
+  turn y (Stopped n r) h q = q
   turn y (Going p) h q = turned J y p h q
 
-  pub read-stops : (r : Said) → reading J ≡ Stopped r → AtBlock (J .bw) (J .bh) r × AtFree J r
+  pub read-stops : (n : ℕ) (r : Said) → reading J ≡ Stopped n r → AtBlock (J .bw) (J .bh) r × AtFree J r
   unfolding reading Sound
-  read-stops r e = rw e at (forward (visit J) (J .bw) (J .bh) Sound step turn (Going (start J)) (begun J))
+  read-stops n r e = rw e at (forward (visit J) (J .bw) (J .bh) Sound step turn (Going (start J)) (begun J))
 
 module _ (i : Inputs) (kinds hfMul sigma : List ℕ) where
-  same : (r s : Said) → refused r ≡ refused s → r ≡ s
+  same : (r s : Said) → _≡_ {A = Answer ℕ} (refuses r) (refuses s) → r ≡ s
   same r s e = cc
 
-  before-work : (n : ℕ) (r : Said) → refuseWith i kinds hfMul sigma n ≡ outcome i kinds hfMul sigma → outcome i kinds hfMul sigma .answer ≡ refused r → BeforeWork i kinds hfMul sigma n r
+  before-work : (n : ℕ) (r : Said) → refuse i kinds hfMul sigma (refusals.at n 0 0) ≡ layoutOf i kinds hfMul sigma → layoutOf i kinds hfMul sigma .answer ≡ refuses r → BeforeWork i kinds hfMul sigma n r
   before-work n r e f = record {
     saidIs = sym (same (refusals.at n 0 0) r (ap (λ (o : Outcome). o .answer) e ∙ f));
     kindsKept = sym (ap (λ (o : Outcome). o .kinds) e);
@@ -133,11 +135,11 @@ module _ (i : Inputs) (kinds hfMul sigma : List ℕ) where
     sigmaKept = sym (ap (λ (o : Outcome). o .sigma) e);
   }
 
-  at-work : (r : Said) (s : Reading) → reading (jobOf i) ≡ s → outcomeOf (jobOf i) s ≡ outcome i kinds hfMul sigma → outcome i kinds hfMul sigma .answer ≡ refused r → AtWork i kinds hfMul sigma r
-  at-work r (Going p) e o f = absurd (let g : accepted (p .used) ≡ refused r = ap (λ (q : Outcome). q .answer) o ∙ f in let z : _≡_ {A = ℕ} 0 1 = cc in omega arith)
-  at-work r (Stopped t) e o f =
+  at-work : (r : Said) (s : Placing) → reading (jobOf i) ≡ s → outcomeOf (jobOf i) s ≡ layoutOf i kinds hfMul sigma → layoutOf i kinds hfMul sigma .answer ≡ refuses r → AtWork i kinds hfMul sigma r
+  at-work r (Going p) e o f = absurd (let g : gives (p .used) ≡ refuses r = ap (λ (q : Outcome). q .answer) o ∙ f in let z : _≡_ {A = ℕ} 0 1 = cc in omega arith)
+  at-work r (Stopped n t) e o f =
       let d : t ≡ r = same t r (ap (λ (q : Outcome). q .answer) o ∙ f) in
-      let w = read-stops (jobOf i) t e in
+      let w = read-stops (jobOf i) n t e in
       record {
         block = rw d at (w .0);
         free = rw d at (w .1);
@@ -147,7 +149,7 @@ module _ (i : Inputs) (kinds hfMul sigma : List ℕ) where
       }
 
   -- a refused call is one of these
-  pub refused-how : (r : Said) → outcome i kinds hfMul sigma .answer ≡ refused r → Refuses i kinds hfMul sigma r
+  pub refused-how : (r : Said) → layoutOf i kinds hfMul sigma .answer ≡ refuses r → Refuses i kinds hfMul sigma r
   refused-how r f = go (sizeFits (i .width) (i .height)) (parametersFit i) (lengthsFit i kinds hfMul sigma) refl refl refl
     where
       go : (a b c : Bool) → sizeFits (i .width) (i .height) ≡ a → parametersFit i ≡ b → lengthsFit i kinds hfMul sigma ≡ c → Refuses i kinds hfMul sigma r

@@ -1,4 +1,4 @@
--- Laws: The filter strength that an accepted layout call leaves at each block (document 01, Layout and filter strength).
+-- The filter strength that an accepted layout call leaves at each block (document 01, Layout and filter strength).
 use mathlib.Core.Path.{_≡_, refl, ap, sym, _∙_}
 use mathlib.Core.Bool.{Bool, true, false, _&&_}
 use mathlib.Core.Logic.{_⊎_, inl, inr}
@@ -20,7 +20,7 @@ use Rattle.layout.specs.laws.Walk.{forward}
 use Rattle.layout.specs.Grid.{at}
 use Rattle.layout.specs.laws.Grid.{place-lt, place-col, place-row}
 use Rattle.layout.specs.Valid.{Covers}
-use Rattle.layout.specs.Order.{Before}
+use Rattle.layout.specs.Walk.{Before}
 use Rattle.layout.specs.laws.Order.{Here, last, later, never}
 use Rattle.filter_strength.specs.declared.Filter.{Filter}
 use Rattle.filter_strength.specs.declared.Filter.the-variants.{Off, On}
@@ -35,14 +35,14 @@ use Rattle.filter_strength.specs.laws.Finite.{within-finite, sigma-within, sigm
 use Rattle.lf_group.specs.Blocks.{modesFit}
 use Rattle.layout_reading.specs.Scan.{Scan, Taking, Left, isOn, sigmaWith, takeCell, scan}
 use Rattle.layout_reading.specs.Reading.{Job, Placed, start}
-use Rattle.hf_metadata.specs.Call.{accepted, Inputs, jobOf}
+use Rattle.refusal.specs.Answer.{gives}
+use Rattle.hf_metadata.specs.Call.{Inputs, jobOf, layoutOf}
 use Rattle.accepted_layout.specs.laws.Took.{InRect, passed, cell-took}
 use Rattle.accepted_layout.specs.laws.Puts.{Column, Spot, corner, body, beyond, spot}
-use Rattle.accepted_layout.specs.Accepted.{Sofar}
-use Rattle.accepted_layout.specs.laws.Accepted.{after, along}
-use Rattle.accepted_layout.specs.Theorems.{bwOf, bhOf}
+use Rattle.accepted_layout.specs.Refused.{Sofar}
+use Rattle.accepted_layout.specs.laws.Accepted.{after, blank, along}
+use Rattle.accepted_layout.specs.Outcome.{bhOf, bwOf, sigmaAt, strengthAt}
 use Rattle.accepted_layout.specs.laws.Theorems.{Read, accepted-read, accepted-layout}
-use Rattle.accepted_layout.specs.Sigma.{outcome, sigmaAt, strengthAt}
 
 -- sigma of a block of a varblock whose filter is given; filter off: as it was
 abbrev cellSigma : DividedFilter → List Float → ℕ → ℕ → ℕ
@@ -249,12 +249,9 @@ module _ (J : Job) where
   begin = record {
     lengthS = length-replicate {A = ℕ} (J .bh * J .bw) 0;
     free = λ a b i j e. getD-replicate {A = ℕ} (J .bh * J .bw) (b * J .bw + a) 0 0 (place-lt (J .bw) (J .bh) a b i j);
-    taken = λ a b c d i j v. absurd (let z = blank c d (let w = v .fromX in omega arith) (let w = v .fromY in omega arith) in let w = v .corner in omega arith);
-    sharp = λ a b i j l. absurd (let z = blank a b i j in omega arith);
+    taken = λ a b c d i j v. absurd (let z = blank J c d (let w = v .fromX in omega arith) (let w = v .fromY in omega arith) in let w = v .corner in omega arith);
+    sharp = λ a b i j l. absurd (let z = blank J a b i j in omega arith);
   }
-    where
-      blank : (a b : ℕ) → a < J .bw → b < J .bh → at (start J .kinds) (J .bw) a b ≡ 0
-      blank a b i j = getD-replicate {A = ℕ} (J .bh * J .bw) (b * J .bw + a) 0 0 (place-lt (J .bw) (J .bh) a b i j)
 
   module _ (x y t h : ℕ) (p q : Placed) (hx : x < J .bw) (hy : y < J .bh) (o : Sofar J x y p) (c : Column J x y p q t h) (r : Strengths p) where
     seen : (a b : ℕ) (i : a < J .bw) (j : b < J .bh)
@@ -263,7 +260,7 @@ module _ (J : Job) where
         scanned (J .bw) (J .bh) (dividedBy (J .filter) h) (J .lookups) (J .sharpness) x y (wide t) (high t) (p .sigma) (r .lengthS) a b i j (p .kinds) (c .taken) (q .sigma) (c .scanIs)
 
     was-free : at (p .kinds) (J .bw) x y ≡ 0
-    was-free = c .free x y (let w = wide-some t (c .known) in let v = high-some t (c .known) in (omega arith, omega arith, omega arith, omega arith))
+    was-free = c .free x y (let w = wide-some t (c .fits .known) in let v = high-some t (c .fits .known) in (omega arith, omega arith, omega arith, omega arith))
 
     now-free : (a b : ℕ) → a < J .bw → b < J .bh → at (q .kinds) (J .bw) a b ≡ 0 → Spot x y (wide t) (high t) a b → sigmaAt (q .sigma) (J .bw) a b ≡ 0
     now-free a b i j e (corner m) = absurd (let z = c .puts .atCorner in let u : at (q .kinds) (J .bw) a b ≡ at (q .kinds) (J .bw) x y = rw (m .0, m .1) in omega arith)
@@ -282,7 +279,7 @@ module _ (J : Job) where
         (sym (c .puts .hfMulOther u v (let z = w .fromX in omega arith) (λ m. let z = w .corner in let k : at (p .kinds) (J .bw) u v ≡ at (p .kinds) (J .bw) x y = rw (m .0, m .1) in omega (arith, was-free))))
 
     now-sharp : (a b : ℕ) → a < J .bw → b < J .bh → 0 < at (q .kinds) (J .bw) a b → isScaledOn (J .filter) ≡ true → Spot x y (wide t) (high t) a b → at (J .sharpness) (J .bw) a b < 8
-    now-sharp a b i j l e (corner m) = seen a b i j .sharp (let w = wide-some t (c .known) in let v = high-some t (c .known) in (omega arith, omega arith, omega arith, omega arith)) (shared-on (J .filter) h e)
+    now-sharp a b i j l e (corner m) = seen a b i j .sharp (let w = wide-some t (c .fits .known) in let v = high-some t (c .fits .known) in (omega arith, omega arith, omega arith, omega arith)) (shared-on (J .filter) h e)
     now-sharp a b i j l e (body n m) = seen a b i j .sharp m (shared-on (J .filter) h e)
     now-sharp a b i j l e (beyond n) = r .sharp a b i j (let z = c .puts .elsewhere a b i n in omega arith) e
 
@@ -310,7 +307,7 @@ scaled-on Off scale m e = absurd (let z : _≡_ {A = ℕ} 0 1 = cc in omega arit
 scaled-on (On a) scale m e = refl
 
 module _ (i : Inputs) (kinds hfMul sigma : List ℕ) where
-  module _ (n : ℕ) (e : outcome i kinds hfMul sigma .answer ≡ accepted n) where
+  module _ (n : ℕ) (e : layoutOf i kinds hfMul sigma .answer ≡ gives n) where
     read : Read i kinds hfMul sigma n
     read = accepted-read i kinds hfMul sigma n e
 
@@ -318,11 +315,11 @@ module _ (i : Inputs) (kinds hfMul sigma : List ℕ) where
     strengths = along (jobOf i) (Strengths (jobOf i)) (begin (jobOf i)) (λ x y p q hx hy u o c r. placed-strengths (jobOf i) x y _ _ p q hx hy o c r) (read .last) (read .read)
 
     -- a sigma for each block
-    pub accepted-sigmas : length (outcome i kinds hfMul sigma .sigma) ≡ bhOf i * bwOf i
+    pub accepted-sigmas : length (layoutOf i kinds hfMul sigma .sigma) ≡ bhOf i * bwOf i
     accepted-sigmas = ap length (read .sigmaAre) ∙ strengths .1 .lengthS
 
     -- its bit pattern is what is left
-    pub accepted-sigma : (cx cy x y : ℕ) → x < bwOf i → y < bhOf i → Covers (at (outcome i kinds hfMul sigma .kinds) (bwOf i)) cx cy x y → sigmaAt (outcome i kinds hfMul sigma .sigma) (bwOf i) x y ≡ pattern (strengthAt i kinds hfMul sigma n e cx cy x y)
+    pub accepted-sigma : (cx cy x y : ℕ) → x < bwOf i → y < bhOf i → Covers (at (layoutOf i kinds hfMul sigma .kinds) (bwOf i)) cx cy x y → sigmaAt (layoutOf i kinds hfMul sigma .sigma) (bwOf i) x y ≡ pattern (strengthAt i kinds hfMul sigma cx cy x y)
     accepted-sigma cx cy x y hx hy v =
         let r = read in
         rw (r .sigmaAre, r .hfMulAre)
@@ -334,17 +331,17 @@ module _ (i : Inputs) (kinds hfMul sigma : List ℕ) where
     accepted-sharpness m f x y hx hy = strengths .1 .sharp x y hx hy (strengths .0 .done x y hx hy (inl hy)) (scaled-on (i .filter) (i .scale) m f)
 
     -- it is finite, no NaN and no infinity, at most 65,504 × 65,536 × 65,504 in size, and the bit pattern reads back as it
-    pub accepted-finite : (cx cy x y : ℕ) → x < bwOf i → y < bhOf i → Covers (at (outcome i kinds hfMul sigma .kinds) (bwOf i)) cx cy x y
-        → T (finite (strengthAt i kinds hfMul sigma n e cx cy x y)) × Within SIGMA-MOST (strengthAt i kinds hfMul sigma n e cx cy x y) × (ofBits binary32 (sigmaAt (outcome i kinds hfMul sigma .sigma) (bwOf i) x y) ≡ strengthAt i kinds hfMul sigma n e cx cy x y)
+    pub accepted-finite : (cx cy x y : ℕ) → x < bwOf i → y < bhOf i → Covers (at (layoutOf i kinds hfMul sigma .kinds) (bwOf i)) cx cy x y
+        → T (finite (strengthAt i kinds hfMul sigma cx cy x y)) × Within SIGMA-MOST (strengthAt i kinds hfMul sigma cx cy x y) × (ofBits binary32 (sigmaAt (layoutOf i kinds hfMul sigma .sigma) (bwOf i) x y) ≡ strengthAt i kinds hfMul sigma cx cy x y)
     accepted-finite cx cy x y hx hy v =
-        let h = at (outcome i kinds hfMul sigma .hfMul) (bwOf i) cx cy in
+        let h = at (layoutOf i kinds hfMul sigma .hfMul) (bwOf i) cx cy in
         let s = at (i .sharpness) (bwOf i) x y in
         let f = accepted-layout i kinds hfMul sigma n e .valid .fits cx cy (let z = v .fromX in omega arith) (let z = v .fromY in omega arith) (v .corner) in
         let a = f .positive in
         let b = f .signed in
         let p = and-r (modesFit (i .modes)) (paramsFit (i .filter) (i .lookups) (i .scale)) (rw (read .parameters) tt) in
         let w = sigma-within (i .filter) (i .scale) h (i .lookups) s (is-true (paramsFit (i .filter) (i .lookups) (i .scale)) p) a (omega arith) (λ m g. accepted-sharpness m g x y hx hy) in (
-          within-finite SIGMA-MOST (strengthAt i kinds hfMul sigma n e cx cy x y) w,
+          within-finite SIGMA-MOST (strengthAt i kinds hfMul sigma cx cy x y) w,
           w,
           ap (ofBits binary32) (accepted-sigma cx cy x y hx hy v) ∙ sigma-back (i .filter) (i .scale) h (i .lookups) s,
         )

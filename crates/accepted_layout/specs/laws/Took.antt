@@ -13,9 +13,11 @@ use Rattle.laws.specs.laws.Cases.{eq-or-ne}
 use Rattle.layout.specs.laws.Walk.{forward}
 use Rattle.layout.specs.Grid.{at}
 use Rattle.layout.specs.laws.Grid.{set-same, set-other}
-use Rattle.layout.specs.Order.{Before}
+use Rattle.layout.specs.Walk.{Before}
 use Rattle.layout.specs.laws.Order.{Here, last}
 use Rattle.filter_strength.specs.declared.DividedFilter.{DividedFilter}
+use Rattle.filter_strength.specs.declared.DividedFilter.the-variants.{Off}
+use Rattle.layout_reading.specs.laws.ScanSteps.{cell-off}
 use Rattle.layout_reading.specs.Scan.{Scan, Taking, Left, isOn, sigmaWith, takeCell, scan}
 
 -- a cell (a, b) of the rectangle of w x h blocks at (x, y)
@@ -74,7 +76,7 @@ module _ (bw bh : ℕ) (filter : DividedFilter) (lookups : List Float) (sharpnes
     Sound dx dy (Taking k′ s) = Sofar dx dy k′
     Sound dx dy (Left n a b) = Unit
 
-    one-more : (dx dy : ℕ) (k₁ k₂ : List ℕ) → dx < w → dy < h → CellTook bw bh (x + dx) (y + dy) k₁ k₂ → Sofar dx dy k₁ → Sofar (dx + 1) dy k₂
+    pub one-more : (dx dy : ℕ) (k₁ k₂ : List ℕ) → dx < w → dy < h → CellTook bw bh (x + dx) (y + dy) k₁ k₂ → Sofar dx dy k₁ → Sofar (dx + 1) dy k₂
     one-more dx dy k₁ k₂ hx hy c r = record {
       len = ap length (c .now) ∙ length-set k₁ place 1 ∙ r .len;
       inX = λ i j hi hj g. inX′ i j hi hj (last i j dx dy g);
@@ -133,7 +135,7 @@ module _ (bw bh : ℕ) (filter : DividedFilter) (lookups : List Float) (sharpnes
         go (Left n a b) e = tt
         go (Taking k₂ s₂) e = one-more dx dy k₁ k₂ hx hy (cell-took (x + dx) (y + dy) k₁ k₂ s₁ s₂ e) r
 
-    turned : (dy : ℕ) (k₁ : List ℕ) → Sofar w dy k₁ → Sofar 0 (dy + 1) k₁
+    pub turned : (dy : ℕ) (k₁ : List ℕ) → Sofar w dy k₁ → Sofar 0 (dy + 1) k₁
     turned dy k₁ r = record {
       len = r .len;
       inX = λ i j hi hj g. r .inX i j hi hj (back i j hi g);
@@ -160,7 +162,7 @@ module _ (bw bh : ℕ) (filter : DividedFilter) (lookups : List Float) (sharpnes
     turn dy (Left n a b) hy r = tt
     turn dy (Taking k₁ s₁) hy r = turned dy k₁ r
 
-    started : length k ≡ bh * bw → Sofar 0 0 k
+    pub started : length k ≡ bh * bw → Sofar 0 0 k
     started e = record {
       len = e;
       inX = λ i j hi hj g. absurd (none i j g);
@@ -194,3 +196,41 @@ module _ (bw bh : ℕ) (filter : DividedFilter) (lookups : List Float) (sharpnes
       where
         r : Sofar 0 h k′
         r = ended s s′ k′ e f
+
+-- A rectangle of free cells inside the grid is taken whole, where the filter is off.
+module _ (bw bh : ℕ) (lookups : List Float) (sharpness : List ℕ) (x y w h : ℕ) (k s : List ℕ)
+    (inX : (a b : ℕ) → InRect x y w h a b → a < bw)
+    (inY : (a b : ℕ) → InRect x y w h a b → b < bh)
+    (free : (a b : ℕ) → InRect x y w h a b → at k bw a b ≡ 0) where
+  -- the cells before (dx, dy) are taken, sigma is as it was
+  Upto : ℕ → ℕ → Scan → Type 0
+  Upto dx dy t = (k′ : List ℕ) × (t ≡ Taking k′ s) × Sofar bw bh Off lookups sharpness x y w h k dx dy k′
+
+  next : (dx dy : ℕ) (t : Scan) → dx < w → dy < h → Upto dx dy t → Upto (dx + 1) dy (takeCell bw bh Off lookups sharpness (x + dx) (y + dy) t)
+  unfolding Upto
+  next dx dy t hx hy u =
+      let k₁ = u .0 in
+      let o = u .2 in
+      let m : InRect x y w h (x + dx) (y + dy) = (omega arith, omega arith, omega arith, omega arith) in
+      let i = inX (x + dx) (y + dy) m in
+      let j = inY (x + dx) (y + dy) m in
+      let z : at k₁ bw (x + dx) (y + dy) ≡ 0 = o .kept (x + dx) (y + dy) i (λ a b p q g e. other a b g (e .0) (e .1)) ∙ free (x + dx) (y + dy) m in
+      let c : CellTook bw bh (x + dx) (y + dy) k₁ (set k₁ ((y + dy) * bw + (x + dx)) 1) = record { inX = i; inY = j; free = z; now = refl } in (
+        set k₁ ((y + dy) * bw + (x + dx)) 1,
+        ap (takeCell bw bh Off lookups sharpness (x + dx) (y + dy)) (u .1) ∙ sym (cell-off bw bh Off lookups sharpness (x + dx) (y + dy) k₁ s i j (omega arith) refl),
+        one-more bw bh Off lookups sharpness x y w h k dx dy k₁ (set k₁ ((y + dy) * bw + (x + dx)) 1) hx hy c o,
+      )
+    where
+      other : (a b : ℕ) → Before a b dx dy → x + dx ≡ x + a → y + dy ≡ y + b → ⊥
+      other a b (inl g) e f = omega arith
+      other a b (inr g) e f = omega arith
+
+  below : (dy : ℕ) (t : Scan) → dy < h → Upto w dy t → Upto 0 (dy + 1) t
+  unfolding Upto
+  below dy t hy u = (u .0, u .1, turned bw bh Off lookups sharpness x y w h k dy (u .0) (u .2))
+
+  pub scan-takes : length k ≡ bh * bw → (k′ : List ℕ) × (scan bw bh Off lookups sharpness x y w h (Taking k s) ≡ Taking k′ s)
+  unfolding scan Upto
+  scan-takes e =
+      let r = forward (λ (dx dy : ℕ). takeCell bw bh Off lookups sharpness (x + dx) (y + dy)) w h Upto next below (Taking k s) (k, refl, started bw bh Off lookups sharpness x y w h k e) in
+      (r .0, r .1)

@@ -9,7 +9,7 @@ use lib.ListN.{length, take, drop}
 use borrow.Author.Tests.{le-leb, lt-leb, leb-true, eq-eqb, ne-eqb}
 use Rattle.bits.specs.declared.Place.{Place}
 use Rattle.bits.specs.declared.Got.the-variants as got
-use Rattle.bits.specs.Bits.{Read, Value, Ended, then, readBits, readChoice, readU32, chosen, Choice, Constant, Offset, valueOf, bitsOf, Bytes}
+use Rattle.bits.specs.Bits.{Read, Value, Ended, then, readBits, readChoice, readU32, choiceAt, Choice, Constant, Offset, valueOf, bitsOf, Bytes}
 use Rattle.bits.specs.laws.Numbers.{number, length-bits, value-field, window}
 use Rattle.bits.specs.declared.U32Specifier.{U32Specifier}
 use Rattle.bits.specs.Reads.{placeAt, bitsBefore, gotOf, choiceOf}
@@ -132,7 +132,7 @@ choice-ended s p (Offset o n) at e = go (readBits s p n) refl
     go (Value v q) f = absurd (let z : _≡_ {A = ℕ} 0 1 = cc (rw f at e) in omega arith)
     go (Ended q) f = let a : q ≡ at = cc (rw f at e) in sym a ∙ ended-at s p n q f
 
-pub chosen-last : (k : ℕ) (a b c d : Choice) → 3 ≤ k → chosen k a b c d ≡ d
+pub chosen-last : (k : ℕ) (a b c d : Choice) → 3 ≤ k → choiceAt k a b c d ≡ d
 chosen-last zero a b c d h = absurd (omega arith)
 chosen-last (suc zero) a b c d h = absurd (omega arith)
 chosen-last (suc (suc zero)) a b c d h = absurd (omega arith)
@@ -149,14 +149,14 @@ module _ (s : List ℕ) (p : ℕ) (a b c d : Choice) where
       rw (r .is, n)
 
   -- the selector k was read, and its choice m
-  module _ (k : ℕ) (q : Place) (e : gotOf p (readBits s p 2) ≡ got.Value k q) (m : Choice) (f : m ≡ chosen k a b c d) where
+  module _ (k : ℕ) (q : Place) (e : gotOf p (readBits s p 2) ≡ got.Value k q) (m : Choice) (f : m ≡ choiceAt k a b c d) where
     selected : readU32 s p a b c d ≡ readChoice s (bitsBefore q) m
     unfolding readU32
     selected =
         let r = was-value p (readBits s p 2) k q e in
         let t : r .at ≡ bitsBefore q = sym (before-at (r .at)) ∙ ap bitsBefore (sym (r .place)) in
-        ap (λ (y : Read ℕ). then y (λ k at. readChoice s at (chosen k a b c d))) (r .is)
-        ∙ ap (λ (y : ℕ). readChoice s y (chosen k a b c d)) t
+        ap (λ (y : Read ℕ). then y (λ k at. readChoice s at (choiceAt k a b c d))) (r .is)
+        ∙ ap (λ (y : ℕ). readChoice s y (choiceAt k a b c d)) t
         ∙ ap (λ (y : Choice). readChoice s (bitsBefore q) y) (sym f)
 
     pub selected-at : (bitsBefore q ≡ p + 2) × (bitsBefore q ≤ 8 * length s)

@@ -5,7 +5,7 @@ use Prim.Native.Nat.{ℕ, zero, suc, _+_, _/_, _%_, _^_, _≤_, _<_}
 use native.Mathlib.Nat.{mod-lt}
 use native.Mathlib.Omega.{arith}
 use lib.Pow.{pow-pos}
-use Rattle.bits.specs.Bits.{Bytes, Read, Value, Ended, then, Choice, Offset, readBits, readChoice, chosen, readU32}
+use Rattle.bits.specs.Bits.{Bytes, Read, Value, Ended, then, Choice, Offset, readBits, readChoice, choiceAt, readU32}
 use Rattle.bits.specs.laws.Numbers.{number}
 use Rattle.bits.specs.laws.Laws.{read-whole, value-at, ended-at}
 
@@ -78,10 +78,10 @@ module _ (s : List ℕ) (h : Bytes s) where
     pub u32-near : (a b c d : Choice) → ChoiceNear a → ChoiceNear b → ChoiceNear c → ChoiceNear d → (p : ℕ) → Near Fine (readU32 s p a b c d) p 34 2
     unfolding readU32
     u32-near a b c d na nb nc nd p =
-        then-near (λ (k : ℕ). k < 2 ^ 2) Fine p 2 0 32 0 34 2 (omega arith) (omega arith) (omega arith) (λ k at. readChoice s at (chosen k a b c d)) (readBits s p 2)
+        then-near (λ (k : ℕ). k < 2 ^ 2) Fine p 2 0 32 0 34 2 (omega arith) (omega arith) (omega arith) (λ k at. readChoice s at (choiceAt k a b c d)) (readBits s p 2)
         (field-near p 2 2 (omega arith)) (λ k q t. go k q)
       where
-        go : (k : ℕ) → ChoiceNear (chosen k a b c d)
+        go : (k : ℕ) → ChoiceNear (choiceAt k a b c d)
         go zero = na
         go (suc zero) = nb
         go (suc (suc zero)) = nc

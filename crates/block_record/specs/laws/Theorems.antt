@@ -12,7 +12,8 @@ use Rattle.layout.specs.Cut.{hasGroup, groupBw, groupBh, cut}
 use Rattle.layout.specs.laws.CutLaws.{cut-layout, starts-x, starts-y}
 use Rattle.layout.specs.laws.Theorems.{layout-iff}
 use Rattle.block_check.specs.declared.Group.{Group}
-use Rattle.block_check.specs.Calls.{Answer, gives, refuses, checkOf, unless}
+use Rattle.refusal.specs.Answer.{Answer, gives, refuses, unless}
+use Rattle.block_check.specs.Calls.{checkOf}
 use Rattle.block_sides.specs.Limits.{inLimits, lengthsFit}
 use Rattle.block_sides.specs.laws.Limits.{lengths-fit}
 use Rattle.block_record.specs.Calls.{group, Outcome, outcome, cutCheck, cutBy, cutOf}
@@ -25,15 +26,15 @@ numberOf (gives g) = 0
 numberOf (refuses s) = s .number
 
 -- The cut.
-module _ (bw bh : ℕ) (kinds muls : List ℕ) (g : ℕ) (outKinds outMuls : List ℕ) where
+module _ (bw bh : ℕ) (kinds hfMul : List ℕ) (g : ℕ) (outKinds outHfMul : List ℕ) where
   -- a layout is never refused with 18, at whatever position
-  pub cut-not-18 : Layout bw bh kinds muls → (why : Said) → (cutOf bw bh kinds muls g outKinds outMuls) .answer ≡ refuses why → why .number ≡ 18 → ⊥
+  pub cut-not-18 : Layout bw bh kinds hfMul → (why : Said) → (cutOf bw bh kinds hfMul g outKinds outHfMul) .answer ≡ refuses why → why .number ≡ 18 → ⊥
   unfolding cutOf cutCheck
-  cut-not-18 ok why e n = go (inLimits 256 bw bh) (hasGroup bw bh g) (lengthsFit bw bh (length kinds) (length muls)) (lengthsFit (groupBw bw g) (groupBh bw bh g) (length outKinds) (length outMuls)) (isLayout bw bh kinds muls)
-      (layout-iff bw bh kinds muls (ok .kindsLength) (ok .hfMulLength) .1 ok) (ap numberOf e ∙ n)
+  cut-not-18 ok why e n = go (inLimits 256 bw bh) (hasGroup bw bh g) (lengthsFit bw bh (length kinds) (length hfMul)) (lengthsFit (groupBw bw g) (groupBh bw bh g) (length outKinds) (length outHfMul)) (isLayout bw bh kinds hfMul)
+      (layout-iff bw bh kinds hfMul (ok .kindsLength) (ok .hfMulLength) .1 ok) (ap numberOf e ∙ n)
     where
       go : (p q r s t : Bool) → t ≡ true
-          → numberOf ((cutBy (unless 2 p (unless 2 q (unless 1 r (unless 1 s (unless 18 t (gives tt)))))) (outcome (gives (group (groupBw bw g) (groupBh bw bh g))) (cut bw bh g kinds) (cut bw bh g muls)) outKinds outMuls) .answer) ≡ 18 → ⊥
+          → numberOf ((cutBy (unless 2 p (unless 2 q (unless 1 r (unless 1 s (unless 18 t (gives tt)))))) (outcome (gives (group (groupBw bw g) (groupBh bw bh g))) (cut bw bh g kinds) (cut bw bh g hfMul)) outKinds outHfMul) .answer) ≡ 18 → ⊥
       go false q r s t f z = let y : _≡_ {A = ℕ} 2 18 = z in omega arith
       go true false r s t f z = let y : _≡_ {A = ℕ} 2 18 = z in omega arith
       go true true false s t f z = let y : _≡_ {A = ℕ} 1 18 = z in omega arith
@@ -42,26 +43,26 @@ module _ (bw bh : ℕ) (kinds muls : List ℕ) (g : ℕ) (outKinds outMuls : Lis
       go true true true true false f z = let y : _≡_ {A = ℕ} 0 1 = cc in omega arith
 
   -- what an accepted cut wrote is a group that the check passes
-  pub cut-checks : (r : Group) → (cutOf bw bh kinds muls g outKinds outMuls) .answer ≡ gives r
-      → checkOf 32 (r .bw) (r .bh) ((cutOf bw bh kinds muls g outKinds outMuls) .kinds) ((cutOf bw bh kinds muls g outKinds outMuls) .muls) ≡ gives tt
-  cut-checks r e = go (cutCheck bw bh kinds muls g (length outKinds) (length outMuls)) refl
+  pub cut-checks : (r : Group) → (cutOf bw bh kinds hfMul g outKinds outHfMul) .answer ≡ gives r
+      → checkOf 32 (r .bw) (r .bh) ((cutOf bw bh kinds hfMul g outKinds outHfMul) .kinds) ((cutOf bw bh kinds hfMul g outKinds outHfMul) .hfMul) ≡ gives tt
+  cut-checks r e = go (cutCheck bw bh kinds hfMul g (length outKinds) (length outHfMul)) refl
     where
       O : Outcome
-      O = cutOf bw bh kinds muls g outKinds outMuls
+      O = cutOf bw bh kinds hfMul g outKinds outHfMul
 
-      written : Passed bw bh kinds muls g (length outKinds) (length outMuls) → checkOf 32 (groupBw bw g) (groupBh bw bh g) (cut bw bh g kinds) (cut bw bh g muls) ≡ gives tt
+      written : Passed bw bh kinds hfMul g (length outKinds) (length outHfMul) → checkOf 32 (groupBw bw g) (groupBh bw bh g) (cut bw bh g kinds) (cut bw bh g hfMul) ≡ gives tt
       written p =
-          let l = lengths-fit bw bh (length kinds) (length muls) (p .lent) in
-          let ok = layout-iff bw bh kinds muls (l .0) (l .1) .0 (p .layout) in
+          let l = lengths-fit bw bh (length kinds) (length hfMul) (p .lent) in
+          let ok = layout-iff bw bh kinds hfMul (l .0) (l .1) .0 (p .layout) in
           let x = starts-x bw bh g (p .index) in
           let y = starts-y bw bh g (p .index) in
-          checks 32 (groupBw bw g) (groupBh bw bh g) (cut bw bh g kinds) (cut bw bh g muls)
-          (record { wideFrom = omega arith; wideTo = omega arith; highFrom = omega arith; highTo = omega arith }) (cut-layout bw bh g kinds muls ok)
+          checks 32 (groupBw bw g) (groupBh bw bh g) (cut bw bh g kinds) (cut bw bh g hfMul)
+          (record { bwFrom = omega arith; bwTo = omega arith; bhFrom = omega arith; bhTo = omega arith }) (cut-layout bw bh g kinds hfMul ok)
 
-      go : (a : Answer Unit) → cutCheck bw bh kinds muls g (length outKinds) (length outMuls) ≡ a → checkOf 32 (r .bw) (r .bh) (O .kinds) (O .muls) ≡ gives tt
-      go (refuses s) c = absurd (let d : refuses s ≡ gives r = ap (λ (o : Outcome). o .answer) (sym (cut-refused bw bh kinds muls g outKinds outMuls s c)) ∙ e in let z : _≡_ {A = ℕ} 0 1 = cc in omega arith)
+      go : (a : Answer Unit) → cutCheck bw bh kinds hfMul g (length outKinds) (length outHfMul) ≡ a → checkOf 32 (r .bw) (r .bh) (O .kinds) (O .hfMul) ≡ gives tt
+      go (refuses s) c = absurd (let d : refuses s ≡ gives r = ap (λ (o : Outcome). o .answer) (sym (cut-refused bw bh kinds hfMul g outKinds outHfMul s c)) ∙ e in let z : _≡_ {A = ℕ} 0 1 = cc in omega arith)
       go (gives t) c =
-          let d = cut-done bw bh kinds muls g outKinds outMuls c in
+          let d = cut-done bw bh kinds hfMul g outKinds outHfMul c in
           let q : gives (group (groupBw bw g) (groupBh bw bh g)) ≡ gives r = ap (λ (o : Outcome). o .answer) (sym d) ∙ e in
           let k : group (groupBw bw g) (groupBh bw bh g) ≡ r = cc in
-          rw (← k, d) (written (passed bw bh kinds muls g (length outKinds) (length outMuls) c))
+          rw (← k, d) (written (passed bw bh kinds hfMul g (length outKinds) (length outHfMul) c))

@@ -9,61 +9,61 @@ use borrow.Author.Tests.{leb-true, eqb-true, eqb-false, le-leb, eq-eqb}
 use Rattle.laws.specs.laws.Cases.{and-true}
 use Rattle.block_sides.specs.Limits.{Sided, inLimits, lengthsFit}
 
-pub in-limits : (limit w h : ℕ) → inLimits limit w h ≡ true → Sided limit w h
+pub in-limits : (limit bw bh : ℕ) → inLimits limit bw bh ≡ true → Sided limit bw bh
 unfolding inLimits
-in-limits limit w h e =
-    let p = and-true (leb 1 w && leb w limit) (leb 1 h && leb h limit) e in
-    let q = and-true (leb 1 w) (leb w limit) (p .0) in
-    let r = and-true (leb 1 h) (leb h limit) (p .1) in
-    record { wideFrom = leb-true 1 w (q .0); wideTo = leb-true w limit (q .1); highFrom = leb-true 1 h (r .0); highTo = leb-true h limit (r .1) }
+in-limits limit bw bh e =
+    let p = and-true (leb 1 bw && leb bw limit) (leb 1 bh && leb bh limit) e in
+    let q = and-true (leb 1 bw) (leb bw limit) (p .0) in
+    let r = and-true (leb 1 bh) (leb bh limit) (p .1) in
+    record { bwFrom = leb-true 1 bw (q .0); bwTo = leb-true bw limit (q .1); bhFrom = leb-true 1 bh (r .0); bhTo = leb-true bh limit (r .1) }
 
-pub limits-in : (limit w h : ℕ) → Sided limit w h → inLimits limit w h ≡ true
+pub limits-in : (limit bw bh : ℕ) → Sided limit bw bh → inLimits limit bw bh ≡ true
 unfolding inLimits
-limits-in limit w h s = rw (le-leb 1 w (s .wideFrom), le-leb w limit (s .wideTo), le-leb 1 h (s .highFrom), le-leb h limit (s .highTo))
+limits-in limit bw bh s = rw (le-leb 1 bw (s .bwFrom), le-leb bw limit (s .bwTo), le-leb 1 bh (s .bhFrom), le-leb bh limit (s .bhTo))
 
-pub fit-lengths : (w h kinds muls : ℕ) → kinds ≡ h * w → muls ≡ h * w → lengthsFit w h kinds muls ≡ true
+pub fit-lengths : (bw bh kinds hfMul : ℕ) → kinds ≡ bh * bw → hfMul ≡ bh * bw → lengthsFit bw bh kinds hfMul ≡ true
 unfolding lengthsFit
-fit-lengths w h kinds muls e f = rw (eq-eqb kinds (h * w) e, eq-eqb muls (h * w) f)
+fit-lengths bw bh kinds hfMul e f = rw (eq-eqb kinds (bh * bw) e, eq-eqb hfMul (bh * bw) f)
 
-pub lengths-fit : (w h kinds muls : ℕ) → lengthsFit w h kinds muls ≡ true → (kinds ≡ h * w) × (muls ≡ h * w)
+pub lengths-fit : (bw bh kinds hfMul : ℕ) → lengthsFit bw bh kinds hfMul ≡ true → (kinds ≡ bh * bw) × (hfMul ≡ bh * bw)
 unfolding lengthsFit
-lengths-fit w h kinds muls e =
-    let p = and-true (eqb kinds (h * w)) (eqb muls (h * w)) e in
-    (eqb-true kinds (h * w) (p .0), eqb-true muls (h * w) (p .1))
+lengths-fit bw bh kinds hfMul e =
+    let p = and-true (eqb kinds (bh * bw)) (eqb hfMul (bh * bw)) e in
+    (eqb-true kinds (bh * bw) (p .0), eqb-true hfMul (bh * bw) (p .1))
 
 both : (b : Bool) → b && b ≡ b
 both true = refl
 both false = refl
 
 -- The lengths, without the product.
-module _ (w h kinds muls : ℕ) where
-  unfit : (k m : Bool) → eqb kinds (h * w) ≡ k → eqb muls (h * w) ≡ m → (kinds ≡ h * w → muls ≡ h * w → ⊥) → k && m ≡ false
+module _ (bw bh kinds hfMul : ℕ) where
+  unfit : (k m : Bool) → eqb kinds (bh * bw) ≡ k → eqb hfMul (bh * bw) ≡ m → (kinds ≡ bh * bw → hfMul ≡ bh * bw → ⊥) → k && m ≡ false
   unfit false m e f n = refl
   unfit true false e f n = refl
-  unfit true true e f n = absurd (n (eqb-true kinds (h * w) e) (eqb-true muls (h * w) f))
+  unfit true true e f n = absurd (n (eqb-true kinds (bh * bw) e) (eqb-true hfMul (bh * bw) f))
 
-  pub lengths-unfit : (kinds ≡ h * w → muls ≡ h * w → ⊥) → lengthsFit w h kinds muls ≡ false
+  pub lengths-unfit : (kinds ≡ bh * bw → hfMul ≡ bh * bw → ⊥) → lengthsFit bw bh kinds hfMul ≡ false
   unfolding lengthsFit
-  lengths-unfit n = unfit (eqb kinds (h * w)) (eqb muls (h * w)) refl refl n
+  lengths-unfit n = unfit (eqb kinds (bh * bw)) (eqb hfMul (bh * bw)) refl refl n
 
-  pub lengths-unlike : (kinds ≡ muls → ⊥) → lengthsFit w h kinds muls ≡ false
+  pub lengths-unlike : (kinds ≡ hfMul → ⊥) → lengthsFit bw bh kinds hfMul ≡ false
   lengths-unlike n = lengths-unfit (λ e f. n (e ∙ sym f))
 
-  module _ (e : kinds ≡ muls) where
-    pub lengths-narrow : w ≡ 0 → lengthsFit w h kinds muls ≡ eqb kinds 0
+  module _ (e : kinds ≡ hfMul) where
+    pub lengths-narrow : bw ≡ 0 → lengthsFit bw bh kinds hfMul ≡ eqb kinds 0
     unfolding lengthsFit
-    lengths-narrow z = rw (z, ← e, mul-zero h) (both (eqb kinds 0))
+    lengths-narrow z = rw (z, ← e, mul-zero bh) (both (eqb kinds 0))
 
-    module _ (s : w ≡ 0 → ⊥) where
-      pub lengths-ragged : (kinds % w ≡ 0 → ⊥) → lengthsFit w h kinds muls ≡ false
-      lengths-ragged n = lengths-unfit (λ k m. n (ap (λ (x : ℕ). x % w) k ∙ mul-mod-left h w))
+    module _ (s : bw ≡ 0 → ⊥) where
+      pub lengths-ragged : (kinds % bw ≡ 0 → ⊥) → lengthsFit bw bh kinds hfMul ≡ false
+      lengths-ragged n = lengths-unfit (λ k m. n (ap (λ (x : ℕ). x % bw) k ∙ mul-mod-left bh bw))
 
-      pub lengths-rows : kinds % w ≡ 0 → lengthsFit w h kinds muls ≡ eqb (kinds / w) h
-      lengths-rows z = rows (eqb (kinds / w) h) refl
+      pub lengths-rows : kinds % bw ≡ 0 → lengthsFit bw bh kinds hfMul ≡ eqb (kinds / bw) bh
+      lengths-rows z = rows (eqb (kinds / bw) bh) refl
         where
-          rows : (b : Bool) → eqb (kinds / w) h ≡ b → lengthsFit w h kinds muls ≡ b
+          rows : (b : Bool) → eqb (kinds / bw) bh ≡ b → lengthsFit bw bh kinds hfMul ≡ b
           rows true t =
-              let k : kinds ≡ h * w = sym (div-add-mod' kinds w) ∙ rw (z, eqb-true (kinds / w) h t, add-zero (h * w)) in
-              fit-lengths w h kinds muls k (sym e ∙ k)
+              let k : kinds ≡ bh * bw = sym (div-add-mod' kinds bw) ∙ rw (z, eqb-true (kinds / bw) bh t, add-zero (bh * bw)) in
+              fit-lengths bw bh kinds hfMul k (sym e ∙ k)
           rows false t =
-              lengths-unfit (λ k m. eqb-false (kinds / w) h t (ap (λ (x : ℕ). x / w) k ∙ mul-div-cancel h (omega (arith, s))))
+              lengths-unfit (λ k m. eqb-false (kinds / bw) bh t (ap (λ (x : ℕ). x / bw) k ∙ mul-div-cancel bh (omega (arith, s))))

@@ -1,4 +1,4 @@
--- Laws: The sizes of the 13 orders in cells (document 01, Orders; `hf_pass.rs`).
+-- The sizes of the 13 orders in cells (document 01, Orders; `hf_pass.rs`).
 use mathlib.Core.Path.{_≡_}
 use mathlib.Core.List.{map}
 use Prim.Native.Nat.{ℕ, _≤_}

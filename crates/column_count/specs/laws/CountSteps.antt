@@ -7,6 +7,7 @@ use native.Mathlib.Nat.{mul-le-mul, mod-lt}
 use native.Mathlib.Omega.{arith}
 use lib.Pow.{pow-mono, pow-pos}
 use Rattle.refusal.specs.Said.{at}
+use Rattle.refusal.specs.Answer.{gives, refuses}
 use Rattle.bits.specs.declared.Got.{Got}
 use Rattle.bits.specs.declared.Got.the-variants as got
 use Rattle.bits.specs.declared.Place.{Place}
@@ -17,14 +18,14 @@ use Rattle.bits.specs.laws.Laws.{read-whole, was-value, was-end, value-at, ende
 use Rattle.coded_numbers.specs.laws.Exponent.{exponent-least}
 use Rattle.lf_group.specs.Blocks.{sizeFits, modesFit, bwIn, bhIn}
 use Rattle.lf_group.specs.laws.Bounds.{bw-most, bh-most}
-use Rattle.column_count.specs.Count.{count, refused, plusOne, fieldBits, countOf}
+use Rattle.column_count.specs.Count.{counts, plusOne, fieldBits, countOf}
 
 module _ (width height : ℕ) (modes bytes : List ℕ) where
-  pub count-size : sizeFits width height ≡ false → refused (at 2 0 0) ≡ countOf width height modes bytes
+  pub count-size : sizeFits width height ≡ false → refuses (at 2 0 0) ≡ countOf width height modes bytes
   unfolding countOf
   count-size a = rw a
 
-  pub count-modes : sizeFits width height ≡ true → modesFit modes ≡ false → refused (at 11 0 0) ≡ countOf width height modes bytes
+  pub count-modes : sizeFits width height ≡ true → modesFit modes ≡ false → refuses (at 11 0 0) ≡ countOf width height modes bytes
   unfolding countOf
   count-modes a b = rw (a, b)
 
@@ -44,12 +45,12 @@ module _ (width height : ℕ) (modes bytes : List ℕ) where
       unfolding countOf
       read = rw (a, b, c)
 
-      pub count-value : (v : ℕ) (q : Place) → g ≡ got.Value v q → count (1 + v) n ≡ countOf width height modes bytes
+      pub count-value : (v : ℕ) (q : Place) → g ≡ got.Value v q → gives (counts (1 + v) n) ≡ countOf width height modes bytes
       count-value v q f =
           let w = was-value 0 (readBits bytes 0 n) v q (sym whole ∙ f) in
           let l = value-at bytes 0 n v (w .at) (w .is) in
           let k : n ≡ w .at = omega arith in
-          ap (λ (i : ℕ). count (1 + v) i) k ∙ sym (read ∙ ap plusOne (w .is))
+          ap (λ (i : ℕ). gives (counts (1 + v) i)) k ∙ sym (read ∙ ap plusOne (w .is))
 
       -- the number fits in 16 bits
       pub count-small : (v : ℕ) (q : Place) → Bytes bytes → g ≡ got.Value v q → v < 65536
@@ -63,8 +64,8 @@ module _ (width height : ℕ) (modes bytes : List ℕ) where
           let m : number bytes / 2 ^ 0 % 2 ^ n < 2 ^ n = mod-lt (number bytes / 2 ^ 0) (pow-pos n) in
           omega arith
 
-      pub count-end : (k : ℕ) → g ≡ got.End k → refused (at 3 0 0) ≡ countOf width height modes bytes
+      pub count-end : (k : ℕ) → g ≡ got.End k → refuses (at 3 0 0) ≡ countOf width height modes bytes
       count-end k f =
           let w = was-end 0 (readBits bytes 0 n) k (sym whole ∙ f) in
           let l : 0 ≡ w .at = sym (ended-at bytes 0 n (w .at) (w .is)) in
-          ap (λ (i : ℕ). refused (at 3 i 0)) l ∙ sym (read ∙ ap plusOne (w .is))
+          ap (λ (i : ℕ). refuses (at 3 i 0)) l ∙ sym (read ∙ ap plusOne (w .is))

@@ -1,4 +1,4 @@
--- Laws: Every filter strength under the limits is finite: its size is at most 65,504 × 65,536 × 65,504
+-- Every filter strength under the limits is finite: its size is at most 65,504 × 65,536 × 65,504.
 use mathlib.Core.Path.{_≡_, refl, sym, ap, _∙_, subst}
 use mathlib.Core.Bool.{Bool, true, false, not, _&&_, _||_, cond, true≢false}
 use mathlib.Core.List.{List}

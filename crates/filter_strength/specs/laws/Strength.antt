@@ -1,4 +1,4 @@
--- Laws: Filter strength of a block (document 01, Layout and filter strength): in f32, each step rounded once,
+-- The nearest f32 of a whole number: M8, and ties.
 use mathlib.Core.Path.{_≡_, refl}
 use mathlib.Core.Bool.{false}
 use lib.IntN.{pos}

@@ -4,13 +4,11 @@ use Rattle.hf_block_context.specs.laws.Parts.{kept-zeros}
 use Rattle.hf_block_context.proofs.parse.Statement.{statement}
 use Rattle.hf_block_context.proofs.parse.Tie as tie
 
-parse-into-requires : tie.Need-parse-into-requires
-parse-into-requires c κs = search needs
-
 returns : tie.Need-returns
 returns c =
     let a = c .before .before .before .before .before .before .before .args in
     c .before .parse-into .ensures ∙ kept-zeros (a .bytes .now) (a .num-clusters) (a .map .now)
 
 pub parse-spec : {M : Type 1} → statement M
-parse-spec = tie.close (tie.spec parse-into-requires returns)
+parse-spec =
+    tie.close (tie.spec (λ c κs. search needs) returns)

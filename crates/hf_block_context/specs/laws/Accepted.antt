@@ -72,7 +72,7 @@ unfolding contextsOf fitOf bsizeOf
 default-fit = refl
 
 -- what is accepted is fit
-abbrev pub Fits : Outcome → Type 0
+abbrev Fits : Outcome → Type 0
 Fits o = (t : ℕ) → o .answer ≡ gives t → fit (o .contexts) ≡ true
 
 ended-fit : {A : Type 0} (r : Read A) (k : A → ℕ → Outcome) → ((l : A) (at : ℕ) → r ≡ Value l at → Fits (k l at)) → Fits (orEnded r k)
@@ -87,9 +87,9 @@ judged-fit count map l at k = go (judged count map (lengthsOf l)) refl
     go (gives u) j t e = let p = judged-passed count map (lengthsOf l) u j in stored-fit count map l k (p .0) (p .1) (p .2) (p .3) (p .4)
 
 -- document 01, Block contexts: a record of the context call is never refused with 12
-pub accepted-fit : (s : List ℕ) → Bytes s → (count : ℕ) (map : List ℕ) → Fits (parsed s count map)
+pub accepted-fit : (s : List ℕ) → Bytes s → (count : ℕ) (map : List ℕ) (at : ℕ) → parsed s count map .answer ≡ gives at → fit (parsed s count map .contexts) ≡ true
 unfolding parsed
-accepted-fit s h count map = ended-fit (readBits s 0 1) (byFirst s count map) (λ first at i. go (eqb first 1) at)
+accepted-fit s h count map t e = ended-fit (readBits s 0 1) (byFirst s count map) (λ first at i. go (eqb first 1) at) t e
   where
     go : (b : Bool) (at : ℕ) → Fits (cond b (accepted at (contextsOf 15 noLists DEFAULT-MAP)) (orEnded (readLists s at) (judgedLists count map)))
     go true at t e = default-fit

@@ -65,6 +65,6 @@ plain-first : (b : Bool) (bytes : List ℕ) (count : ℕ) (map : List ℕ) (at :
 plain-first true bytes count map at = refl
 plain-first false bytes count map at = plain-ended (readLists bytes at) (judgedLists count map) (λ l p. plain-judged (judged count map _) p _)
 
-pub kept-zeros : (bytes : List ℕ) (count : ℕ) (map : List ℕ) → Plain (parsed bytes count map)
+pub kept-zeros : (bytes : List ℕ) (count : ℕ) (map : List ℕ) → orKept (parsed bytes count map) (replicate 45 0) (replicate 15 0) (replicate 2496 0) ≡ parsed bytes count map
 unfolding parsed
 kept-zeros bytes count map = plain-ended (readBits bytes 0 1) (byFirst bytes count map) (λ first at. plain-first (eqb first 1) bytes count map at)

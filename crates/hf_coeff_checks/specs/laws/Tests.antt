@@ -9,9 +9,10 @@ use lib.Dec.{T, leb, eqb}
 use lib.ListN.{length}
 use borrow.Author.Tests.{le-leb, eq-eqb}
 use Rattle.layout.specs.Check.{isLayout}
-use Rattle.block_check.specs.declared.Checked.{Checked}
-use Rattle.block_check.specs.declared.Checked.the-variants as checked
-use Rattle.block_check.specs.Calls.{Answer, gives, refuses, unless, saidCheck, checkOf}
+use Rattle.refusal.specs.declared.Checked.{Checked}
+use Rattle.refusal.specs.declared.Checked.the-variants.{Fine, Refused}
+use Rattle.refusal.specs.Answer.{Answer, gives, refuses, unless, checked}
+use Rattle.block_check.specs.Calls.{checkOf}
 use Rattle.block_sides.specs.Limits.{inLimits, lengthsFit as cellsFit}
 use Rattle.hf_pass_store.specs.Store.{PLACES}
 use Rattle.hf_coeff_checks.specs.Checks.{threeFit}
@@ -43,8 +44,8 @@ groupPasses bw bh kinds hfMul = passes (checkOf 32 bw bh kinds hfMul)
 
 -- what the check answered, as a test
 abbrev pub isFine : Checked → Bool
-isFine checked.Fine = true
-isFine (checked.Refused why) = false
+isFine Fine = true
+isFine (Refused why) = false
 
 -- tests that hold together
 pub two : (a b : Bool) → T (a && b) → T a × T b
@@ -76,6 +77,6 @@ passes-is bw bh kinds hfMul a k m = rw (a, eq-eqb (length kinds) (bh * bw) k, eq
     go true = refl
     go false = refl
 
-pub passes-by : (bw bh : ℕ) (kinds hfMul : List ℕ) (r : Checked) → saidCheck r ≡ checkOf 32 bw bh kinds hfMul → isFine r ≡ groupPasses bw bh kinds hfMul
-passes-by bw bh kinds hfMul checked.Fine e = rw (← e)
-passes-by bw bh kinds hfMul (checked.Refused why) e = rw (← e)
+pub passes-by : (bw bh : ℕ) (kinds hfMul : List ℕ) (r : Checked) → checked r ≡ checkOf 32 bw bh kinds hfMul → isFine r ≡ groupPasses bw bh kinds hfMul
+passes-by bw bh kinds hfMul Fine e = rw (← e)
+passes-by bw bh kinds hfMul (Refused why) e = rw (← e)

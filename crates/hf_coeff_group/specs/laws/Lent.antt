@@ -13,8 +13,7 @@ use Rattle.refusal.specs.declared.Refusal.the-variants.{Length}
 use Rattle.block_sizes.specs.BlockSizes.{widthOf, heightOf}
 use Rattle.block_check.specs.declared.Group.{Group}
 use Rattle.hf_pass_store.specs.declared.Stretch.{Stretch}
-use Rattle.hf_pass_store.specs.Store.{PLACES}
-use Rattle.hf_pass_store.specs.Offsets.{from}
+use Rattle.hf_pass_store.specs.Store.{PLACES, from}
 use Rattle.hf_pass_store.specs.LookedUp.{stretchFrom, stretchAt}
 use Rattle.hf_coeff_walk.specs.declared.Walk.the-variants.{Stopped}
 use Rattle.hf_coeff_group.specs.declared.plan.Plan.{Plan}

@@ -13,7 +13,8 @@ use Rattle.dct_select.specs.declared.TransformType.{TransformType}
 use Rattle.dct_select.specs.declared.TransformType.the-variants.{Dct8, Hornuss, Dct2, Dct4, Dct16, Dct32, Dct16x8, Dct8x16, Dct32x8, Dct8x32, Dct32x16, Dct16x32, Dct4x8, Dct8x4, Afv0, Afv1, Afv2, Afv3, Dct64, Dct64x32, Dct32x64, Dct128, Dct128x64, Dct64x128, Dct256, Dct256x128, Dct128x256}
 use Rattle.refusal.specs.Said as refusals
 use Rattle.dct_select.specs.Transforms.{Row, row, TRANSFORMS, wide, high, orderOf, turns}
-use Rattle.dct_select.specs.LookUp.{Answer, finds, refuses, numberOf, known, lookUp}
+use Rattle.refusal.specs.Answer.{Answer, gives, refuses}
+use Rattle.dct_select.specs.LookUp.{numberOf, known, lookUp}
 use Rattle.layout.specs.Grid.{at}
 use Rattle.block_check.specs.declared.Group.{Group}
 use Rattle.hf_pass_store.specs.Store.{PLACES, stretch}
@@ -96,8 +97,8 @@ number-lt Dct256 = omega arith
 number-lt Dct256x128 = omega arith
 number-lt Dct128x256 = omega arith
 
-abbrev numberBy : Answer → ℕ
-numberBy (finds t) = numberOf t
+abbrev numberBy : Answer TransformType → ℕ
+numberBy (gives t) = numberOf t
 numberBy (refuses r) = 27
 
 abbrev same : ℕ → ℕ
@@ -112,7 +113,7 @@ none-at : (t : ℕ) → 27 ≤ t → lookUp t ≡ refuses (refusals.at 5 0 0)
 none-at t h = List·getD-eq-default known (refuses (refusals.at 5 0 0)) {n = t} h
 
 -- the number of a known transform is below 27, and of an unknown not
-found : (t n : ℕ) (l : Answer) → lookUp t ≡ l → numberBy l ≡ n → (n < 27 → (t < 27) × (n ≡ t)) × (27 ≤ n → 27 ≤ t)
+found : (t n : ℕ) (l : Answer TransformType) → lookUp t ≡ l → numberBy l ≡ n → (n < 27 → (t < 27) × (n ≡ t)) × (27 ≤ n → 27 ≤ t)
 found t n l e f = go (decLt t 27)
   where
     here : numberBy (lookUp t) ≡ n
@@ -122,8 +123,8 @@ found t n l e f = go (decLt t 27)
     go (yes h) = let a = number-at t h in ((λ k. (h, sym here ∙ a)), (λ k. absurd (omega (arith, here))))
     go (no h) = let a : numberBy (lookUp t) ≡ 27 = ap numberBy (none-at t (omega arith)) in ((λ k. absurd (omega (arith, here))), (λ k. omega arith))
 
-abbrev pub shapeBy : ℕ → ℕ → ℕ → Answer → Shape
-shapeBy x y exponent (finds t) = record { x = x; y = y; wide = wide (numberOf t); exponent = exponent; turn = turns (numberOf t) }
+abbrev pub shapeBy : ℕ → ℕ → ℕ → Answer TransformType → Shape
+shapeBy x y exponent (gives t) = record { x = x; y = y; wide = wide (numberOf t); exponent = exponent; turn = turns (numberOf t) }
 shapeBy x y exponent (refuses r) = record { x = x; y = y; wide = 0; exponent = 0; turn = true }
 
 wide-none : (t : ℕ) → 27 ≤ t → wide t ≡ 0
@@ -152,16 +153,16 @@ turns-none t h = rw (lt-leb t 3 (omega arith), lt-leb t 17 (omega arith), wide-n
     sides false true = refl
     sides false false = refl
 
-pub shape-at : (x y t : ℕ) (l : Answer) → lookUp t ≡ l → shapeBy x y (exponentOf t) l ≡ shapeOf x y t
-shape-at x y t (finds u) e = let f = found t (numberOf u) (finds u) e refl in rw (f .0 (number-lt u) .1)
+pub shape-at : (x y t : ℕ) (l : Answer TransformType) → lookUp t ≡ l → shapeBy x y (exponentOf t) l ≡ shapeOf x y t
+shape-at x y t (gives u) e = let f = found t (numberOf u) (gives u) e refl in rw (f .0 (number-lt u) .1)
 shape-at x y t (refuses r) e =
     let h : 27 ≤ t = found t 27 (refuses r) e refl .1 (omega arith) in
     rw (wide-none t h, exponent-none t h, turns-none t h)
 
-abbrev pub orderBy : Answer → ℕ
-orderBy (finds t) = orderOf (numberOf t)
+abbrev pub orderBy : Answer TransformType → ℕ
+orderBy (gives t) = orderOf (numberOf t)
 orderBy (refuses r) = 0
 
-pub order-by : (t : ℕ) (l : Answer) → lookUp t ≡ l → orderBy l ≡ orderOf t
-order-by t (finds u) e = let f = found t (numberOf u) (finds u) e refl in ap orderOf (f .0 (number-lt u) .1)
+pub order-by : (t : ℕ) (l : Answer TransformType) → lookUp t ≡ l → orderBy l ≡ orderOf t
+order-by t (gives u) e = let f = found t (numberOf u) (gives u) e refl in ap orderOf (f .0 (number-lt u) .1)
 order-by t (refuses r) e = let h : 27 ≤ t = found t 27 (refuses r) e refl .1 (omega arith) in sym (order-none t h)

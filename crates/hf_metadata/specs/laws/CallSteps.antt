@@ -5,34 +5,35 @@ use mathlib.Core.List.{List}
 use Prim.Native.Nat.{ℕ, _≤_}
 use native.Mathlib.Omega.{arith}
 use borrow.Author.Tests.{le-leb}
+use Rattle.refusal.specs.Said.{at}
 use Rattle.lf_group.specs.declared.Blocks.{Blocks}
 use Rattle.lf_group.specs.Blocks.{sizeFits, modesFit, bwIn, bhIn}
-use Rattle.lf_group.specs.laws.Blocks.{blocksOf}
-use Rattle.lf_group.specs.laws.Bounds.{bw-most, bh-most}
+use Rattle.lf_group.specs.laws.Bounds.{blocksOf, bw-most, bh-most}
 use Rattle.layout_reading.specs.declared.column.Step.{Step}
 use Rattle.layout_reading.specs.declared.column.Step.the-variants.{Going as GoesOn, Stopped as Stops}
 use Rattle.layout_reading.specs.Reading.{Job, jobBy}
-use Rattle.layout_reading.specs.laws.Outcome.{handed, readOf}
+use Rattle.refusal.specs.laws.Answer.{answered-by}
+use Rattle.layout_reading.specs.laws.Outcome.{Told, handed, readChecks, readOf}
 use Rattle.hf_metadata.specs.declared.LayoutAnswer.{LayoutAnswer}
 use Rattle.hf_metadata.specs.declared.LayoutAnswer.the-variants.{Accepted, Refused}
-use Rattle.hf_metadata.specs.Call.{leaves, Inputs, refuseWith, layoutOf}
+use Rattle.hf_metadata.specs.Call.{leaves, Inputs, refuse, layoutOf}
 
 -- what a reading answers is the call's answer
 abbrev pub answerBy : Step → LayoutAnswer
 answerBy (GoesOn used) = Accepted used
-answerBy (Stops r) = Refused r
+answerBy (Stops n r) = Refused r
 
-hands-on : (s : Step) (k m g : List ℕ) → leaves (answerBy s) k m g ≡ handed s k m g
+hands-on : (s : Step) (k m g : List ℕ) → leaves (answerBy s) k m g ≡ handed s k m g .outcome
 hands-on (GoesOn used) k m g = refl
-hands-on (Stops r) k m g = refl
+hands-on (Stops n r) k m g = refl
 
 module _ (i : Inputs) (k m g : List ℕ) where
-  pub call-size : sizeFits (i .width) (i .height) ≡ false → refuseWith i k m g 2 ≡ layoutOf i k m g
+  pub call-size : sizeFits (i .width) (i .height) ≡ false → refuse i k m g (at 2 0 0) ≡ layoutOf i k m g
   unfolding layoutOf
   call-size a = rw a
 
   module _ (a : sizeFits (i .width) (i .height) ≡ true) where
-    pub call-modes : modesFit (i .modes) ≡ false → refuseWith i k m g 11 ≡ layoutOf i k m g
+    pub call-modes : modesFit (i .modes) ≡ false → refuse i k m g (at 11 0 0) ≡ layoutOf i k m g
     unfolding layoutOf
     call-modes b = rw (a, b)
 
@@ -42,9 +43,10 @@ module _ (i : Inputs) (k m g : List ℕ) where
 
       -- the reading refuses the filter's numbers, then lengths, that do not fit
       reads : (bw bh : ℕ) → bw ≤ 256 → bh ≤ 256 → bw ≡ bwIn (i .width) (i .modes) → bh ≡ bhIn (i .height) (i .modes)
-          → readOf (jobIn bw bh) k m g (i .filter) (i .scale) ≡ layoutOf i k m g
+          → readOf (jobIn bw bh) k m g (i .filter) (i .scale) .outcome ≡ layoutOf i k m g
       unfolding layoutOf readOf
-      reads bw bh w h p q = rw (a, b, le-leb bw 256 w, le-leb bh 256 h) (rw (p, q))
+      reads bw bh w h p q =
+          answered-by (λ (z : Told). z .outcome) (readChecks (jobIn bw bh) k m g (i .filter) (i .scale)) _ _ ∙ rw (a, b, le-leb bw 256 w, le-leb bh 256 h) (rw (p, q))
 
       pub call-reads : (blocks : Blocks) → blocks ≡ blocksOf (i .width) (i .height) (i .modes)
           → (r : LayoutAnswer) (s : Step) (k′ m′ g′ : List ℕ) → r ≡ answerBy s
@@ -54,5 +56,5 @@ module _ (i : Inputs) (k m g : List ℕ) where
           let w : blocks .bw ≡ bwIn (i .width) (i .modes) = ap (λ (z : Blocks). z .bw) p in
           let v : blocks .bh ≡ bhIn (i .height) (i .modes) = ap (λ (z : Blocks). z .bh) p in
           rw e
-          (hands-on s k′ m′ g′ ∙ h
+          (hands-on s k′ m′ g′ ∙ ap (λ (z : Told). z .outcome) h
           ∙ reads (blocks .bw) (blocks .bh) (omega (arith, bw-most (i .width) (i .height) a (i .modes))) (omega (arith, bh-most (i .width) (i .height) a (i .modes))) w v)

@@ -13,8 +13,7 @@ use Rattle.laws.specs.Tables.{every}
 use Rattle.refusal.specs.declared.Refusal.{Refusal}
 use Rattle.block_sizes.specs.BlockSizes.{BLOCK-SIZES, widthOf, heightOf}
 use Rattle.natural_order.specs.laws.Sizes.{right, of-right, all-right}
-use Rattle.hf_pass.specs.Reading.{Reading, Given, Refused, Entry, entry, plan, wanted, orders}
-use Rattle.hf_pass.specs.Read.{Stops}
+use Rattle.hf_pass.specs.Orders.{FromSymbols, Given, Refused, Entry, entry, plan, isUsed, orders, Stops}
 use Rattle.hf_pass.specs.laws.Read.{Holds, ListGiven, Sized, Each, AllGiven, lists-give}
 
 plan-sized : (used k : ℕ) (ss : List Place) → T (every right ss) → Sized (plan used k ss)
@@ -28,11 +27,11 @@ plan-length used k [] = refl
 plan-length used k (s ∷ ss) = let r = plan-length used (k + 1) ss in omega arith
 
 -- entry 3 k + c is order o + k
-plan-from : (used o : ℕ) (ss : List Place) (k c : ℕ) (d : Entry) → k < length ss → c < 3 → getD (plan used o ss) (3 * k + c) d ≡ entry (wanted used (o + k)) (getD ss k (0, 0))
+plan-from : (used o : ℕ) (ss : List Place) (k c : ℕ) (d : Entry) → k < length ss → c < 3 → getD (plan used o ss) (3 * k + c) d ≡ entry (isUsed used (o + k)) (getD ss k (0, 0))
 plan-from used o [] k c d h l = absurd (not-suc-le-zero h)
 plan-from used o (s ∷ ss) zero c d h l = let e : o + 0 ≡ o = omega arith in rw e (go c l)
   where
-    go : (c : ℕ) → c < 3 → getD (plan used o (s ∷ ss)) (0 + c) d ≡ entry (wanted used o) s
+    go : (c : ℕ) → c < 3 → getD (plan used o (s ∷ ss)) (0 + c) d ≡ entry (isUsed used o) s
     go zero l = refl
     go (suc zero) l = refl
     go (suc (suc zero)) l = refl
@@ -43,8 +42,8 @@ plan-from used o (s ∷ ss) (suc k) c d h l =
     rw (i, ← e) (plan-from used (o + 1) ss k c d (le-of-suc-le-suc h) l)
 
 -- and order k from the first on
-pub plan-at : (used : ℕ) (ss : List Place) (k c : ℕ) (d : Entry) → k < length ss → c < 3 → getD (plan used 0 ss) (3 * k + c) d ≡ entry (wanted used k) (getD ss k (0, 0))
-plan-at used ss k c d h l = plan-from used 0 ss k c d h l ∙ ap (λ (j : ℕ). entry (wanted used j) (getD ss k (0, 0))) (zero-add k)
+pub plan-at : (used : ℕ) (ss : List Place) (k c : ℕ) (d : Entry) → k < length ss → c < 3 → getD (plan used 0 ss) (3 * k + c) d ≡ entry (isUsed used k) (getD ss k (0, 0))
+plan-at used ss k c d h l = plan-from used 0 ss k c d h l ∙ ap (λ (j : ℕ). entry (isUsed used j) (getD ss k (0, 0))) (zero-add k)
 
 each-length : (es : List Entry) (ls : List (List Place)) → Each es ls → length ls ≡ length es
 each-length [] [] h = refl
@@ -52,7 +51,7 @@ each-length [] (l ∷ ls) h = absurd h
 each-length (e ∷ es) [] h = absurd h
 each-length (e ∷ es) (l ∷ ls) h = ap suc (each-length es ls (h .1))
 
-each-at : (es : List Entry) (ls : List (List Place)) → Each es ls → (i : ℕ) (d : Entry) → i < length es → ListGiven (getD es i d .used) (getD es i d .bw) (getD es i d .bh) (getD ls i [])
+each-at : (es : List Entry) (ls : List (List Place)) → Each es ls → (i : ℕ) (d : Entry) → i < length es → ListGiven (getD es i d .used) (getD es i d .width) (getD es i d .height) (getD ls i [])
 each-at [] ls h i d l = absurd (not-suc-le-zero l)
 each-at (e ∷ es) [] h i d l = absurd h
 each-at (e ∷ es) (m ∷ ls) h zero d l = h .0
@@ -62,7 +61,7 @@ each-at (e ∷ es) (m ∷ ls) h (suc i) d l = each-at es ls (h .1) i d (le-of-su
 pub record Accepted (used : ℕ) (us : List ℕ) (ls : List (List Place)) (vs : List ℕ) (m : ℕ) : Type 0 where
   pub entries : Each (plan used 0 BLOCK-SIZES) ls
   pub many : length ls ≡ 39
-  pub list : (k c : ℕ) → k < 13 → c < 3 → ListGiven (wanted used k) (widthOf k) (heightOf k) (getD ls (3 * k + c) [])
+  pub list : (k c : ℕ) → k < 13 → c < 3 → ListGiven (isUsed used k) (widthOf k) (heightOf k) (getD ls (3 * k + c) [])
   pub read : m + length vs ≡ length us
 
 accept : (used : ℕ) (us : List ℕ) (ls : List (List Place)) (vs : List ℕ) (m : ℕ) → AllGiven (plan used 0 BLOCK-SIZES) 0 (length us) ls vs m → Accepted used us ls vs m
@@ -77,10 +76,10 @@ accept used us ls vs m g =
       read = g .1 .left;
     }
 
-pub given : {A : Type 0} (P : A → List ℕ → ℕ → Type 0) (Q : Refusal → Type 0) (r : Reading A) (a : A) (us : List ℕ) (at : ℕ) → r ≡ Given a us at → Holds P Q r → P a us at
+pub given : {A : Type 0} (P : A → List ℕ → ℕ → Type 0) (Q : Refusal → Type 0) (r : FromSymbols A) (a : A) (us : List ℕ) (at : ℕ) → r ≡ Given a us at → Holds P Q r → P a us at
 given P Q r a us at e h = rw e at h
 
-refused : {A : Type 0} (P : A → List ℕ → ℕ → Type 0) (Q : Refusal → Type 0) (r : Reading A) (why : Refusal) → r ≡ Refused why → Holds P Q r → Q why
+refused : {A : Type 0} (P : A → List ℕ → ℕ → Type 0) (Q : Refusal → Type 0) (r : FromSymbols A) (why : Refusal) → r ≡ Refused why → Holds P Q r → Q why
 refused P Q r why e h = rw e at h
 
 whole : (used : ℕ) (us : List ℕ) → Holds (AllGiven (plan used 0 BLOCK-SIZES) 0 (length us)) (Stops 0 (length us)) (orders used us)

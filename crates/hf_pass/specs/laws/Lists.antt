@@ -13,10 +13,10 @@ use borrow.Author.Tests.{lt-ltb, le-leb, lt-leb}
 use Rattle.refusal.specs.declared.Refusal.the-variants as refusal
 use Rattle.natural_order.specs.Places.{Place, flat, paired}
 use Rattle.natural_order.specs.Natural.{natural}
-use Rattle.natural_order.specs.Sizes.{Size}
+use Rattle.natural_order.specs.Order.{Size}
 use Rattle.natural_order.specs.laws.Sizes.{not-higher}
 use Rattle.natural_order.specs.laws.Turns.{natural-numbers}
-use Rattle.natural_order.specs.laws.Facts.{natural-facts}
+use Rattle.natural_order.specs.laws.Order.{natural-facts}
 use Rattle.permutation.specs.Digits.{ordered}
 use Rattle.permutation_digits.specs.laws.Leading.{leading, leading-most}
 use Rattle.permutation.specs.laws.Permuted.{allBelow, permuted}
@@ -24,10 +24,10 @@ use Rattle.natural_order.specs.laws.Flat.{paired-flat}
 use Rattle.permutation.specs.laws.Permuting.{moved}
 use Rattle.hf_pass.specs.declared.OrdersAnswer.{OrdersAnswer}
 use Rattle.hf_pass.specs.declared.OrdersAnswer.the-variants as answer
-use Rattle.hf_pass.specs.Reading.{Reading, Given, Refused, then, check, digits, oneList, entryList}
+use Rattle.hf_pass.specs.Orders.{FromSymbols, Given, Refused, andThen, check, digits, byDigits, oneList, entryList}
 
 -- the answer and the list that a reading asks for; a refused list is not asked about
-abbrev pub Listed : Reading (List Place) → OrdersAnswer → List ℕ → Type 0
+abbrev pub Listed : FromSymbols (List Place) → OrdersAnswer → List ℕ → Type 0
 Listed (Given l us at) r f = (r ≡ answer.Accepted at) × (f ≡ flat l)
 Listed (Refused why) r f = r ≡ answer.Refused why
 
@@ -50,7 +50,7 @@ digits-large (suc n) left (u ∷ us) at (suc many) a b h = go (ltb u left) h (di
   where
     go : (ok : Bool) → cond ok (suc (leading (take many us) (left - 1))) 0 < suc many
         → (leading (take many us) (left - 1) < many → digits n (left - 1) us (at + 1) ≡ Refused (refusal.Order (at + 1 + leading (take many us) (left - 1) + 1)))
-        → check ok (at + 1) (then (digits n (left - 1) us (at + 1)) (λ ds. Given (u ∷ ds))) ≡ Refused (refusal.Order (at + cond ok (suc (leading (take many us) (left - 1))) 0 + 1))
+        → check ok (at + 1) (andThen (digits n (left - 1) us (at + 1)) (λ ds. Given (u ∷ ds))) ≡ Refused (refusal.Order (at + cond ok (suc (leading (take many us) (left - 1))) 0 + 1))
     go true h r =
         let e : at + 1 + leading (take many us) (left - 1) + 1 ≡ at + suc (leading (take many us) (left - 1)) + 1 = omega arith in
         rw (r (omega arith), e)
@@ -64,7 +64,7 @@ digits-short (suc n) left (u ∷ us) at a e = go (ltb u left) e (digits-short n 
   where
     go : (ok : Bool) → cond ok (suc (leading us (left - 1))) 0 ≡ suc (length us)
         → (leading us (left - 1) ≡ length us → digits n (left - 1) us (at + 1) ≡ Refused (refusal.SymbolsEnd (at + 1 + length us)))
-        → check ok (at + 1) (then (digits n (left - 1) us (at + 1)) (λ ds. Given (u ∷ ds))) ≡ Refused (refusal.SymbolsEnd (at + suc (length us)))
+        → check ok (at + 1) (andThen (digits n (left - 1) us (at + 1)) (λ ds. Given (u ∷ ds))) ≡ Refused (refusal.SymbolsEnd (at + suc (length us)))
     go true h r = let f : at + 1 + length us ≡ at + suc (length us) = omega arith in rw (r (omega arith), f)
     go false h r = absurd (omega arith)
 
@@ -76,7 +76,7 @@ digits-all (suc n) left (u ∷ us) at a e = go (ltb u left) e (digits-all n (lef
   where
     go : (ok : Bool) → cond ok (suc (leading (take n us) (left - 1))) 0 ≡ suc n
         → (leading (take n us) (left - 1) ≡ n → digits n (left - 1) us (at + 1) ≡ Given (take n us) (drop n us) (at + 1 + n))
-        → check ok (at + 1) (then (digits n (left - 1) us (at + 1)) (λ ds. Given (u ∷ ds))) ≡ Given (u ∷ take n us) (drop n us) (at + suc n)
+        → check ok (at + 1) (andThen (digits n (left - 1) us (at + 1)) (λ ds. Given (u ∷ ds))) ≡ Given (u ∷ take n us) (drop n us) (at + suc n)
     go true h r = let f : at + 1 + n ≡ at + suc n = omega arith in rw (r (omega arith), f)
     go false h r = absurd (omega arith)
 
@@ -87,83 +87,83 @@ flat-below m (p ∷ l) f =
     let a = f 0 (omega arith) in
     rw (lt-ltb (p .0) m (a .0), lt-ltb (p .1) m (a .1)) (flat-below m l (λ i b. f (suc i) (omega arith)))
 
-module _ (bw bh : ℕ) (z : Size bw bh) (narrow : bw ≤ 256) (small : bw * bh ≤ 65536) where
+module _ (width height : ℕ) (z : Size width height) (narrow : width ≤ 256) (small : width * height ≤ 65536) where
   -- the natural order can be permuted in place
-  natural-permuted : (ds : List ℕ) → leading ds (bw * bh - bw * bh / 64) ≡ length ds
-      → permuted (flat (natural bw bh)) (bw * bh / 64) ds ≡ flat (ordered (0, 0) (bw * bh / 64) (natural bw bh) ds)
+  natural-permuted : (ds : List ℕ) → leading ds (width * height - width * height / 64) ≡ length ds
+      → permuted (flat (natural width height)) (width * height / 64) ds ≡ flat (ordered (0, 0) (width * height / 64) (natural width height) ds)
   natural-permuted ds e =
-      let l = flat (natural bw bh) in
-      let n : length l ≡ 2 * (bw * bh) = natural-numbers bw bh z in
-      let half : length l / 2 ≡ bw * bh = omega arith in
-      let inside = natural-facts bw bh z .inside in
-      let below = flat-below 256 (natural bw bh) (λ i h. let f = inside i h in (omega (arith, f .0), omega (arith, f .1, not-higher bw bh z))) in
-      let e' : leading ds (length l / 2 - bw * bh / 64) ≡ length ds = rw half e in
-      let m = moved l (bw * bh / 64) ds (omega arith) (omega arith) (omega (arith, div-le-self (bw * bh) 64)) below (flat (ordered (0, 0) (bw * bh / 64) (paired l) ds)) e' refl in
-      sym (m .1) ∙ rw (paired-flat (natural bw bh))
+      let l = flat (natural width height) in
+      let n : length l ≡ 2 * (width * height) = natural-numbers width height z in
+      let half : length l / 2 ≡ width * height = omega arith in
+      let inside = natural-facts width height z .inside in
+      let below = flat-below 256 (natural width height) (λ i h. let f = inside i h in (omega (arith, f .0), omega (arith, f .1, not-higher width height z))) in
+      let e' : leading ds (length l / 2 - width * height / 64) ≡ length ds = rw half e in
+      let m = moved l (width * height / 64) ds (omega arith) (omega arith) (omega (arith, div-le-self (width * height) 64)) below (flat (ordered (0, 0) (width * height / 64) (paired l) ds)) e' refl in
+      sym (m .1) ∙ rw (paired-flat (natural width height))
 
-  module _ (symbols : List ℕ) (start : ℕ) where
-    abbrev pub wholeList : Bool → Reading (List Place)
-    wholeList used = entryList used bw bh (drop start symbols) start
+  -- n digits from symbol at on: `many` of them are there, `good` of those are below what remains
+  module _ (symbols : List ℕ) (at n many good : ℕ) (few : many ≤ n) (there : many ≤ length symbols - at)
+      (eg : good ≡ leading (take (at + many - at) (drop at symbols)) (width * height - width * height / 64)) where
+    many-by : at + many - at ≡ many
+    many-by = omega arith
 
-    pub list-unused : (used : Bool) (m : List ℕ) → used ≡ false → m ≡ flat (natural bw bh) → Listed (wholeList used) (answer.Accepted start) m
-    list-unused used m u e = rw u (refl, e)
+    good-by : good ≡ leading (take many (drop at symbols)) (width * height - width * height / 64)
+    good-by = rw many-by at eg
 
-    pub list-short : (used : Bool) (m : List ℕ) → used ≡ true → length symbols ≤ start → Listed (wholeList used) (answer.Refused (refusal.SymbolsEnd start)) m
+    there' : many ≤ length (drop at symbols)
+    there' = omega (arith, length-drop at symbols)
+
+    pub digits-too-large : (m : List ℕ) → good < many → Listed (byDigits width height n (drop at symbols) at) (answer.Refused (refusal.Order (at + good + 1))) m
+    digits-too-large m g =
+        let g' : leading (take many (drop at symbols)) (width * height - width * height / 64) < many = rw good-by at g in
+        rw (digits-large n (width * height - width * height / 64) (drop at symbols) at many few there' g', good-by) refl
+
+    all-good : many ≤ good → leading (take many (drop at symbols)) (width * height - width * height / 64) ≡ many
+    all-good g = let us = drop at symbols in omega (arith, good-by, leading-most (take many us) (width * height - width * height / 64), length-take-le many us there')
+
+    pub digits-ended : (m : List ℕ) → many ≤ good → many < n → many ≡ length symbols - at → Listed (byDigits width height n (drop at symbols) at) (answer.Refused (refusal.SymbolsEnd (at + many))) m
+    digits-ended m g f e =
+        let us = drop at symbols in
+        let l : many ≡ length us = omega (arith, length-drop at symbols) in
+        let t : take many us ≡ us = take-all many us (omega arith) in
+        let a : leading us (width * height - width * height / 64) ≡ length us = rw t at (all-good g) ∙ l in
+        rw (digits-short n (width * height - width * height / 64) us at (omega arith) a, l) refl
+
+    pub digits-read : (l m : List ℕ) → many ≤ good → n ≤ many → l ≡ flat (natural width height)
+        → m ≡ permuted l (width * height / 64) (take (at + many - at) (drop at symbols)) → Listed (byDigits width height n (drop at symbols) at) (answer.Accepted (at + many)) m
+    digits-read l m g f el em =
+        let us = drop at symbols in
+        let e : n ≡ many = omega arith in
+        let a = all-good g in
+        let a' : leading (take n us) (width * height - width * height / 64) ≡ n = rw e a in
+        let a'' : leading (take many us) (width * height - width * height / 64) ≡ length (take many us) = a ∙ sym (length-take-le many us there') in
+        let p : m ≡ flat (ordered (0, 0) (width * height / 64) (natural width height) (take many us)) = em ∙ rw (el, many-by) (natural-permuted (take many us) a'') in
+        rw (digits-all n (width * height - width * height / 64) us at (omega (arith, there')) a', e) (refl, p)
+
+-- the ways out of a list that its length, at symbol start, decides
+module _ (width height : ℕ) (symbols : List ℕ) (start : ℕ) (used : Bool) where
+  abbrev wholeList : FromSymbols (List Place)
+  wholeList = entryList used width height (drop start symbols) start
+
+  pub list-unused : (m : List ℕ) → used ≡ false → m ≡ flat (natural width height) → Listed wholeList (answer.Accepted start) m
+  list-unused m u e = rw u (refl, e)
+
+  pub list-short : (m : List ℕ) → used ≡ true → length symbols ≤ start → Listed wholeList (answer.Refused (refusal.SymbolsEnd start)) m
+  unfolding oneList
+  list-short m u h = rw (u, drop-of-length-le symbols h) refl
+
+  module _ (u : used ≡ true) (h : start < length symbols) (n : ℕ) (en : n ≡ getD symbols start 0) where
+    pub list-large : (m : List ℕ) → width * height - width * height / 64 < n → Listed wholeList (answer.Refused (refusal.Order (start + 1))) m
     unfolding oneList
-    list-short used m u h = rw (u, drop-of-length-le symbols h) refl
+    list-large m b =
+        let b' : width * height - width * height / 64 < getD symbols start 0 = rw en at b in
+        rw (u, drop-cons symbols start 0 h, lt-leb (getD symbols start 0) (width * height - width * height / 64) b') refl
 
-    -- the length is there
-    module _ (used : Bool) (u : used ≡ true) (h : start < length symbols) (n : ℕ) (en : n ≡ getD symbols start 0) where
-      pub list-large : (m : List ℕ) → bw * bh - bw * bh / 64 < n → Listed (wholeList used) (answer.Refused (refusal.Order (start + 1))) m
-      unfolding oneList
-      list-large m b =
-          let b' : bw * bh - bw * bh / 64 < getD symbols start 0 = rw en at b in
-          rw (u, drop-cons symbols start 0 h, lt-leb (getD symbols start 0) (bw * bh - bw * bh / 64) b') refl
+    by-digits : n ≤ width * height - width * height / 64 → entryList true width height (drop start symbols) start ≡ byDigits width height n (drop (start + 1) symbols) (start + 1)
+    unfolding oneList
+    by-digits b =
+        let b' : getD symbols start 0 ≤ width * height - width * height / 64 = rw en at b in
+        rw (drop-cons symbols start 0 h, le-leb (getD symbols start 0) (width * height - width * height / 64) b', en, add-one start)
 
-      -- and no longer than what is free
-      module _ (b : n ≤ bw * bh - bw * bh / 64) where
-        by-digits : wholeList true ≡ then (digits n (bw * bh - bw * bh / 64) (drop (start + 1) symbols) (start + 1)) (λ ds. Given (ordered (0, 0) (bw * bh / 64) (natural bw bh) ds))
-        unfolding oneList
-        by-digits =
-            let b' : getD symbols start 0 ≤ bw * bh - bw * bh / 64 = rw en at b in
-            rw (drop-cons symbols start 0 h, le-leb (getD symbols start 0) (bw * bh - bw * bh / 64) b', en, add-one start)
-
-        -- `many` digits are there, `good` of them are below what remains
-        module _ (many good : ℕ) (few : many ≤ n) (there : many ≤ length symbols - (start + 1))
-            (eg : good ≡ leading (take (start + 1 + many - (start + 1)) (drop (start + 1) symbols)) (bw * bh - bw * bh / 64)) where
-          good-by : good ≡ leading (take many (drop (start + 1) symbols)) (bw * bh - bw * bh / 64)
-          good-by = let e : start + 1 + many - (start + 1) ≡ many = omega arith in rw e at eg
-
-          there' : many ≤ length (drop (start + 1) symbols)
-          there' = omega (arith, length-drop (start + 1) symbols)
-
-          pub list-digit : (m : List ℕ) → good < many → Listed (wholeList used) (answer.Refused (refusal.Order (start + 1 + good + 1))) m
-          list-digit m g =
-              let us = drop (start + 1) symbols in
-              let g' : leading (take many us) (bw * bh - bw * bh / 64) < many = rw good-by at g in
-              rw (u, by-digits, digits-large n (bw * bh - bw * bh / 64) us (start + 1) many few there' g', good-by) refl
-
-          all-good : many ≤ good → leading (take many (drop (start + 1) symbols)) (bw * bh - bw * bh / 64) ≡ many
-          all-good g =
-              let us = drop (start + 1) symbols in
-              omega (arith, good-by, leading-most (take many us) (bw * bh - bw * bh / 64), length-take-le many us there')
-
-          pub list-ended : (m : List ℕ) → many ≤ good → many < n → many ≡ length symbols - (start + 1) → Listed (wholeList used) (answer.Refused (refusal.SymbolsEnd (start + 1 + many))) m
-          list-ended m g f e =
-              let us = drop (start + 1) symbols in
-              let l : many ≡ length us = omega (arith, length-drop (start + 1) symbols) in
-              let t : take many us ≡ us = take-all many us (omega arith) in
-              let a : leading us (bw * bh - bw * bh / 64) ≡ length us = rw t at (all-good g) ∙ l in
-              rw (u, by-digits, digits-short n (bw * bh - bw * bh / 64) us (start + 1) (omega arith) a, l) refl
-
-          pub list-read : (l m : List ℕ) → many ≤ good → n ≤ many → l ≡ flat (natural bw bh)
-              → m ≡ permuted l (bw * bh / 64) (take (start + 1 + many - (start + 1)) (drop (start + 1) symbols)) → Listed (wholeList used) (answer.Accepted (start + 1 + many)) m
-          list-read l m g f el em =
-              let us = drop (start + 1) symbols in
-              let e : n ≡ many = omega arith in
-              let c : start + 1 + many - (start + 1) ≡ many = omega arith in
-              let a = all-good g in
-              let a' : leading (take n us) (bw * bh - bw * bh / 64) ≡ n = rw e a in
-              let a'' : leading (take many us) (bw * bh - bw * bh / 64) ≡ length (take many us) = a ∙ sym (length-take-le many us there') in
-              let p : m ≡ flat (ordered (0, 0) (bw * bh / 64) (natural bw bh) (take many us)) = em ∙ rw (el, c) (natural-permuted (take many us) a'') in
-              rw (u, by-digits, digits-all n (bw * bh - bw * bh / 64) us (start + 1) (omega (arith, there')) a', e) (refl, p)
+    pub list-digits : (r : OrdersAnswer) (m : List ℕ) → n ≤ width * height - width * height / 64 → Listed (byDigits width height n (drop (start + 1) symbols) (start + 1)) r m → Listed wholeList r m
+    list-digits r m b l = rw (u, by-digits b) l

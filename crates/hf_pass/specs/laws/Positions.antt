@@ -1,6 +1,6 @@
--- Laws: Where the order call's 13 stands (document 01, Refused): at the symbols read, the refused length or digit included, so never at 0, 0, where 13 of a
+-- Where the order call's 13 stands (document 01, Refused).
 use mathlib.Core.Path.{_≡_, refl, ap, subst, _∙_}
-use mathlib.Core.Bool.{Bool, true, false, cond}
+use mathlib.Core.Bool.{Bool, true, false}
 use mathlib.Core.Logic.{inl, inr}
 use mathlib.Core.List.{List}
 use Prim.Native.Nat.{ℕ, _*_, _≤_}
@@ -11,22 +11,21 @@ use Rattle.refusal.specs.declared.Refusal.{Refusal}
 use Rattle.refusal.specs.declared.Refusal.the-variants as refusal
 use Rattle.refusal.specs.declared.Said.{Said}
 use Rattle.refusal.specs.Said.{said}
+use Rattle.refusal.specs.Answer.{refuses, unless, passed, answeredBy}
 use Rattle.bits.specs.Bits.{Read, Value, Ended}
 use Rattle.natural_order.specs.Places.{Place}
 use Rattle.hf_pass_store.specs.Store.{PLACES}
 use Rattle.hf_pass.specs.declared.OrdersAnswer.the-variants as answer
-use Rattle.hf_pass.specs.Reading.{Reading, Given, Refused, orders}
-use Rattle.hf_pass.specs.Call.{refuses, outcome, usedOrders, written, read, parsed}
-use Rattle.hf_pass.specs.Read.{Stops}
+use Rattle.hf_pass.specs.Orders.{FromSymbols, Given, Refused, orders, Stops}
+use Rattle.hf_pass.specs.Call.{leaves, usedOrders, outcomeOf, read, parsed, Reached}
 use Rattle.hf_pass.specs.laws.Accepted.{orders-refused}
-use Rattle.hf_pass.specs.Positions.{Reached}
 
 by-stop : (all : ℕ) (why : Refusal) → Stops 0 all why → said why .number ≡ 13 → Reached all (said why)
 by-stop all why (inl e) n = absurd (let z : _≡_ {A = ℕ} 15 13 = rw e at n in omega arith)
 by-stop all why (inr s) n = let (m, e, a, b) = s in rw e (record { some = omega arith; most = omega arith; second = refl })
 
 module _ (symbols : List ℕ) (why : Said) (n : why .number ≡ 13) where
-  by-orders : (used : ℕ) (r : Reading (List (List Place))) → orders used symbols ≡ r → written r .answer ≡ refuses why → Reached (length symbols) why
+  by-orders : (used : ℕ) (r : FromSymbols (List (List Place))) → orders used symbols ≡ r → outcomeOf r .answer ≡ refuses why → Reached (length symbols) why
   by-orders used (Given ls us at) e f = absurd (let z : _≡_ {A = ℕ} 0 1 = cc in omega arith)
   by-orders used (Refused w) e f =
       let q : said w ≡ why = cc in
@@ -36,7 +35,8 @@ module _ (symbols : List ℕ) (why : Said) (n : why .number ≡ 13) where
   by-bits (Value used at) store f = by-orders used (orders used symbols) refl f
   by-bits (Ended at) store f = absurd (let q : said (refusal.BitsEnd at) ≡ why = cc in let z : _≡_ {A = ℕ} 3 13 = ap (λ (s : Said). s .number) q ∙ n in omega arith)
 
-  by-length : (b : Bool) (bytes store : List ℕ) → cond b (read (usedOrders bytes) symbols store) (outcome (answer.Refused refusal.Length) store) .answer ≡ refuses why → Reached (length symbols) why
+  by-length : (b : Bool) (bytes store : List ℕ) → answeredBy (unless 1 b passed) (λ (s : Said). leaves (refuses s) store) (λ (u : Unit). read (usedOrders bytes) symbols store) .answer ≡ refuses why
+      → Reached (length symbols) why
   by-length true bytes store f = by-bits (usedOrders bytes) store f
   by-length false bytes store f = absurd (let q : said refusal.Length ≡ why = cc in let z : _≡_ {A = ℕ} 1 13 = ap (λ (s : Said). s .number) q ∙ n in omega arith)
 

@@ -18,16 +18,14 @@ use Rattle.natural_order.specs.laws.Sizes.{size-of}
 use Rattle.natural_order.specs.laws.Turns.{flat-length, natural-numbers}
 use Rattle.natural_order.specs.laws.Listing.{listing-length}
 use Rattle.natural_order.specs.laws.Filling.{Sided, sided}
-use Rattle.hf_pass_store.specs.Store.{stored, PLACES}
-use Rattle.hf_pass_store.specs.Offsets.{from}
+use Rattle.hf_pass_store.specs.Store.{stored, PLACES, from}
 use Rattle.hf_pass_store.specs.laws.Offsets.{from-start, from-step, from-most, from-end, sizes-13, third, places-by}
 use Rattle.hf_pass_naturals.specs.Naturals.{naturals}
 use Rattle.hf_pass_naturals.specs.laws.Naturals.{whole-long}
 use Rattle.hf_pass.specs.declared.OrdersAnswer.{OrdersAnswer}
 use Rattle.hf_pass.specs.declared.OrdersAnswer.the-variants as answer
-use Rattle.hf_pass.specs.Reading.{Reading, Given, Refused, then, Entry, entry, entryList, lists, plan, wanted, orders, oneList}
-use Rattle.hf_pass.specs.Call.{outcome, written}
-use Rattle.hf_pass.specs.Read.{Stops}
+use Rattle.hf_pass.specs.Orders.{FromSymbols, Given, Refused, andThen, Entry, entry, entryList, lists, plan, isUsed, orders, oneList, Stops}
+use Rattle.hf_pass.specs.Call.{outcome, outcomeOf}
 use Rattle.hf_pass.specs.laws.Read.{Holds, OneGiven, one-gives, holds-map, EntryGiven, entry-gives}
 use Rattle.hf_pass.specs.laws.Accepted.{plan-at, plan-length, given}
 use Rattle.hf_pass.specs.laws.Lists.{Listed, isRefused, countOf}
@@ -37,26 +35,26 @@ stored-append [] ms = refl
 stored-append (l ∷ ls) ms = ap (λ (r : List ℕ). flat l ++ r) (stored-append ls ms) ∙ sym (append-assoc (flat l) (stored ls) (stored ms))
 
 -- what the call gives from here on: the entries due, the lists done
-unfoldable pub onward : List Entry → List (List Place) → List ℕ → ℕ → Reading (List (List Place))
-onward es done us at = then (lists es us at) (λ ls. Given (done ++ ls))
+unfoldable pub onward : List Entry → List (List Place) → List ℕ → ℕ → FromSymbols (List (List Place))
+onward es done us at = andThen (lists es us at) (λ ls. Given (done ++ ls))
 
-abbrev give : List (List Place) → List ℕ → ℕ → Reading (List (List Place))
+abbrev give : List (List Place) → List ℕ → ℕ → FromSymbols (List (List Place))
 give ls us at = Given ls us at
 
-then-more : (l : List Place) (r : Reading (List (List Place))) (k : List (List Place) → List ℕ → ℕ → Reading (List (List Place))) → then (then r (λ ls. Given (l ∷ ls))) k ≡ then r (λ ls. k (l ∷ ls))
+then-more : (l : List Place) (r : FromSymbols (List (List Place))) (k : List (List Place) → List ℕ → ℕ → FromSymbols (List (List Place))) → andThen (andThen r (λ ls. Given (l ∷ ls))) k ≡ andThen r (λ ls. k (l ∷ ls))
 then-more l (Given ls us at) k = refl
 then-more l (Refused why) k = refl
 
 module _ (e : Entry) (es : List Entry) (done : List (List Place)) (us : List ℕ) (at : ℕ) where
-  onward-step : (l : List Place) (vs : List ℕ) (m : ℕ) → entryList (e .used) (e .bw) (e .bh) us at ≡ Given l vs m → onward (e ∷ es) done us at ≡ onward es (done ++ (l ∷ [])) vs m
+  onward-step : (l : List Place) (vs : List ℕ) (m : ℕ) → entryList (e .used) (e .width) (e .height) us at ≡ Given l vs m → onward (e ∷ es) done us at ≡ onward es (done ++ (l ∷ [])) vs m
   unfolding onward
   onward-step l vs m g =
       rw g
       (then-more l (lists es vs m) (λ ls. Given (done ++ ls))
-      ∙ ap (λ (k : List (List Place) → List ℕ → ℕ → Reading (List (List Place))). then (lists es vs m) k)
+      ∙ ap (λ (k : List (List Place) → List ℕ → ℕ → FromSymbols (List (List Place))). andThen (lists es vs m) k)
       (fun-ext (λ ls. ap give (sym (append-assoc done (l ∷ []) ls)))))
 
-  onward-stop : (why : Refusal) → entryList (e .used) (e .bw) (e .bh) us at ≡ Refused why → onward (e ∷ es) done us at ≡ Refused why
+  onward-stop : (why : Refusal) → entryList (e .used) (e .width) (e .height) us at ≡ Refused why → onward (e ∷ es) done us at ≡ Refused why
   unfolding onward
   onward-stop why g = rw g
 
@@ -64,7 +62,7 @@ onward-start : (used : ℕ) (us : List ℕ) → onward (plan used 0 BLOCK-SIZES)
 unfolding onward orders
 onward-start used us = go (lists (plan used 0 BLOCK-SIZES) us 0)
   where
-    go : (r : Reading (List (List Place))) → then r (λ ls. Given ls) ≡ r
+    go : (r : FromSymbols (List (List Place))) → andThen r (λ ls. Given ls) ≡ r
     go (Given ls us at) = refl
     go (Refused why) = refl
 
@@ -72,11 +70,11 @@ onward-end : (done : List (List Place)) (us : List ℕ) (at : ℕ) → onward []
 unfolding onward
 onward-end done us at = ap (λ (ls : List (List Place)). give ls us at) (append-nil done)
 
-entry-at : (used i : ℕ) → i < 39 → drop i (plan used 0 BLOCK-SIZES) ≡ entry (wanted used (i / 3)) (getD BLOCK-SIZES (i / 3) (0, 0)) ∷ drop (i + 1) (plan used 0 BLOCK-SIZES)
+entry-at : (used i : ℕ) → i < 39 → drop i (plan used 0 BLOCK-SIZES) ≡ entry (isUsed used (i / 3)) (getD BLOCK-SIZES (i / 3) (0, 0)) ∷ drop (i + 1) (plan used 0 BLOCK-SIZES)
 entry-at used i h =
     let d : Entry = entry false (0, 0) in
     let n = plan-length used 0 BLOCK-SIZES in
-    let e : getD (plan used 0 BLOCK-SIZES) i d ≡ entry (wanted used (i / 3)) (getD BLOCK-SIZES (i / 3) (0, 0)) =
+    let e : getD (plan used 0 BLOCK-SIZES) i d ≡ entry (isUsed used (i / 3)) (getD BLOCK-SIZES (i / 3) (0, 0)) =
     ap (λ (j : ℕ). getD (plan used 0 BLOCK-SIZES) j d) (sym (third i)) ∙ plan-at used BLOCK-SIZES (i / 3) (i % 3) d (omega (arith, sizes-13)) (omega arith) in
     drop-cons (plan used 0 BLOCK-SIZES) i d (omega (arith, sizes-13))
     ∙ ap₂ (λ (a : Entry) (j : ℕ). a ∷ drop j (plan used 0 BLOCK-SIZES)) e (sym (add-one i))
@@ -127,40 +125,47 @@ progress-start used symbols store e =
     }
 
 -- the reading of list i
-abbrev pub listOf : ℕ → List ℕ → ℕ → ℕ → Reading (List Place)
-listOf used symbols i at = entryList (wanted used (i / 3)) (widthOf (i / 3)) (heightOf (i / 3)) (drop at symbols) at
+abbrev pub listOf : ℕ → List ℕ → ℕ → ℕ → FromSymbols (List Place)
+listOf used symbols i at = entryList (isUsed used (i / 3)) (widthOf (i / 3)) (heightOf (i / 3)) (drop at symbols) at
 
 -- what a list leaves of the symbols
 abbrev Rest : List ℕ → ℕ → List Place → List ℕ → ℕ → Type 0
 Rest us at l vs m = (at ≤ m) × (m ≤ at + length us) × (vs ≡ drop (m - at) us)
 
-list-rest : (used : Bool) (bw bh : ℕ) (us : List ℕ) (at : ℕ) → Holds (Rest us at) (Stops at (at + length us)) (entryList used bw bh us at)
-list-rest true bw bh us at = holds-map (OneGiven bw bh us at) (Rest us at) (Stops at (at + length us)) (oneList bw bh us at) of-one (one-gives bw bh us at)
+list-rest : (used : Bool) (width height : ℕ) (us : List ℕ) (at : ℕ) → Holds (Rest us at) (Stops at (at + length us)) (entryList used width height us at)
+list-rest true width height us at = holds-map (OneGiven width height us at) (Rest us at) (Stops at (at + length us)) (oneList width height us at) of-one (one-gives width height us at)
   where
-    of-one : (l : List Place) (vs : List ℕ) (m : ℕ) → OneGiven bw bh us at l vs m → Rest us at l vs m
+    of-one : (l : List Place) (vs : List ℕ) (m : ℕ) → OneGiven width height us at l vs m → Rest us at l vs m
     of-one l vs m g =
         let s = g .symbols in
         let n : m - at ≡ suc (length (g .chose)) = omega (arith, g .read) in
         let k : length us ≡ suc (length (g .chose) + length vs) = ap length s ∙ ap suc (length-append (g .chose) vs) in
         (omega (arith, g .read), omega (arith, g .read), rw (n, s) (sym (drop-at (g .chose) vs (length (g .chose)) refl)))
-list-rest false bw bh us at = let z : at - at ≡ 0 = omega arith in (omega arith, omega arith, rw z)
+list-rest false width height us at = let z : at - at ≡ 0 = omega arith in (omega arith, omega arith, rw z)
 
 -- what an answer says of the reading
-given-of : (r : Reading (List Place)) (n : ℕ) (f : List ℕ) → Listed r (answer.Accepted n) f → (l : List Place) × (vs : List ℕ) × (r ≡ Given l vs n) × (f ≡ flat l)
+given-of : (r : FromSymbols (List Place)) (n : ℕ) (f : List ℕ) → Listed r (answer.Accepted n) f → (l : List Place) × (vs : List ℕ) × (r ≡ Given l vs n) × (f ≡ flat l)
 given-of (Given l vs m) n f o = let e : n ≡ m = cc (o .0) in (l, vs, rw e, o .1)
 given-of (Refused why) n f o = absurd (let z : _≡_ {A = ℕ} 0 1 = cc in omega arith)
 
-refused-of : (r : Reading (List Place)) (t : OrdersAnswer) (f : List ℕ) → Listed r t f → isRefused t ≡ true → (why : Refusal) × (r ≡ Refused why) × (t ≡ answer.Refused why)
-refused-of (Given l vs m) t f o e = absurd (let z : _≡_ {A = ℕ} 0 1 = cc (ap isRefused (o .0)) in omega arith)
-refused-of (Refused why) t f o e = (why, refl, o)
+refused-of : (r : FromSymbols (List Place)) (why : Refusal) (f : List ℕ) → Listed r (answer.Refused why) f → r ≡ Refused why
+refused-of (Given l vs m) why f o = absurd (let z : _≡_ {A = ℕ} 0 1 = cc (ap isRefused (o .0)) in omega arith)
+refused-of (Refused w) why f o = let e : why ≡ w = cc in rw e
 
-accepted-of : (t : OrdersAnswer) → isRefused t ≡ false → t ≡ answer.Accepted (countOf t)
-accepted-of (answer.Accepted n) e = refl
-accepted-of (answer.Refused why) e = absurd (let z : _≡_ {A = ℕ} 0 1 = cc in omega arith)
+-- behind list i, which ends at place e of the store
+abbrev pub AfterList : ℕ → List ℕ → List ℕ → ℕ → ℕ → OrdersAnswer → Type 0
+AfterList used symbols store i e (answer.Accepted n) = Progress used symbols store (i + 1) n × (e ≡ from (i + 1))
+AfterList used symbols store i e (answer.Refused why) = orders used symbols ≡ Refused why
 
--- a refusal and a store of zeros
-refused-all : (r : Reading (List (List Place))) (t : OrdersAnswer) (zeros : List ℕ) (n : ℕ) (why : Refusal) → r ≡ Refused why → t ≡ answer.Refused why → zeros ≡ replicate n 0 → n ≡ 2 * PLACES → outcome t zeros ≡ written r
-refused-all r t zeros n why q f z e = rw (q, f, z, e)
+module _ (used : ℕ) (symbols store : List ℕ) (i e : ℕ) where
+  pub after-read : (t : OrdersAnswer) → AfterList used symbols store i e t → isRefused t ≡ false → Progress used symbols store (i + 1) (countOf t) × (e ≡ from (i + 1))
+  after-read (answer.Accepted n) a r = a
+  after-read (answer.Refused why) a r = absurd (let z : _≡_ {A = ℕ} 0 1 = cc in omega arith)
+
+  -- a refusal and a store of zeros
+  pub after-refused : (t : OrdersAnswer) (zeros : List ℕ) (n : ℕ) → AfterList used symbols store i e t → isRefused t ≡ true → zeros ≡ replicate n 0 → n ≡ 787968 → outcome t zeros ≡ outcomeOf (orders used symbols)
+  after-refused (answer.Accepted k) zeros n a r z m = absurd (let x : _≡_ {A = ℕ} 0 1 = cc in omega arith)
+  after-refused (answer.Refused why) zeros n a r z m = let m' : n ≡ 2 * PLACES = m ∙ sym places-by in rw (a, z, m')
 
 -- a list in the code's numbers
 module _ (used : ℕ) (symbols store : List ℕ) (i at : ℕ) (p : Progress used symbols store i at) (h : i < 39) (s : Sides) (e : s ≡ blockSize (i / 3)) (start : ℕ) (b : start ≡ from i) where
@@ -185,31 +190,31 @@ module _ (used : ℕ) (symbols store : List ℕ) (i at : ℕ) (p : Progress used
         part = rw (e, z, b) q;
       }
 
-  due-now : onward (entry (wanted used (i / 3)) (getD BLOCK-SIZES (i / 3) (0, 0)) ∷ drop (i + 1) (plan used 0 BLOCK-SIZES)) (p .done) (drop at symbols) at ≡ orders used symbols
+  due-now : onward (entry (isUsed used (i / 3)) (getD BLOCK-SIZES (i / 3) (0, 0)) ∷ drop (i + 1) (plan used 0 BLOCK-SIZES)) (p .done) (drop at symbols) at ≡ orders used symbols
   due-now = rw (entry-at used i h) at (p .due)
 
-  -- a list refused: the call is refused
-  pub progress-stop : (u : Bool) (t : OrdersAnswer) (part zeros : List ℕ) (n : ℕ) → u ≡ wanted used (i / 3) → Listed (entryList u (s .wide) (s .high) (drop at symbols) at) t part → isRefused t ≡ true
-      → zeros ≡ replicate n 0 → n ≡ 787968 → outcome t zeros ≡ written (orders used symbols)
-  unfolding widthOf heightOf
-  progress-stop u t part zeros n eu o r z en =
-      let o' : Listed (listOf used symbols i at) t part = rw (eu, e) at o in
-      let (why, g, f) = refused-of (listOf used symbols i at) t part o' r in
-      let q : orders used symbols ≡ Refused why = sym due-now ∙ onward-stop (entry (wanted used (i / 3)) (getD BLOCK-SIZES (i / 3) (0, 0))) (drop (i + 1) (plan used 0 BLOCK-SIZES)) (p .done) (drop at symbols) at why g in
-      refused-all (orders used symbols) t zeros n why q f z (en ∙ sym places-by)
+  -- list i as the code reads it
+  abbrev Reads : OrdersAnswer → List ℕ → Type 0
+  Reads t part = Listed (entryList (isUsed used (i / 3)) (s .wide) (s .high) (drop at symbols) at) t part
 
-  -- a list read
-  pub progress-turn : (u : Bool) (t : OrdersAnswer) (n : ℕ) (part next : List ℕ) → u ≡ wanted used (i / 3) → Listed (entryList u (s .wide) (s .high) (drop at symbols) at) t part → isRefused t ≡ false
-      → n ≡ countOf t → next ≡ take start store ++ (part ++ drop (start + 2 * (s .wide * s .high) - start) (drop start store)) → Progress used symbols next (i + 1) n
+  progress-stop : (why : Refusal) (part : List ℕ) → Reads (answer.Refused why) part → orders used symbols ≡ Refused why
   unfolding widthOf heightOf
-  progress-turn u t n part next eu o r en w =
+  progress-stop why part o =
+      let o' : Listed (listOf used symbols i at) (answer.Refused why) part = rw e at o in
+      sym due-now ∙ onward-stop (entry (isUsed used (i / 3)) (getD BLOCK-SIZES (i / 3) (0, 0))) (drop (i + 1) (plan used 0 BLOCK-SIZES)) (p .done) (drop at symbols) at why
+      (refused-of (listOf used symbols i at) why part o')
+
+  progress-turn : (n : ℕ) (part next : List ℕ) → Reads (answer.Accepted n) part
+      → next ≡ take start store ++ (part ++ drop (start + 2 * (s .wide * s .high) - start) (drop start store)) → Progress used symbols next (i + 1) n
+  unfolding widthOf heightOf
+  progress-turn n part next o w =
       let k = i / 3 in
       let m = 2 * (widthOf k * heightOf k) in
       let us = drop at symbols in
-      let o' : Listed (listOf used symbols i at) (answer.Accepted n) part = rw (accepted-of t r ∙ ap answer.Accepted (sym en)) at (rw (eu, e) at o) in
+      let o' : Listed (listOf used symbols i at) (answer.Accepted n) part = rw e at o in
       let (l, vs, g, f) = given-of (listOf used symbols i at) n part o' in
-      let rest = given (Rest us at) (Stops at (at + length us)) (listOf used symbols i at) l vs n g (list-rest (wanted used k) (widthOf k) (heightOf k) us at) in
-      let all = given (EntryGiven (wanted used k) (widthOf k) (heightOf k) at (at + length us)) (Stops at (at + length us)) (listOf used symbols i at) l vs n g (entry-gives (wanted used k) (widthOf k) (heightOf k) (size-of k (omega arith)) us at) in
+      let rest = given (Rest us at) (Stops at (at + length us)) (listOf used symbols i at) l vs n g (list-rest (isUsed used k) (widthOf k) (heightOf k) us at) in
+      let all = given (EntryGiven (isUsed used k) (widthOf k) (heightOf k) at (at + length us)) (Stops at (at + length us)) (listOf used symbols i at) l vs n g (entry-gives (isUsed used k) (widthOf k) (heightOf k) (size-of k (omega arith)) us at) in
       let lp : length part ≡ m = ap length f ∙ flat-length l ∙ ap (λ (j : ℕ). 2 * j) (listing-length (widthOf k) (heightOf k) l (all .0 .order .cells)) in
       let ls = length-drop at symbols in
       let y : at + (n - at) ≡ n = omega (arith, rest .0) in
@@ -234,10 +239,16 @@ module _ (used : ℕ) (symbols store : List ℕ) (i at : ℕ) (p : Progress used
         behind = ap (take (from (i + 1))) w' ∙ take-at (a ++ part) d (from (i + 1)) lb
             ∙ ap₂ (λ (x y : List ℕ). x ++ y) (p .behind) (f ∙ sym (append-nil (flat l))) ∙ sym (stored-append (p .done) (l ∷ []));
         ahead = ap (drop (from (i + 1))) w' ∙ drop-at (a ++ part) d (from (i + 1)) lb ∙ q;
-        due = rw (← v) (sym (onward-step (entry (wanted used k) (getD BLOCK-SIZES k (0, 0))) (drop (i + 1) (plan used 0 BLOCK-SIZES)) (p .done) us at l vs n g) ∙ due-now);
+        due = rw (← v) (sym (onward-step (entry (isUsed used k) (getD BLOCK-SIZES k (0, 0))) (drop (i + 1) (plan used 0 BLOCK-SIZES)) (p .done) us at l vs n g) ∙ due-now);
       }
 
-pub progress-end : (used : ℕ) (symbols store : List ℕ) (i at : ℕ) → Progress used symbols store i at → 39 ≤ i → outcome (answer.Accepted at) store ≡ written (orders used symbols)
+  -- list i is read, or refused
+  pub after-list : (u : Bool) (t : OrdersAnswer) (part next : List ℕ) → u ≡ isUsed used (i / 3) → Listed (entryList u (s .wide) (s .high) (drop at symbols) at) t part
+      → next ≡ take start store ++ (part ++ drop (start + 2 * (s .wide * s .high) - start) (drop start store)) → AfterList used symbols next i (start + 2 * (s .wide * s .high)) t
+  after-list u (answer.Accepted n) part next eu o w = (progress-turn n part next (rw eu at o) w, list-at .next)
+  after-list u (answer.Refused why) part next eu o w = progress-stop why part (rw eu at o)
+
+pub progress-end : (used : ℕ) (symbols store : List ℕ) (i at : ℕ) → Progress used symbols store i at → 39 ≤ i → outcome (answer.Accepted at) store ≡ outcomeOf (orders used symbols)
 progress-end used symbols store i at p h =
     let j : i ≡ 39 = omega (arith, p .fewer) in
     let z : drop i (plan used 0 BLOCK-SIZES) ≡ [] = let k : length (plan used 0 BLOCK-SIZES) ≤ i = omega (arith, plan-length used 0 BLOCK-SIZES, sizes-13) in drop-of-length-le (plan used 0 BLOCK-SIZES) k in

@@ -12,16 +12,14 @@ use Rattle.refusal.specs.declared.Refusal.{Refusal}
 use Rattle.refusal.specs.declared.Refusal.the-variants as refusal
 use Rattle.natural_order.specs.Places.{Place}
 use Rattle.natural_order.specs.Natural.{natural}
-use Rattle.natural_order.specs.Sizes.{Size}
+use Rattle.natural_order.specs.Order.{Size, Order}
 use Rattle.permutation.specs.Digits.{Below, ordered}
-use Rattle.hf_pass.specs.Reading.{Reading, Given, Refused, then, check, digits, oneList, Entry, entryList, lists}
-use Rattle.natural_order.specs.Order.{Order}
+use Rattle.hf_pass.specs.Orders.{FromSymbols, Given, Refused, andThen, check, digits, oneList, Entry, entryList, lists, Stops}
 use Rattle.natural_order.specs.laws.Order.{natural-order}
 use Rattle.permutation.specs.laws.Chosen.{ordered-order}
-use Rattle.hf_pass.specs.Read.{Stops}
 
 -- what holds of a result, or of a refusal
-abbrev pub Holds : {A : Type 0} → (A → List ℕ → ℕ → Type 0) → (Refusal → Type 0) → Reading A → Type 0
+abbrev pub Holds : {A : Type 0} → (A → List ℕ → ℕ → Type 0) → (Refusal → Type 0) → FromSymbols A → Type 0
 Holds P Q (Given a us at) = P a us at
 Holds P Q (Refused why) = Q why
 
@@ -29,17 +27,17 @@ stops-later : (at at' all : ℕ) (why : Refusal) → at ≤ at' → Stops at' al
 stops-later at at' all why h (inl s) = inl s
 stops-later at at' all why h (inr s) = let (m, e, a, b) = s in inr (m, e, omega arith, b)
 
-then-holds : {A B : Type 0} (P : A → List ℕ → ℕ → Type 0) (P' : B → List ℕ → ℕ → Type 0) (Q : Refusal → Type 0) (r : Reading A) (k : A → List ℕ → ℕ → Reading B)
-    → Holds P Q r → ((a : A) (us : List ℕ) (at : ℕ) → P a us at → Holds P' Q (k a us at)) → Holds P' Q (then r k)
+then-holds : {A B : Type 0} (P : A → List ℕ → ℕ → Type 0) (P' : B → List ℕ → ℕ → Type 0) (Q : Refusal → Type 0) (r : FromSymbols A) (k : A → List ℕ → ℕ → FromSymbols B)
+    → Holds P Q r → ((a : A) (us : List ℕ) (at : ℕ) → P a us at → Holds P' Q (k a us at)) → Holds P' Q (andThen r k)
 then-holds P P' Q (Given a us at) k h f = f a us at h
 then-holds P P' Q (Refused why) k h f = h
 
-check-holds : {A : Type 0} (P : A → List ℕ → ℕ → Type 0) (Q : Refusal → Type 0) (b : Bool) (at : ℕ) (r : Reading A)
+check-holds : {A : Type 0} (P : A → List ℕ → ℕ → Type 0) (Q : Refusal → Type 0) (b : Bool) (at : ℕ) (r : FromSymbols A)
     → (b ≡ true → Holds P Q r) → Q (refusal.Order at) → Holds P Q (check b at r)
 check-holds P Q true at r h q = h refl
 check-holds P Q false at r h q = q
 
-holds-mono : {A : Type 0} (P : A → List ℕ → ℕ → Type 0) (Q Q' : Refusal → Type 0) (r : Reading A) → ((why : Refusal) → Q why → Q' why) → Holds P Q r → Holds P Q' r
+holds-mono : {A : Type 0} (P : A → List ℕ → ℕ → Type 0) (Q Q' : Refusal → Type 0) (r : FromSymbols A) → ((why : Refusal) → Q why → Q' why) → Holds P Q r → Holds P Q' r
 holds-mono P Q Q' (Given a us at) f h = h
 holds-mono P Q Q' (Refused why) f h = f why h
 
@@ -56,7 +54,7 @@ digits-give zero left us at = record { below = tt; many = refl; order = refl; re
 digits-give (suc n) left [] at = inl (ap refusal.SymbolsEnd (omega arith))
 digits-give (suc n) left (u ∷ us) at =
     let e : at + 1 + length us ≡ at + suc (length us) = omega arith in
-    check-holds (Took (suc n) left (u ∷ us) at) (Stops at (at + suc (length us))) (ltb u left) (at + 1) (then (digits n (left - 1) us (at + 1)) (λ ds. Given (u ∷ ds)))
+    check-holds (Took (suc n) left (u ∷ us) at) (Stops at (at + suc (length us))) (ltb u left) (at + 1) (andThen (digits n (left - 1) us (at + 1)) (λ ds. Given (u ∷ ds)))
     (λ b. then-holds (Took n (left - 1) us (at + 1)) (Took (suc n) left (u ∷ us) at) (Stops at (at + suc (length us))) (digits n (left - 1) us (at + 1)) (λ ds. Given (u ∷ ds))
     (holds-mono (Took n (left - 1) us (at + 1)) (Stops (at + 1) (at + 1 + length us)) (Stops at (at + suc (length us))) (digits n (left - 1) us (at + 1))
     (λ why s. stops-later at (at + 1) (at + suc (length us)) why (omega arith) (rw e at s))
@@ -70,22 +68,22 @@ digits-give (suc n) left (u ∷ us) at =
     (inr (at + 1, refl, omega arith, omega arith))
 
 -- a used list: its length and digits are the next symbols, and they choose its order
-pub record OneGiven (bw bh : ℕ) (us : List ℕ) (at : ℕ) (l : List Place) (vs : List ℕ) (m : ℕ) : Type 0 where
+pub record OneGiven (width height : ℕ) (us : List ℕ) (at : ℕ) (l : List Place) (vs : List ℕ) (m : ℕ) : Type 0 where
   pub chose : List ℕ
-  pub below : Below chose (bw * bh - bw * bh / 64)
+  pub below : Below chose (width * height - width * height / 64)
   pub symbols : us ≡ length chose ∷ chose ++ vs
-  pub list : l ≡ ordered (0, 0) (bw * bh / 64) (natural bw bh) chose
+  pub list : l ≡ ordered (0, 0) (width * height / 64) (natural width height) chose
   pub read : m ≡ at + 1 + length chose
 
-pub one-gives : (bw bh : ℕ) (us : List ℕ) (at : ℕ) → Holds (OneGiven bw bh us at) (Stops at (at + length us)) (oneList bw bh us at)
+pub one-gives : (width height : ℕ) (us : List ℕ) (at : ℕ) → Holds (OneGiven width height us at) (Stops at (at + length us)) (oneList width height us at)
 unfolding oneList
-one-gives bw bh [] at = inl (ap refusal.SymbolsEnd (omega arith))
-one-gives bw bh (n ∷ us) at =
-    let free = bw * bh - bw * bh / 64 in
-    let end : List ℕ → List ℕ → ℕ → Reading (List Place) = λ ds. Given (ordered (0, 0) (bw * bh / 64) (natural bw bh) ds) in
+one-gives width height [] at = inl (ap refusal.SymbolsEnd (omega arith))
+one-gives width height (n ∷ us) at =
+    let free = width * height - width * height / 64 in
+    let end : List ℕ → List ℕ → ℕ → FromSymbols (List Place) = λ ds. Given (ordered (0, 0) (width * height / 64) (natural width height) ds) in
     let e : at + 1 + length us ≡ at + suc (length us) = omega arith in
-    check-holds (OneGiven bw bh (n ∷ us) at) (Stops at (at + suc (length us))) (leb n free) (at + 1) (then (digits n free us (at + 1)) end)
-    (λ b. then-holds (Took n free us (at + 1)) (OneGiven bw bh (n ∷ us) at) (Stops at (at + suc (length us))) (digits n free us (at + 1)) end
+    check-holds (OneGiven width height (n ∷ us) at) (Stops at (at + suc (length us))) (leb n free) (at + 1) (andThen (digits n free us (at + 1)) end)
+    (λ b. then-holds (Took n free us (at + 1)) (OneGiven width height (n ∷ us) at) (Stops at (at + suc (length us))) (digits n free us (at + 1)) end
     (holds-mono (Took n free us (at + 1)) (Stops (at + 1) (at + 1 + length us)) (Stops at (at + suc (length us))) (digits n free us (at + 1))
     (λ why s. stops-later at (at + 1) (at + suc (length us)) why (omega arith) (rw e at s))
     (digits-give n free us (at + 1)))
@@ -99,9 +97,9 @@ one-gives bw bh (n ∷ us) at =
     (inr (at + 1, refl, omega arith, omega arith))
 
 -- any list of the store
-pub record ListGiven (used : Bool) (bw bh : ℕ) (l : List Place) : Type 0 where
-  pub order : Order bw bh l
-  pub unused : used ≡ false → l ≡ natural bw bh
+pub record ListGiven (used : Bool) (width height : ℕ) (l : List Place) : Type 0 where
+  pub order : Order width height l
+  pub unused : used ≡ false → l ≡ natural width height
 
 -- m of `all` symbols are read, `at` before, and vs are left
 pub record Counted (at all : ℕ) (vs : List ℕ) (m : ℕ) : Type 0 where
@@ -109,36 +107,36 @@ pub record Counted (at all : ℕ) (vs : List ℕ) (m : ℕ) : Type 0 where
   pub left : m + length vs ≡ all
 
 abbrev pub EntryGiven : Bool → ℕ → ℕ → ℕ → ℕ → List Place → List ℕ → ℕ → Type 0
-EntryGiven used bw bh at all l vs m = ListGiven used bw bh l × Counted at all vs m
+EntryGiven used width height at all l vs m = ListGiven used width height l × Counted at all vs m
 
-pub holds-map : {A : Type 0} (P P' : A → List ℕ → ℕ → Type 0) (Q : Refusal → Type 0) (r : Reading A) → ((a : A) (us : List ℕ) (m : ℕ) → P a us m → P' a us m) → Holds P Q r → Holds P' Q r
+pub holds-map : {A : Type 0} (P P' : A → List ℕ → ℕ → Type 0) (Q : Refusal → Type 0) (r : FromSymbols A) → ((a : A) (us : List ℕ) (m : ℕ) → P a us m → P' a us m) → Holds P Q r → Holds P' Q r
 holds-map P P' Q (Given a us m) f h = f a us m h
 holds-map P P' Q (Refused why) f h = h
 
-of-one : (bw bh : ℕ) → Size bw bh → (us : List ℕ) (at : ℕ) (l : List Place) (vs : List ℕ) (m : ℕ) → OneGiven bw bh us at l vs m → EntryGiven true bw bh at (at + length us) l vs m
-of-one bw bh z us at l vs m g = (
+of-one : (width height : ℕ) → Size width height → (us : List ℕ) (at : ℕ) (l : List Place) (vs : List ℕ) (m : ℕ) → OneGiven width height us at l vs m → EntryGiven true width height at (at + length us) l vs m
+of-one width height z us at l vs m g = (
   record {
-    order = rw (g .list) (ordered-order bw bh z (natural bw bh) (natural-order bw bh z) (g .chose) (g .below));
+    order = rw (g .list) (ordered-order width height z (natural width height) (natural-order width height z) (g .chose) (g .below));
     unused = λ f. let i : _≡_ {A = ℕ} 0 1 = cc in absurd (omega arith);
   },
   record { on = omega (arith, g .read); left = omega (arith, g .read, simp length-append at (ap length (g .symbols))) },
 )
 
-pub entry-gives : (used : Bool) (bw bh : ℕ) → Size bw bh → (us : List ℕ) (at : ℕ) → Holds (EntryGiven used bw bh at (at + length us)) (Stops at (at + length us)) (entryList used bw bh us at)
-entry-gives true bw bh z us at =
-    holds-map (OneGiven bw bh us at) (EntryGiven true bw bh at (at + length us)) (Stops at (at + length us)) (oneList bw bh us at) (of-one bw bh z us at) (one-gives bw bh us at)
-entry-gives false bw bh z us at = (record { order = natural-order bw bh z; unused = λ f. refl }, record { on = omega arith; left = refl })
+pub entry-gives : (used : Bool) (width height : ℕ) → Size width height → (us : List ℕ) (at : ℕ) → Holds (EntryGiven used width height at (at + length us)) (Stops at (at + length us)) (entryList used width height us at)
+entry-gives true width height z us at =
+    holds-map (OneGiven width height us at) (EntryGiven true width height at (at + length us)) (Stops at (at + length us)) (oneList width height us at) (of-one width height z us at) (one-gives width height us at)
+entry-gives false width height z us at = (record { order = natural-order width height z; unused = λ f. refl }, record { on = omega arith; left = refl })
 
 abbrev pub Sized : List Entry → Type 0
 Sized [] = Unit
-Sized (e ∷ es) = Size (e .bw) (e .bh) × Sized es
+Sized (e ∷ es) = Size (e .width) (e .height) × Sized es
 
 -- a list for each entry
 abbrev pub Each : List Entry → List (List Place) → Type 0
 Each [] [] = Unit
 Each [] (l ∷ ls) = ⊥
 Each (e ∷ es) [] = ⊥
-Each (e ∷ es) (l ∷ ls) = ListGiven (e .used) (e .bw) (e .bh) l × Each es ls
+Each (e ∷ es) (l ∷ ls) = ListGiven (e .used) (e .width) (e .height) l × Each es ls
 
 abbrev pub AllGiven : List Entry → ℕ → ℕ → List (List Place) → List ℕ → ℕ → Type 0
 AllGiven es at all ls vs m = Each es ls × Counted at all vs m
@@ -146,8 +144,8 @@ AllGiven es at all ls vs m = Each es ls × Counted at all vs m
 pub lists-give : (es : List Entry) → Sized es → (us : List ℕ) (at all : ℕ) → at + length us ≡ all → Holds (AllGiven es at all) (Stops at all) (lists es us at)
 lists-give [] z us at all e = (tt, record { on = omega arith; left = e })
 lists-give (f ∷ es) z us at all e =
-    then-holds (EntryGiven (f .used) (f .bw) (f .bh) at all) (AllGiven (f ∷ es) at all) (Stops at all) (entryList (f .used) (f .bw) (f .bh) us at) (λ l us at. then (lists es us at) (λ ls. Given (l ∷ ls)))
-    (rw e at (entry-gives (f .used) (f .bw) (f .bh) (z .0) us at))
+    then-holds (EntryGiven (f .used) (f .width) (f .height) at all) (AllGiven (f ∷ es) at all) (Stops at all) (entryList (f .used) (f .width) (f .height) us at) (λ l us at. andThen (lists es us at) (λ ls. Given (l ∷ ls)))
+    (rw e at (entry-gives (f .used) (f .width) (f .height) (z .0) us at))
     (λ l vs m g.
     then-holds (AllGiven es m all) (AllGiven (f ∷ es) at all) (Stops at all) (lists es vs m) (λ ls. Given (l ∷ ls))
     (holds-mono (AllGiven es m all) (Stops m all) (Stops at all) (lists es vs m) (λ why s. stops-later at m all why (g .1 .on) s) (lists-give es (z .1) vs m all (g .1 .left)))

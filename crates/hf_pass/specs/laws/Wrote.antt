@@ -1,24 +1,29 @@
 -- Laws: Stores that an accepted order call wrote.
 use mathlib.Core.Path.{_≡_, refl, ap, sym, _∙_}
-use mathlib.Core.Bool.{Bool, true, false, cond}
+use mathlib.Core.Bool.{true}
 use mathlib.Core.List.{List, []}
 use Prim.Native.Nat.{ℕ, _+_, _*_, _<_}
 use native.Mathlib.Omega.{arith}
-use lib.Dec.{eqb}
-use lib.ListN.{length, getD}
-use Rattle.refusal.specs.declared.Refusal.the-variants as refusal
+use lib.ListN.{getD, replicate}
+use Rattle.refusal.specs.declared.Refusal.the-variants.{BitsEnd}
+use Rattle.refusal.specs.declared.Said.{Said}
+use Rattle.refusal.specs.Said.{said}
+use Rattle.refusal.specs.Answer.{gives, refuses}
+use Rattle.refusal.specs.laws.Answer.{worked}
 use Rattle.bits.specs.Bits.{Read, Value, Ended}
 use Rattle.block_sizes.specs.BlockSizes.{widthOf, heightOf}
 use Rattle.natural_order.specs.Places.{Place, flat}
 use Rattle.natural_order.specs.Order.{Order}
 use Rattle.hf_pass_store.specs.Store.{stored, stretch, placesFit, PLACES}
 use Rattle.hf_pass.specs.declared.OrdersAnswer.the-variants as answer
-use Rattle.hf_pass.specs.Reading.{Reading, Given, Refused, orders}
-use Rattle.hf_pass.specs.Call.{Outcome, outcome, usedOrders, written, read, parsed}
+use Rattle.hf_pass.specs.Orders.{FromSymbols, Given, Refused, orders}
+use Rattle.hf_pass.specs.Call.{Outcome, leaves, usedOrders, outcomeOf, read, beforeWork, parsed, Wrote}
 use Rattle.hf_pass.specs.laws.Accepted.{orders-accepted}
-use Rattle.hf_pass.specs.laws.Stretch.{stretch-list}
-use Rattle.hf_pass.specs.laws.Fits.{accepted-fits}
-use Rattle.hf_pass.specs.Wrote.{Wrote}
+use Rattle.hf_pass.specs.laws.Stretch.{stretch-list, accepted-fits}
+
+-- a refusal is no result
+never : (s : Said) (kept : List ℕ) (n : ℕ) (store : List ℕ) → leaves (refuses s) kept ≡ leaves (gives n) store → ⊥
+never s kept n store e = let z : _≡_ {A = ℕ} 0 1 = cc (ap (λ (o : Outcome). o .answer) e) in omega arith
 
 -- the lists behind it
 pub record Behind (store : List ℕ) : Type 0 where
@@ -30,23 +35,21 @@ pub record Behind (store : List ℕ) : Type 0 where
   pub given : orders used symbols ≡ Given lists left count
   pub is : store ≡ stored lists
 
-of-written : (used : ℕ) (symbols store : List ℕ) (n : ℕ) (r : Reading (List (List Place))) → orders used symbols ≡ r → written r ≡ outcome (answer.Accepted n) store → Behind store
-of-written used symbols store n (Given ls vs m) e w =
+of-orders : (used : ℕ) (symbols store : List ℕ) (n : ℕ) (r : FromSymbols (List (List Place))) → orders used symbols ≡ r → outcomeOf r ≡ leaves (gives n) store → Behind store
+of-orders used symbols store n (Given ls vs m) e w =
     let s : stored ls ≡ store = ap (λ (o : Outcome). o .store) w in
     record { used = used; symbols = symbols; lists = ls; left = vs; count = m; given = e; is = sym s }
-of-written used symbols store n (Refused why) e w = absurd (let z : _≡_ {A = ℕ} 0 1 = cc (ap (λ (o : Outcome). o .answer) w) in omega arith)
+of-orders used symbols store n (Refused why) e w = absurd (never (said why) (replicate (2 * PLACES) 0) n store w)
 
-of-read : (b : Read ℕ) (symbols earlier store : List ℕ) (n : ℕ) → read b symbols earlier ≡ outcome (answer.Accepted n) store → Behind store
-of-read (Value used at) symbols earlier store n e = of-written used symbols store n (orders used symbols) refl e
-of-read (Ended at) symbols earlier store n e = absurd (let z : _≡_ {A = ℕ} 0 1 = cc (ap (λ (o : Outcome). o .answer) e) in omega arith)
+of-read : (b : Read ℕ) (symbols earlier store : List ℕ) (n : ℕ) → read b symbols earlier ≡ leaves (gives n) store → Behind store
+of-read (Value used at) symbols earlier store n e = of-orders used symbols store n (orders used symbols) refl e
+of-read (Ended at) symbols earlier store n e = absurd (never (said (BitsEnd at)) earlier n store e)
 
 pub behind : (store : List ℕ) → Wrote store → Behind store
 unfolding parsed
-behind store w = go (eqb (length (w .earlier)) (2 * PLACES)) (w .call)
-  where
-    go : (b : Bool) → cond b (read (usedOrders (w .bytes)) (w .symbols) (w .earlier)) (outcome (answer.Refused refusal.Length) (w .earlier)) ≡ outcome (answer.Accepted (w .count)) store → Behind store
-    go true e = of-read (usedOrders (w .bytes)) (w .symbols) (w .earlier) store (w .count) e
-    go false e = absurd (let z : _≡_ {A = ℕ} 0 1 = cc (ap (λ (o : Outcome). o .answer) e) in omega arith)
+behind store w =
+    let (u, a, e) = worked (beforeWork (w .earlier)) _ _ (leaves (gives (w .count)) store) (λ s f. never s (w .earlier) (w .count) store f) (w .call) in
+    of-read (usedOrders (w .bytes)) (w .symbols) (w .earlier) store (w .count) e
 
 module _ (store : List ℕ) (w : Wrote store) where
   abbrev b : Behind store

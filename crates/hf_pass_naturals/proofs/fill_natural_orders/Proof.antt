@@ -2,9 +2,8 @@ use Rattle.hf_pass_naturals.specs.Naturals.{naturals}
 use Rattle.hf_pass_naturals.specs.laws.Naturals.{part-length, fromOrder, order-start, order-at, order-laid, all-written, none-written}
 use borrow.Rule.Slice.PartMut.{putMid}
 use mathlib.Core.Path.{refl, _≡_, _∙_, sym}
-use Rattle.hf_pass_store.specs.Offsets.{from}
+use Rattle.hf_pass_store.specs.Store.{from, stored}
 use Rattle.hf_pass_store.specs.laws.Offsets.{from-start}
-use Rattle.hf_pass_store.specs.Store.{stored}
 use Rattle.block_sizes.specs.BlockSizes.{BLOCK-SIZES}
 use lib.Seq.{sets}
 use borrow.Author.Needs.{needs}
@@ -33,56 +32,9 @@ returns c = none-written (c .before .before .args .store .now) (c .if1 .taken)
 loop-holds : tie.Need-loop-holds Inv-loop μ-loop
 loop-holds c = (omega arith, c .if1 .left, c .if1 .left, sym from-start, rw order-start)
 
-block-size-requires : tie.Need-block-size-requires Inv-loop μ-loop
-block-size-requires c κs = search needs
-
-mul-n : tie.Need-mul-n Inv-loop μ-loop
-mul-n c =
-    let l = c .before .before .loop in
-    let t = c .block-size in
-    let o = order-at (l .k) (omega arith) (t .result) (t .ensures) (l .start) (l .inv .3) in
-    omega (arith, o .room, l .inv .1)
-
-mul-n-2 : tie.Need-mul-n-2 Inv-loop μ-loop
-mul-n-2 c =
-    let l = c .before .before .loop in
-    let t = c .block-size in
-    let o = order-at (l .k) (omega arith) (t .result) (t .ensures) (l .start) (l .inv .3) in
-    omega (arith, o .room, l .inv .1)
-
-mul-e : tie.Need-mul-e Inv-loop μ-loop
-mul-e c =
-    let l = c .before .before .loop in
-    let t = c .block-size in
-    let o = order-at (l .k) (omega arith) (t .result) (t .ensures) (l .start) (l .inv .3) in
-    omega (arith, o .room, l .inv .1)
-
-add-e : tie.Need-add-e Inv-loop μ-loop
-add-e c =
-    let l = c .before .before .loop in
-    let t = c .block-size in
-    let o = order-at (l .k) (omega arith) (t .result) (t .ensures) (l .start) (l .inv .3) in
-    omega (arith, o .room, l .inv .1)
-
-mul-fill-order : tie.Need-mul-fill-order Inv-loop μ-loop
-mul-fill-order c =
-    let l = c .before .before .loop in
-    let t = c .block-size in
-    let o = order-at (l .k) (omega arith) (t .result) (t .ensures) (l .start) (l .inv .3) in
-    omega (arith, o .room, l .inv .1)
-
-sub-fill-order : tie.Need-sub-fill-order Inv-loop μ-loop
-sub-fill-order c = search needs
-
-part-fill-order-start : tie.Need-part-fill-order-start Inv-loop μ-loop
-part-fill-order-start c = search needs
-
-part-fill-order-end : tie.Need-part-fill-order-end Inv-loop μ-loop
-part-fill-order-end c =
-    let l = c .before .before .loop in
-    let t = c .block-size in
-    let o = order-at (l .k) (omega arith) (t .result) (t .ensures) (l .start) (l .inv .3) in
-    omega (arith, o .room, l .inv .1)
+-- the three lists of an order end inside the store
+room : (c : tie.After-block-size Inv-loop μ-loop) → let s = c .block-size .result in (c .before .before .loop .start + 3 * (2 * (s .wide * s .high)) ≤ 787968) × (length (c .before .before .loop .store) ≡ 787968)
+room c = let l = c .before .before .loop in (order-at (l .k) (omega arith) (c .block-size .result) (c .block-size .ensures) (l .start) (l .inv .3) .room, l .inv .1)
 
 fill-order-requires : tie.Need-fill-order-requires Inv-loop μ-loop
 fill-order-requires c κs =
@@ -90,12 +42,6 @@ fill-order-requires c κs =
     let t = c .before .block-size in
     let o = order-at (l .k) (omega arith) (t .result) (t .ensures) (l .start) (l .inv .3) in
     (omega arith, o .size, part-length (l .store) (l .start) (3 * (2 * (t .result .wide * t .result .high))) (omega (arith, o .room, l .inv .1)))
-
-add-k : tie.Need-add-k Inv-loop μ-loop
-add-k c = search needs
-
-loop-less : tie.Need-loop-less Inv-loop μ-loop
-loop-less c = search needs
 
 loop-again : tie.Need-loop-again Inv-loop μ-loop
 loop-again c =
@@ -106,9 +52,6 @@ loop-again c =
     let e = l .start + 3 * (2 * (t .result .wide * t .result .high)) in
     (omega arith, search needs, l .inv .2, o .next, order-laid (l .k) (omega arith) (t .result) (t .ensures) (l .start) (l .inv .3) (l .store) (putMid (l .start) (e - l .start) (l .store) (f .last .0)) (f .last .0) (l .inv .1) (f .ensures) refl ∙ l .inv .4)
 
-same-length : tie.Need-same-length Inv-loop μ-loop
-same-length c = search needs
-
 returns-2 : tie.Need-returns-2 Inv-loop μ-loop
 returns-2 c =
     let l = c .before .loop in
@@ -116,24 +59,7 @@ returns-2 c =
 
 pub fill-natural-orders-spec : {M : Type 1} → statement M
 fill-natural-orders-spec =
-    tie.close
-    (tie.spec
-    Inv-loop
-    μ-loop
-    returns
-    loop-holds
-    block-size-requires
-    mul-n
-    mul-n-2
-    mul-e
-    add-e
-    mul-fill-order
-    sub-fill-order
-    part-fill-order-start
-    part-fill-order-end
-    fill-order-requires
-    add-k
-    loop-less
-    loop-again
-    same-length
-    returns-2)
+    tie.close (tie.spec Inv-loop μ-loop returns loop-holds (λ c κs. search needs) (λ c. omega (arith, room c))
+    (λ c. omega (arith, room c)) (λ c. omega (arith, room c)) (λ c. omega (arith, room c)) (λ c. omega (arith, room c))
+    (λ c. search needs) (λ c. search needs) (λ c. omega (arith, room c)) fill-order-requires (λ c. search needs)
+    (λ c. search needs) loop-again (λ c. search needs) returns-2)

@@ -8,30 +8,6 @@ use Rattle.hf_pass_naturals.proofs.fill_order.Tie as tie
 use Rattle.hf_pass_naturals.proofs.copy_to.Reads as copy-to-reads
 use Rattle.natural_order.proofs.fill_natural_order.Reads as fill-natural-order-reads
 
-sub-fill-natural-order : tie.Need-sub-fill-natural-order
-sub-fill-natural-order c = search needs
-
-part-fill-natural-order-start : tie.Need-part-fill-natural-order-start
-part-fill-natural-order-start c = search needs
-
-part-fill-natural-order-end : tie.Need-part-fill-natural-order-end
-part-fill-natural-order-end c = search needs
-
-fill-natural-order-requires : tie.Need-fill-natural-order-requires
-fill-natural-order-requires c κs = search needs
-
-copy-to-requires : tie.Need-copy-to-requires
-copy-to-requires c κs = search needs
-
-mul-twice : tie.Need-mul-twice
-mul-twice c = search needs
-
-copy-to-requires-2 : tie.Need-copy-to-requires-2
-copy-to-requires-2 c κs = search needs
-
-same-length : tie.Need-same-length
-same-length c = search needs
-
 returns : tie.Need-returns
 returns c =
     let a = c .before .before .before .before .before .before .before .before .before .before .before .before .before .args in
@@ -44,14 +20,5 @@ returns c =
 
 pub fill-order-spec : {M : Type 1} → statement M
 fill-order-spec =
-    tie.close
-    (tie.spec
-    sub-fill-natural-order
-    part-fill-natural-order-start
-    part-fill-natural-order-end
-    fill-natural-order-requires
-    copy-to-requires
-    mul-twice
-    copy-to-requires-2
-    same-length
-    returns)
+    tie.close (tie.spec (λ c. search needs) (λ c. search needs) (λ c. search needs) (λ c κs. search needs)
+    (λ c κs. search needs) (λ c. search needs) (λ c κs. search needs) (λ c. search needs) returns)

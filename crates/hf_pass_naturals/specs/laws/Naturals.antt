@@ -18,10 +18,8 @@ use Rattle.natural_order.specs.Places.{Place, flat}
 use Rattle.natural_order.specs.Natural.{natural}
 use Rattle.natural_order.specs.laws.Sizes.{right, of-right, all-right, size-of}
 use Rattle.natural_order.specs.laws.Turns.{natural-numbers, sets-all, laid}
-use Rattle.natural_order.specs.laws.Filled.{filled}
-use Rattle.natural_order.specs.laws.Filling.{room-for}
-use Rattle.hf_pass_store.specs.Store.{PLACES, stored, thrice, before}
-use Rattle.hf_pass_store.specs.Offsets.{from}
+use Rattle.natural_order.specs.laws.Filling.{filled, room-for}
+use Rattle.hf_pass_store.specs.Store.{PLACES, stored, thrice, before, from}
 use Rattle.hf_pass_store.specs.laws.Offsets.{from-step, from-most, from-channel, sizes-13, store-places, places-by}
 use Rattle.hf_pass_naturals.specs.Naturals.{naturals}
 

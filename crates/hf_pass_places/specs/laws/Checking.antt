@@ -11,8 +11,7 @@ use borrow.Author.Tests.{eq-eqb, ne-eqb}
 use Rattle.block_sizes.specs.declared.Sides.{Sides}
 use Rattle.block_sizes.specs.BlockSizes.{BLOCK-SIZES, widthOf, heightOf}
 use Rattle.block_sizes.specs.laws.BlockSizes.{blockSize}
-use Rattle.hf_pass_store.specs.Store.{PLACES, thrice, insideAll, listsFit, placesFit}
-use Rattle.hf_pass_store.specs.Offsets.{from}
+use Rattle.hf_pass_store.specs.Store.{PLACES, thrice, insideAll, listsFit, placesFit, from}
 use Rattle.hf_pass_store.specs.laws.Offsets.{from-step, from-start, from-most, lists-39, list-size, places-by}
 use Rattle.hf_pass_places.specs.laws.Powers.{Power, width-power, height-power}
 

@@ -10,8 +10,7 @@ use lib.Seq.{length-take-le}
 use borrow.Author.Tests.{lt-ltb, eq-eqb, eqb-true, eqb-false, ltb-true}
 use Rattle.block_sizes.specs.BlockSizes.{widthOf, heightOf}
 use Rattle.natural_order.specs.laws.Bools.{and-left, and-right}
-use Rattle.hf_pass_store.specs.Store.{PLACES, stretch, insideAll, placesFit}
-use Rattle.hf_pass_store.specs.Offsets.{from}
+use Rattle.hf_pass_store.specs.Store.{PLACES, stretch, insideAll, placesFit, from}
 use Rattle.hf_pass_store.specs.laws.Offsets.{from-step, from-most, places-by}
 use Rattle.hf_pass_places.specs.laws.Checking.{fitFrom, fit-start, fit-next, fit-end}
 use Rattle.hf_pass_places.specs.Places.{Inside}

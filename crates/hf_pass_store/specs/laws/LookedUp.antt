@@ -10,8 +10,7 @@ use borrow.Author.Tests.{lt-ltb, le-ltb, eq-eqb, ne-eqb, ltb-true, eqb-true}
 use Rattle.block_sizes.specs.BlockSizes.{BLOCK-SIZES, widthOf, heightOf}
 use Rattle.natural_order.specs.laws.Bools.{and-false}
 use Rattle.hf_pass_store.specs.declared.Stretch.{Stretch}
-use Rattle.hf_pass_store.specs.Store.{PLACES, before, thrice, stretch}
-use Rattle.hf_pass_store.specs.Offsets.{from}
+use Rattle.hf_pass_store.specs.Store.{PLACES, before, thrice, stretch, from}
 use Rattle.hf_pass_store.specs.laws.Offsets.{from-step, from-most, from-channel, places-by}
 use Rattle.hf_pass_store.specs.LookedUp.{stretchAt, stretchFrom}
 

@@ -4,11 +4,12 @@ use mathlib.Core.List.{List, [], _∷_}
 use Prim.Native.Nat.{ℕ, zero, suc, _+_, _*_, _/_, _%_, _<_, _≤_}
 use native.Mathlib.Nat.{not-suc-le-zero, le-of-suc-le-suc}
 use native.Mathlib.Omega.{arith}
+use lib.Dec.{eqb, eqb→eq}
 use lib.ListN.{length, getD}
+use Rattle.laws.specs.laws.Tables.{each-at}
 use Rattle.block_sizes.specs.BlockSizes.{BLOCK-SIZES, widthOf, heightOf}
 use Rattle.natural_order.specs.Places.{Place}
-use Rattle.hf_pass_store.specs.Store.{PLACES, thrice, area, before}
-use Rattle.hf_pass_store.specs.Offsets.{from}
+use Rattle.hf_pass_store.specs.Store.{PLACES, thrice, area, before, from}
 
 -- order k, channel c begins behind c lists of its own size
 pub before-by : (ss : List Place) (k c : ℕ) → k < length ss → c < 3 → before (thrice ss) (3 * k + c) ≡ 3 * before ss k + c * area (getD ss k (0, 0))
@@ -98,3 +99,19 @@ from-channel k c h l =
     twice : (c n : ℕ) → c * (2 * n) ≡ 2 * (c * n)
     twice zero n = omega arith
     twice (suc c) n = let r = twice c n in omega arith
+
+-- the first number of each order's lists, and the numbers of one of them, as the code has them
+abbrev pub STARTS : List ℕ
+STARTS = 0 ∷ 384 ∷ 768 ∷ 2304 ∷ 8448 ∷ 9216 ∷ 10752 ∷ 13824 ∷ 38400 ∷ 50688 ∷ 148992 ∷ 198144 ∷ 591360 ∷ []
+
+abbrev pub COUNTS : List ℕ
+COUNTS = 128 ∷ 128 ∷ 512 ∷ 2048 ∷ 256 ∷ 512 ∷ 1024 ∷ 8192 ∷ 4096 ∷ 32768 ∷ 16384 ∷ 131072 ∷ 65536 ∷ []
+
+pub start-at : (o k : ℕ) → k < 13 → o ≡ k → getD STARTS k 0 ≡ from (3 * o)
+unfolding from BLOCK-SIZES
+start-at o k h e = rw e (eqb→eq (getD STARTS k 0) (from (3 * k)) (each-at (λ (k : ℕ). eqb (getD STARTS k 0) (from (3 * k))) 13 0 tt k (omega arith) (omega arith)))
+
+pub count-at : (o k : ℕ) → k < 13 → o ≡ k → getD COUNTS k 0 ≡ 2 * (widthOf o * heightOf o)
+unfolding BLOCK-SIZES widthOf heightOf
+count-at o k h e =
+    rw e (eqb→eq (getD COUNTS k 0) (2 * (widthOf k * heightOf k)) (each-at (λ (k : ℕ). eqb (getD COUNTS k 0) (2 * (widthOf k * heightOf k))) 13 0 tt k (omega arith) (omega arith)))

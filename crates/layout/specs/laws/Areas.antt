@@ -1,4 +1,5 @@
--- Laws: Equal areas do not show an exact cover (document 01, Refused, 18): of 2 x 2 blocks, type 7 at (0, 0) and type 6 at (1, 0) share the cell (1, 0),
+-- Equal areas do not show an exact cover (document 01, Refused, 18): of 2 x 2 blocks, type 7 at (0, 0) and type 6 at (1, 0) share the cell (1, 0),
+-- the occupied cell (0, 1) is in neither, and their areas sum to 4.
 use mathlib.Core.Path.{_≡_, refl}
 use mathlib.Core.Bool.{false}
 use mathlib.Core.List.{[], _∷_}
@@ -7,12 +8,11 @@ use Rattle.layout.specs.Walk.{cells, rows}
 use Rattle.layout.specs.Grid.{fillFrom}
 use Rattle.layout.specs.Check.{clear, fitting, visitCell, checkRun, isLayout}
 use Rattle.layout.specs.Varblocks.{varblocksOf, area, cornersRow, cornersFrom}
-use Rattle.layout.specs.Areas.{overlapping}
 
-pub areas-equal : area (varblocksOf 2 2 overlapping (1 ∷ 1 ∷ 0 ∷ 0 ∷ [])) ≡ 4
+pub areas-equal : area (varblocksOf 2 2 (9 ∷ 8 ∷ 1 ∷ 1 ∷ []) (1 ∷ 1 ∷ 0 ∷ 0 ∷ [])) ≡ 4
 unfolding area cornersRow cornersFrom wide high TRANSFORMS
 areas-equal = refl
 
-pub no-cover : isLayout 2 2 overlapping (1 ∷ 1 ∷ 0 ∷ 0 ∷ []) ≡ false
+pub no-cover : isLayout 2 2 (9 ∷ 8 ∷ 1 ∷ 1 ∷ []) (1 ∷ 1 ∷ 0 ∷ 0 ∷ []) ≡ false
 unfolding checkRun visitCell fitting clear fillFrom rows cells wide high TRANSFORMS
 no-cover = refl

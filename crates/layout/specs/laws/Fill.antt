@@ -6,11 +6,10 @@ use Prim.Native.Nat.{ℕ, _+_, _*_, _≤_, _<_}
 use native.Mathlib.Omega.{arith}
 use lib.ListN.{length, set, length-set}
 use Rattle.laws.specs.laws.Cases.{le-or-lt}
-use Rattle.layout.specs.Walk.{walk}
+use Rattle.layout.specs.Walk.{walk, Before}
 use Rattle.layout.specs.laws.Walk.{forward}
 use Rattle.layout.specs.Grid.{at, gridOf}
 use Rattle.layout.specs.laws.Grid.{set-same, set-other, grid-is}
-use Rattle.layout.specs.Order.{Before}
 use Rattle.layout.specs.laws.Order.{Here, last}
 
 module _ (f : ℕ → ℕ → ℕ) (w h : ℕ) where

@@ -1,4 +1,4 @@
--- Laws: Grids as they are lent: flat lists, row by row.
+-- Laws on grids as they are lent: flat lists, row by row.
 use mathlib.Core.Path.{_≡_, refl, ap, sym, _∙_}
 use mathlib.Core.Logic.{_⊎_, inl, inr}
 use mathlib.Core.List.{List}

@@ -1,4 +1,4 @@
--- Laws: The groups of a layout together have all its varblocks, each once and where it was.
+-- The groups of a layout together have all its varblocks, each once and where it was.
 use mathlib.Core.Path.{_≡_, ap, sym, _∙_}
 use Prim.Native.Nat.{ℕ, _+_, _*_, _/_, _%_}
 use native.Mathlib.Nat.{div-add-mod, mul-comm}

@@ -1,4 +1,4 @@
--- Laws: The kind of a block (document 01, Layout): 0 free, 1 occupied, 2 + type at a varblock's corner.
+-- The sides of a kind (document 01, Layout): 1 to 32 blocks.
 use Prim.Native.Nat.{ℕ, _-_, _≤_, _<_}
 use Rattle.dct_select.specs.Transforms.{wide, high}
 use Rattle.dct_select.specs.laws.Sides.{wide-some, wide-most, high-some, high-most}

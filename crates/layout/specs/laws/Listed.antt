@@ -1,4 +1,4 @@
--- Laws: The list of a layout's varblocks has all of them and no others.
+-- The list of a layout's varblocks has all of them and no others.
 use mathlib.Core.Path.{_≡_, refl, ap, sym}
 use mathlib.Core.Bool.{Bool, true, false}
 use mathlib.Core.Logic.{_⊎_, inl, inr, _↔_}

@@ -1,4 +1,4 @@
--- Laws: Row by row: (a, b) is (x, y) or comes later.
+-- Row by row: what comes before a block, what comes from it on.
 use mathlib.Core.Path.{_≡_}
 use mathlib.Core.Logic.{_⊎_, inl, inr}
 use Prim.Native.Nat.{ℕ, zero, suc, _+_, _-_, _≤_, _<_}
@@ -6,7 +6,7 @@ use native.Mathlib.Omega.{arith}
 use Rattle.laws.specs.laws.Cases.{eq-or-ne}
 use Rattle.layout.specs.laws.Kinds.{wide-sized, high-sized}
 use Rattle.layout.specs.Valid.{Cells, Covers}
-use Rattle.layout.specs.Order.{Before}
+use Rattle.layout.specs.Walk.{Before}
 
 abbrev pub From : ℕ → ℕ → ℕ → ℕ → Type 0
 From x y a b = (y < b) ⊎ ((b ≡ y) × (x ≤ a))

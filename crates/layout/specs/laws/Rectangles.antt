@@ -14,10 +14,10 @@ use Rattle.layout.specs.Groups.{HasVarblock}
 use Rattle.layout.specs.Listed.{Among}
 use Rattle.layout.specs.laws.Listed.{listed}
 
-module _ {bw bh : ℕ} {kinds muls : List ℕ} (lay : Layout bw bh kinds muls) where
-  module _ (v : Varblock) (i : Among v (varblocksOf bw bh kinds muls)) where
-    pub has : HasVarblock (lent bw bh kinds muls) v
-    has = listed (lent bw bh kinds muls) v .0 i
+module _ {bw bh : ℕ} {kinds hfMul : List ℕ} (lay : Layout bw bh kinds hfMul) where
+  module _ (v : Varblock) (i : Among v (varblocksOf bw bh kinds hfMul)) where
+    pub has : HasVarblock (lent bw bh kinds hfMul) v
+    has = listed (lent bw bh kinds hfMul) v .0 i
 
     corner : 2 ≤ at kinds bw (v .x) (v .y)
     corner = let e = has .isType in omega arith
@@ -41,5 +41,5 @@ module _ {bw bh : ℕ} {kinds muls : List ℕ} (lay : Layout bw bh kinds muls) w
     covers x y a b c d = record { corner = corner; fromX = a; toX = rw type-is at b; fromY = c; toY = rw type-is at d }
 
   -- a corner of the grid is the corner of one of them
-  pub at-corner : (x y : ℕ) → x < bw → y < bh → 2 ≤ at kinds bw x y → Among (varblock x y (at kinds bw x y - 2) (at muls bw x y)) (varblocksOf bw bh kinds muls)
-  at-corner x y a b k = listed (lent bw bh kinds muls) (varblock x y (at kinds bw x y - 2) (at muls bw x y)) .1 (record { inX = a; inY = b; isType = omega arith; isHfMul = refl })
+  pub at-corner : (x y : ℕ) → x < bw → y < bh → 2 ≤ at kinds bw x y → Among (varblock x y (at kinds bw x y - 2) (at hfMul bw x y)) (varblocksOf bw bh kinds hfMul)
+  at-corner x y a b k = listed (lent bw bh kinds hfMul) (varblock x y (at kinds bw x y - 2) (at hfMul bw x y)) .1 (record { inX = a; inY = b; isType = omega arith; isHfMul = refl })

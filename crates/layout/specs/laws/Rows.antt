@@ -1,4 +1,4 @@
--- Laws: The rows of blocks that a row of pass groups lies in: a layout by themselves, and its groups are the whole layout's. So a caller
+-- The rows of blocks that a row of pass groups lies in are a layout, and its groups are the whole layout's.
 use mathlib.Core.Path.{_≡_, ap, sym, _∙_}
 use mathlib.Core.Bool.{true}
 use mathlib.Core.List.{List}
@@ -14,9 +14,8 @@ use Rattle.layout.specs.Grid.{at}
 use Rattle.layout.specs.laws.Grid.{grid-length, grid-at, grid-is, place-lt}
 use Rattle.layout.specs.Valid.{Cells, Covers, Owned, Valid, Layout}
 use Rattle.layout.specs.laws.Same.{valid-same}
-use Rattle.layout.specs.Cut.{groups, groupX, groupY, hasGroup, side, cutCells, groupBw, groupBh, cut}
+use Rattle.layout.specs.Cut.{groups, groupX, groupY, hasGroup, side, cutCells, groupBw, groupBh, cut, rowsOf}
 use Rattle.layout.specs.laws.CutLaws.{within}
-use Rattle.layout.specs.Rows.{rowsOf}
 
 module _ (bw bh q : ℕ) where
   abbrev below : Cells → Cells

@@ -7,14 +7,13 @@ use Prim.Native.Nat.{ℕ, _+_, _≤_, _<_}
 use native.Mathlib.Omega.{arith}
 use lib.ListN.{length, getD, replicate, length-replicate, getD-replicate}
 use Rattle.layout.specs.Kinds.{wideOf, highOf}
-use Rattle.layout.specs.Walk.{walk}
+use Rattle.layout.specs.Walk.{walk, Before}
 use Rattle.layout.specs.laws.Walk.{forward}
 use Rattle.laws.specs.laws.Cases.{eq-or-ne, le-or-lt}
 use Rattle.layout.specs.laws.Stretch.{Place, left, inside, right, place}
 use Rattle.layout.specs.Grid.{fillFrom}
 use Rattle.layout.specs.laws.Grid.{length-fill, fill-left, fill-in, fill-right}
 use Rattle.layout.specs.Valid.{Cells, Covers, Fits, Owned, Valid}
-use Rattle.layout.specs.Order.{Before}
 use Rattle.layout.specs.laws.Order.{Here, never, later, last, self}
 use Rattle.layout.specs.Check.{Covering, Fault, Until, passes, visit, visitCell}
 use Rattle.layout.specs.laws.CheckLaws.{checkIn, visit-covered, visit-opened}

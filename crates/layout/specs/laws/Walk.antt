@@ -1,4 +1,4 @@
--- Laws: A walk over the blocks (document 01, Layout: "Blocks are visited row by row"), and the ways to reason about it.
+-- Ways to reason about a walk over the blocks.
 use mathlib.Core.Path.{_≡_}
 use Prim.Native.Nat.{ℕ, zero, suc, _+_, _<_}
 use native.Mathlib.Omega.{arith}

@@ -1,4 +1,5 @@
-use Rattle.layout_column.specs.laws.Judged.{known-is, unknown-is, sized, judged-unknown, judged-zero, judged-negative, judged-wide, judged-high, judged-asks}
+use Rattle.dct_select.specs.laws.LookUp.{known-is, unknown-is, sized}
+use Rattle.layout_column.specs.laws.Judged.{judged-unknown, judged-zero, judged-negative, judged-wide, judged-high, judged-asks}
 use Rattle.layout_column.specs.Columns.{lowEight, hfMulOf}
 use borrow.Author.Needs.{needs}
 use native.Mathlib.Omega.{arith}
@@ -6,12 +7,6 @@ use mathlib.Core.Path.{_∙_, ap, sym}
 use Rattle.dct_select.specs.LookUp.{answered}
 use Rattle.layout_column.proofs.judge.Statement.{statement}
 use Rattle.layout_column.proofs.judge.Tie as tie
-
-from-number-requires : tie.Need-from-number-requires
-from-number-requires c κs = search needs
-
-enum-known-looked : tie.Need-enum-known-looked
-enum-known-looked c = search needs
 
 enum-told : tie.Need-enum-told
 enum-told c = search needs
@@ -21,9 +16,6 @@ returns c =
     let a = c .before .before .before .args in
     let e = sym (c .before .before .from-number .ensures) ∙ ap answered (c .enum-told .given .1) in
     judged-unknown (lowEight (a .transform)) (hfMulOf (a .mul)) (a .x) (a .y) (unknown-is (lowEight (a .transform)) _ e)
-
-wrapping-add-u32-requires : tie.Need-wrapping-add-u32-requires
-wrapping-add-u32-requires c κs = search needs
 
 returns-2 : tie.Need-returns-2
 returns-2 c =
@@ -38,9 +30,6 @@ returns-3 c =
     let e = sym (c .before .before .before .before .before .before .from-number .ensures) ∙ ap answered (c .before .before .before .before .looked .given .1) in
     let w = c .before .before .wrapping-add-u32 .ensures in
     judged-negative (lowEight (a .transform)) (hfMulOf (a .mul)) (a .x) (a .y) (known-is (lowEight (a .transform)) _ e .0) (omega arith) (omega arith)
-
-dct-select-size-requires : tie.Need-dct-select-size-requires
-dct-select-size-requires c κs = search needs
 
 add-if3 : tie.Need-add-if3
 add-if3 c =
@@ -72,9 +61,6 @@ returns-5 c =
     let w = c .before .before .before .before .before .wrapping-add-u32 .ensures in
     judged-high (lowEight (a .transform)) (hfMulOf (a .mul)) (a .x) (a .y) (s .below) (omega arith) (omega arith) (omega arith) (omega arith)
 
-add-kind : tie.Need-add-kind
-add-kind c = search needs
-
 cast-kind : tie.Need-cast-kind
 cast-kind c =
     let a = c .before .before .before .before .before .before .before .before .before .before .args in
@@ -94,18 +80,18 @@ pub judge-spec : {M : Type 1} → statement M
 judge-spec =
     tie.close
     (tie.spec
-    from-number-requires
-    enum-known-looked
+    (λ c κs. search needs)
+    (λ c. search needs)
     enum-told
     returns
-    wrapping-add-u32-requires
+    (λ c κs. search needs)
     returns-2
     returns-3
-    dct-select-size-requires
+    (λ c κs. search needs)
     add-if3
     returns-4
     add-if4
     returns-5
-    add-kind
+    (λ c. search needs)
     cast-kind
     returns-6)

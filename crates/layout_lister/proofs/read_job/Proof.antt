@@ -13,25 +13,10 @@ Inv-loop job₀ n₀ job n = (n ≤ 36870) × (length job ≡ 36870)
 abbrev μ-loop : tie.MeasureT-loop
 μ-loop job₀ n₀ job n = 36870 - n
 
-loop-holds : tie.Need-loop-holds Inv-loop μ-loop
-loop-holds c = search needs
-
-slice-reshare-prefix-needed : tie.Need-slice-reshare-prefix-needed Inv-loop μ-loop
-slice-reshare-prefix-needed c = search needs
-
 slice-aggregate-needed : tie.Need-slice-aggregate-needed Inv-loop μ-loop
 slice-aggregate-needed c =
     let l = c .before .loop in
     omega (arith, length-take (l .n) (l .job))
-
-needed-requires : tie.Need-needed-requires Inv-loop μ-loop
-needed-requires c κs = search needs
-
-same-length : tie.Need-same-length Inv-loop μ-loop
-same-length c = search needs
-
-returns : tie.Need-returns Inv-loop μ-loop
-returns c = search needs
 
 add-end : tie.Need-add-end Inv-loop μ-loop
 add-end c =
@@ -41,12 +26,6 @@ add-end c =
     let f = needed-fits (take (l .n) (l .job)) (omega arith) in
     omega arith
 
-sub-read-full : tie.Need-sub-read-full Inv-loop μ-loop
-sub-read-full c = search needs
-
-part-read-full-start : tie.Need-part-read-full-start Inv-loop μ-loop
-part-read-full-start c = search needs
-
 part-read-full-end : tie.Need-part-read-full-end Inv-loop μ-loop
 part-read-full-end c =
     let l = c .before .before .before .loop in
@@ -54,9 +33,6 @@ part-read-full-end c =
     let t = length-take (l .n) (l .job) in
     let f = needed-fits (take (l .n) (l .job)) (omega arith) in
     omega arith
-
-read-full-requires : tie.Need-read-full-requires Inv-loop μ-loop
-read-full-requires c κs = search needs
 
 add-n : tie.Need-add-n Inv-loop μ-loop
 add-n c =
@@ -69,9 +45,6 @@ add-n c =
     let g = c .before .job .given .0 in
     let m = length-take (l .n + k .result - l .n) (drop (l .n) (l .job)) in
     omega arith
-
-same-length-2 : tie.Need-same-length-2 Inv-loop μ-loop
-same-length-2 c = search needs
 
 returns-2 : tie.Need-returns-2 Inv-loop μ-loop
 returns-2 c =
@@ -115,19 +88,19 @@ read-job-spec =
     (tie.spec
     Inv-loop
     μ-loop
-    loop-holds
-    slice-reshare-prefix-needed
+    (λ c. search needs)
+    (λ c. search needs)
     slice-aggregate-needed
-    needed-requires
-    same-length
-    returns
+    (λ c κs. search needs)
+    (λ c. search needs)
+    (λ c. search needs)
     add-end
-    sub-read-full
-    part-read-full-start
+    (λ c. search needs)
+    (λ c. search needs)
     part-read-full-end
-    read-full-requires
+    (λ c κs. search needs)
     add-n
-    same-length-2
+    (λ c. search needs)
     returns-2
     loop-less
     loop-again)

@@ -1,11 +1,9 @@
--- Laws on lent lengths that fit, and the reading as the code goes.
+-- The reading as the code goes: one law for each way out.
 use mathlib.Core.Path.{_≡_, ap, sym, _∙_}
-use mathlib.Core.Bool.{Bool, true, false, _&&_}
+use mathlib.Core.Bool.{Bool, true, false}
 use mathlib.Core.List.{List}
 use Prim.Native.Nat.{ℕ, _*_, _≤_, _<_}
-use lib.Dec.{T, eqb, eqb→eq}
 use lib.ListN.{length}
-use lib.Ieee.Fits.{and-l, and-r}
 use borrow.Author.Tests.{le-leb, lt-leb}
 use Rattle.refusal.specs.declared.Refusal.{Refusal}
 use Rattle.refusal.specs.declared.Refusal.the-variants.{Length, Parameter}
@@ -13,61 +11,36 @@ use Rattle.layout.specs.Walk.{walk}
 use Rattle.layout_reading.specs.declared.column.Step.{Step}
 use Rattle.layout_reading.specs.declared.column.Step.the-variants.{Going as GoesOn, Stopped as Stops}
 use Rattle.layout_reading.specs.Reading.{Job, Going, visit, zeros, reading}
-use Rattle.layout_reading.specs.laws.Reading.{stateOf, stepped}
-use Rattle.layout_reading.specs.Outcome.{outcomeOf}
-use Rattle.layout_reading.specs.laws.Outcome.{handed, fits, readOf}
+use Rattle.layout_reading.specs.laws.Outcome.{stateOf, stepped, toldBy, handed, fits, readOf}
 use Rattle.filter_strength.specs.declared.Filter.{Filter}
 use Rattle.filter_strength.specs.Limits.{paramsFit}
-use Rattle.layout_counts.specs.Counts.{countsFit}
+use Rattle.lf_group.specs.Blocks.{countsFit}
 
--- lengths that fit
-pub record Counts (types muls sharpness kinds hfMul sigma n : ℕ) : Type 0 where
-  pub mulsAre : muls ≡ types
-  pub sharpnessAre : sharpness ≡ n
-  pub kindsAre : kinds ≡ n
-  pub hfMulAre : hfMul ≡ n
-  pub sigmaAre : sigma ≡ n
-
-pub counts : (types muls sharpness kinds hfMul sigma n : ℕ) → countsFit types muls sharpness kinds hfMul sigma n ≡ true → Counts types muls sharpness kinds hfMul sigma n
-counts types muls sharpness kinds hfMul sigma n e =
-    let t : T (countsFit types muls sharpness kinds hfMul sigma n) = rw e tt in
-    let a = and-l (eqb muls types && eqb sharpness n && eqb kinds n && eqb hfMul n) (eqb sigma n) t in
-    let b = and-l (eqb muls types && eqb sharpness n && eqb kinds n) (eqb hfMul n) a in
-    let c = and-l (eqb muls types && eqb sharpness n) (eqb kinds n) b in
-    record {
-      mulsAre = eqb→eq muls types (and-l (eqb muls types) (eqb sharpness n) c);
-      sharpnessAre = eqb→eq sharpness n (and-r (eqb muls types) (eqb sharpness n) c);
-      kindsAre = eqb→eq kinds n (and-r (eqb muls types && eqb sharpness n) (eqb kinds n) b);
-      hfMulAre = eqb→eq hfMul n (and-r (eqb muls types && eqb sharpness n && eqb kinds n) (eqb hfMul n) a);
-      sigmaAre = eqb→eq sigma n (and-r (eqb muls types && eqb sharpness n && eqb kinds n && eqb hfMul n) (eqb sigma n) t);
-    }
-
--- one law for each way out of the reading
 module _ (J : Job) (k m s : List ℕ) (filter : Filter) (scale : ℕ) where
-  pub read-params : paramsFit filter (J .lookups) scale ≡ false → handed (Stops Parameter) k m s ≡ readOf J k m s filter scale
+  pub read-params : paramsFit filter (J .lookups) scale ≡ false → handed (Stops 0 Parameter) k m s ≡ readOf J k m s filter scale
   unfolding readOf
   read-params e = rw e
 
   module _ (params : paramsFit filter (J .lookups) scale ≡ true) where
-    refused : fits J k m s ≡ false → handed (Stops Length) k m s ≡ readOf J k m s filter scale
+    refused : fits J k m s ≡ false → handed (Stops 0 Length) k m s ≡ readOf J k m s filter scale
     unfolding readOf
     refused e = rw (params, e)
 
-    pub read-wide : 256 < J .bw → handed (Stops Length) k m s ≡ readOf J k m s filter scale
+    pub read-wide : 256 < J .bw → handed (Stops 0 Length) k m s ≡ readOf J k m s filter scale
     read-wide a = refused (rw (lt-leb (J .bw) 256 a))
 
     module _ (a : J .bw ≤ 256) where
-      pub read-high : 256 < J .bh → handed (Stops Length) k m s ≡ readOf J k m s filter scale
+      pub read-high : 256 < J .bh → handed (Stops 0 Length) k m s ≡ readOf J k m s filter scale
       read-high b = refused (rw (le-leb (J .bw) 256 a, lt-leb (J .bh) 256 b))
 
       module _ (b : J .bh ≤ 256) where
         abbrev pub lent : Bool
         lent = countsFit (length (J .types)) (length (J .muls)) (length (J .sharpness)) (length k) (length m) (length s) (J .bh * J .bw)
 
-        pub read-lengths : lent ≡ false → handed (Stops Length) k m s ≡ readOf J k m s filter scale
+        pub read-lengths : lent ≡ false → handed (Stops 0 Length) k m s ≡ readOf J k m s filter scale
         read-lengths c = refused (rw (le-leb (J .bw) 256 a, le-leb (J .bh) 256 b, c))
 
-        pub read-works : lent ≡ true → outcomeOf J (reading J) ≡ readOf J k m s filter scale
+        pub read-works : lent ≡ true → toldBy J (reading J) ≡ readOf J k m s filter scale
         unfolding readOf
         read-works c = rw (params, le-leb (J .bw) 256 a, le-leb (J .bh) 256 b, c)
 
@@ -78,9 +51,9 @@ module _ (J : Job) (t : Step) (k m k′ m′ g g′ : List ℕ) (zk : k ≡ zero
   unfolding reading
   read-all = e ∙ rw (zk, zm, zg)
 
-  pub read-accepts : (used : ℕ) → t ≡ GoesOn used → handed t k′ m′ g′ ≡ outcomeOf J (reading J)
-  read-accepts used d = ap (λ (z : Step). handed z k′ m′ g′) d ∙ ap (outcomeOf J) (sym (ap (λ (z : Step). stepped z k′ m′ g′) d) ∙ read-all)
+  pub read-accepts : (used : ℕ) → t ≡ GoesOn used → handed t k′ m′ g′ ≡ toldBy J (reading J)
+  read-accepts used d = ap (λ (z : Step). handed z k′ m′ g′) d ∙ ap (toldBy J) (sym (ap (λ (z : Step). stepped z k′ m′ g′) d) ∙ read-all)
 
-  pub read-refuses : (r : Refusal) (ck cm cg : List ℕ) → t ≡ Stops r → ck ≡ zeros J → cm ≡ zeros J → cg ≡ zeros J
-      → handed (Stops r) ck cm cg ≡ outcomeOf J (reading J)
-  read-refuses r ck cm cg d a b c = rw (a, b, c) (ap (outcomeOf J) (sym (ap (λ (z : Step). stepped z k′ m′ g′) d) ∙ read-all))
+  pub read-refuses : (n : ℕ) (r : Refusal) (ck cm cg : List ℕ) → t ≡ Stops n r → ck ≡ zeros J → cm ≡ zeros J → cg ≡ zeros J
+      → handed (Stops n r) ck cm cg ≡ toldBy J (reading J)
+  read-refuses n r ck cm cg d a b c = rw (a, b, c) (ap (toldBy J) (sym (ap (λ (z : Step). stepped z k′ m′ g′) d) ∙ read-all))

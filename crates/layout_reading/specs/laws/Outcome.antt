@@ -1,22 +1,49 @@
--- Laws: What a reading answers and leaves in kinds, hf_mul and sigma (document 01, Layout and filter strength; Refused).
-use mathlib.Core.Bool.{Bool, cond, not, _&&_}
+-- What the reading's functions promise: the reading by what the code answers and leaves.
+use mathlib.Core.Bool.{Bool, _&&_}
 use mathlib.Core.List.{List}
 use Prim.Native.Nat.{ℕ, _*_}
 use lib.Dec.{leb}
 use lib.ListN.{length}
-use Rattle.refusal.specs.Said as refusals
+use Rattle.refusal.specs.declared.Said.{Said}
+use Rattle.refusal.specs.Said.{said}
+use Rattle.refusal.specs.Answer.{Answer, gives, refuses, unless, passed, answeredBy}
 use Rattle.filter_strength.specs.declared.Filter.{Filter}
 use Rattle.filter_strength.specs.Limits.{paramsFit}
-use Rattle.layout_counts.specs.Counts.{countsFit}
+use Rattle.lf_group.specs.Blocks.{countsFit}
 use Rattle.layout_reading.specs.declared.column.Step.{Step}
 use Rattle.layout_reading.specs.declared.column.Step.the-variants.{Going as GoesOn, Stopped as Stops}
-use Rattle.layout_reading.specs.Reading.{Job, reading}
-use Rattle.layout_reading.specs.Outcome.{Outcome, accepted, outcome, outcomeOf, refused}
+use Rattle.layout_reading.specs.Reading.{Job, Placed, Placing, Going, Stopped, reading}
+use Rattle.layout_reading.specs.Outcome.{Outcome, outcome, outcomeOf}
 
--- what the code answers and leaves
-abbrev pub handed : Step → List ℕ → List ℕ → List ℕ → Outcome
-handed (GoesOn used) kinds hfMul sigma = outcome (accepted used) kinds hfMul sigma
-handed (Stops r) kinds hfMul sigma = outcome (refused (refusals.said r)) kinds hfMul sigma
+-- what was placed, by its fields
+abbrev pub stateOf : ℕ → List ℕ → List ℕ → List ℕ → Placed
+stateOf used kinds hfMul sigma = record { used = used; kinds = kinds; hfMul = hfMul; sigma = sigma }
+
+-- a reading from what the code answers and what it left in kinds, hf_mul and sigma
+abbrev pub stepped : Step → List ℕ → List ℕ → List ℕ → Placing
+stepped (GoesOn used) kinds hfMul sigma = Going (stateOf used kinds hfMul sigma)
+stepped (Stops n r) kinds hfMul sigma = Stopped n (said r)
+
+-- the columns that a reading has placed
+abbrev pub placedBy : Placing → ℕ
+placedBy (Going p) = p .used
+placedBy (Stopped n s) = n
+
+-- what a reading answers and leaves, and the columns that it placed
+pub record Told : Type 0 where
+  pub placed : ℕ
+  pub outcome : Outcome
+
+abbrev pub told : ℕ → Outcome → Told
+told n o = record { placed = n; outcome = o }
+
+abbrev pub toldBy : Job → Placing → Told
+toldBy J r = told (placedBy r) (outcomeOf J r)
+
+-- the same from what the code answers and leaves
+abbrev pub handed : Step → List ℕ → List ℕ → List ℕ → Told
+handed (GoesOn used) kinds hfMul sigma = told used (outcome (gives used) kinds hfMul sigma)
+handed (Stops n r) kinds hfMul sigma = told n (outcome (refuses (said r)) kinds hfMul sigma)
 
 module _ (J : Job) (kinds hfMul sigma : List ℕ) where
   -- at most 256 blocks each way, and lent lengths that fit
@@ -25,12 +52,10 @@ module _ (J : Job) (kinds hfMul sigma : List ℕ) where
       leb (J .bw) 256 && leb (J .bh) 256
       && countsFit (length (J .types)) (length (J .muls)) (length (J .sharpness)) (length kinds) (length hfMul) (length sigma) (J .bh * J .bw)
 
-  -- nothing is written
-  abbrev pub refuse : ℕ → Outcome
-  refuse n = outcome (refused (refusals.at n 0 0)) kinds hfMul sigma
+  abbrev pub readChecks : Filter → ℕ → Answer Unit
+  readChecks filter scale = unless 11 (paramsFit filter (J .lookups) scale) (unless 1 fits passed)
 
-  -- the job of this filter and scale, whatever the lent buffers held: 11 where the filter's numbers are outside their limits, 1 where lengths do not fit
-  unfoldable pub readOf : Filter → ℕ → Outcome
+  -- the job of this filter and scale, whatever the lent buffers held; refused before work, nothing is written
+  unfoldable pub readOf : Filter → ℕ → Told
   readOf filter scale =
-      cond (not (paramsFit filter (J .lookups) scale)) (refuse 11)
-      (cond (not fits) (refuse 1) (outcomeOf J (reading J)))
+      answeredBy (readChecks filter scale) (λ (s : Said). told 0 (outcome (refuses s) kinds hfMul sigma)) (λ (u : Unit). toldBy J (reading J))

@@ -3,12 +3,14 @@ use mathlib.Core.Path.{_≡_, ap, sym, _∙_}
 use mathlib.Core.List.{List}
 use Prim.Native.Nat.{ℕ, _≤_, _<_}
 use native.Mathlib.Omega.{arith}
-use lib.ListN.{length, getD}
+use lib.ListN.{length}
 use lib.Ieee.{Float}
-use borrow.Author.Tests.{le-leb, lt-leb, eq-eqb, ne-eqb}
+use borrow.Author.Tests.{lt-ltb, le-ltb, eq-eqb, ne-eqb}
+use Rattle.refusal.specs.declared.Said.{Said}
 use Rattle.refusal.specs.Said as refusals
+use Rattle.refusal.specs.Answer.{Answer, gives, refuses, answeredBy}
+use Rattle.refusal.specs.laws.Answer.{answered-by}
 use Rattle.refusal.specs.declared.Refusal.{Refusal}
-use Rattle.dct_select.specs.Transforms.{wide, high}
 use Rattle.layout.specs.Grid.{at}
 use Rattle.filter_strength.specs.declared.ScaledFilter.{ScaledFilter}
 use Rattle.filter_strength.specs.declared.DividedFilter.{DividedFilter}
@@ -17,13 +19,13 @@ use Rattle.layout_reading.specs.declared.scan.Scanned.{Scanned}
 use Rattle.layout_column.specs.declared.Judged.{Judged}
 use Rattle.layout_reading.specs.declared.column.Step.{Step}
 use Rattle.layout_reading.specs.declared.column.Step.the-variants.{Stopped as Stops}
-use Rattle.layout_column.specs.Columns.{lowEight, hfMulOf}
-use Rattle.layout_column.specs.laws.Columns.{Asking, asks, refuses, saidJudged, judgedColumn, judgedOf}
-use Rattle.layout_column.specs.laws.Judged.{checks-by}
+use Rattle.layout_column.specs.declared.JudgedColumn.{JudgedColumn}
+use Rattle.layout_column.specs.Columns.{columnChecks}
+use Rattle.layout_column.specs.laws.Judged.{saidJudged, judgedColumn, judgedOf}
 use Rattle.layout_reading.specs.Scan.{Scan, Taking, scan}
 use Rattle.layout_reading.specs.laws.Scan.{scanned}
-use Rattle.layout_reading.specs.Reading.{Job, Placed, Reading, Going, Stopped, placed, place, placeIn, judge, column, visit}
-use Rattle.layout_reading.specs.laws.Reading.{stepped}
+use Rattle.layout_reading.specs.Reading.{Job, Placed, Placing, Going, Stopped, stopAt, placed, place, placeIn, nextType, nextHfMul, column, visit}
+use Rattle.layout_reading.specs.laws.Outcome.{stepped}
 
 module _ (bw bh : ℕ) (filter : ScaledFilter) (lookups : List Float) (sharpness : List ℕ) (kind h w n x y : ℕ) (p : Placed) where
   pub place-by : (f g : Scanned) (divided : DividedFilter) (k s : List ℕ) → divided ≡ dividedBy filter h
@@ -36,16 +38,12 @@ module _ (bw bh : ℕ) (filter : ScaledFilter) (lookups : List Float) (sharpness
       ∙ ap (λ (z : DividedFilter). scan bw bh z lookups sharpness x y w n (Taking (p .kinds) (p .sigma))) q)
 
 module _ (J : Job) (x y : ℕ) (p : Placed) where
-  abbrev pub byAsking : Asking → Reading
-  byAsking (refuses r) = Stopped r
-  byAsking (asks v) = placeIn J (v .kind) (v .«hf_mul») (v .wide) (v .high) x y p
+  abbrev pub byAsking : Answer JudgedColumn → Placing
+  byAsking a =
+      answeredBy a (λ (s : Said). Stopped (p .used) s) (λ (v : JudgedColumn). placeIn J (v .kind) (v .«hf_mul») (v .wide) (v .high) x y p)
 
-  abbrev pub byJudged : Judged → Reading
+  abbrev pub byJudged : Judged → Placing
   byJudged j = byAsking (saidJudged j)
-
-  judge-by : (t h : ℕ) → byAsking (judgedOf t h x y) ≡ judge J t h x y p
-  unfolding judgedOf judge
-  judge-by t h = checks-by byAsking (λ (n : ℕ). refuses (refusals.at n x y)) (asks (judgedColumn t h)) t h x y
 
   pub visit-taken : 0 < at (p .kinds) (J .bw) x y → Going p ≡ visit J x y (Going p)
   visit-taken h = rw (ne-eqb (at (p .kinds) (J .bw) x y) 0 (omega arith))
@@ -54,17 +52,17 @@ module _ (J : Job) (x y : ℕ) (p : Placed) where
     is-free : at (p .kinds) (J .bw) x y ≡ 0
     is-free = omega arith
 
-    pub visit-ends : length (J .types) ≤ p .used → Stopped (refusals.at 4 x y) ≡ visit J x y (Going p)
+    pub visit-ends : length (J .types) ≤ p .used → stopAt 4 x y p ≡ visit J x y (Going p)
     unfolding column
-    visit-ends l = rw (eq-eqb (at (p .kinds) (J .bw) x y) 0 is-free, le-leb (length (J .types)) (p .used) l)
+    visit-ends l = rw (eq-eqb (at (p .kinds) (J .bw) x y) 0 is-free, le-ltb (p .used) (length (J .types)) l)
 
-    pub visit-judged : (j : Judged) → p .used < length (J .types) → saidJudged j ≡ judgedOf (lowEight (getD (J .types) (p .used) 0)) (hfMulOf (getD (J .muls) (p .used) 0)) x y
-        → byJudged j ≡ visit J x y (Going p)
-    unfolding column
+    pub visit-judged : (j : Judged) → p .used < length (J .types) → saidJudged j ≡ judgedOf (nextType J p) (nextHfMul J p) x y → byJudged j ≡ visit J x y (Going p)
+    unfolding column judgedOf
     visit-judged j l e =
-        rw (eq-eqb (at (p .kinds) (J .bw) x y) 0 is-free, lt-leb (length (J .types)) (p .used) l)
-        (ap byAsking e ∙ judge-by (lowEight (getD (J .types) (p .used) 0)) (hfMulOf (getD (J .muls) (p .used) 0)))
+        rw (eq-eqb (at (p .kinds) (J .bw) x y) 0 is-free, lt-ltb (p .used) (length (J .types)) l)
+        (ap byAsking e
+        ∙ answered-by byAsking (columnChecks (nextType J p) (nextHfMul J p) x y) (λ (s : Said). refuses (refusals.at (s .number) x y)) (λ (u : Unit). gives (judgedColumn (nextType J p) (nextHfMul J p))))
 
 -- a reading that was stopped stays so
-pub stop-stays : (J : Job) (s : Step) (r : Refusal) (k m g : List ℕ) → s ≡ Stops r → (a b : ℕ) → visit J a b (stepped s k m g) ≡ stepped s k m g
-stop-stays J s r k m g e a b = rw e
+pub stop-stays : (J : Job) (s : Step) (n : ℕ) (r : Refusal) (k m g : List ℕ) → s ≡ Stops n r → (a b : ℕ) → visit J a b (stepped s k m g) ≡ stepped s k m g
+stop-stays J s n r k m g e a b = rw e

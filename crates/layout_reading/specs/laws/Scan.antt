@@ -1,4 +1,4 @@
--- Laws: The scan of a varblock's rectangle: row by row, left at the first cell that refuses (document 01, Layout and filter strength).
+-- A scan by what the code answers and leaves.
 use mathlib.Core.Bool.{Bool, true, false}
 use mathlib.Core.List.{List}
 use Prim.Native.Nat.{ℕ}

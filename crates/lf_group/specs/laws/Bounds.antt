@@ -1,4 +1,4 @@
--- A group within its limits has at most 256 blocks each way.
+-- The grid of blocks: within the limits it has at most 256 blocks each way.
 use mathlib.Core.Path.{_≡_}
 use mathlib.Core.Bool.{Bool, true, false, _&&_}
 use mathlib.Core.List.{List}
@@ -6,7 +6,11 @@ use Prim.Native.Nat.{ℕ, _≤_}
 use native.Mathlib.Omega.{arith}
 use lib.Dec.{T, leb, leb→le}
 use lib.Ieee.Fits.{and-l, and-r}
+use Rattle.lf_group.specs.declared.Blocks.{Blocks}
 use Rattle.lf_group.specs.Blocks.{sizeFits, blocks, evenIf, anyEither, bwIn, bhIn}
+
+abbrev pub blocksOf : ℕ → ℕ → List ℕ → Blocks
+blocksOf width height modes = record { bw = bwIn width modes; bh = bhIn height modes }
 
 side : (even : Bool) (pixels : ℕ) → pixels ≤ 2048 → evenIf even (blocks pixels) ≤ 256
 side true pixels h = omega arith

@@ -12,13 +12,13 @@ use Rattle.likeness.proofs.alike_cell.Statement.{statement}
 use Rattle.likeness.proofs.alike_cell.Tie as tie
 
 returns : tie.Need-returns
-returns c = let a = c .before .args in sym (cell-plain (a .kind) (a .mul) (a .kind2) (a .mul2) (omega arith))
+returns c = let a = c .before .args in sym (cell-plain (a .kind) (a .hf-mul) (a .kind2) (a .hf-mul2) (omega arith))
 
 returns-2 : tie.Need-returns-2
-returns-2 c = let a = c .before .before .args in sym (cell-odd (a .kind) (a .mul) (a .kind2) (a .mul2) (omega arith) (omega arith))
+returns-2 c = let a = c .before .before .args in sym (cell-odd (a .kind) (a .hf-mul) (a .kind2) (a .hf-mul2) (omega arith) (omega arith))
 
 returns-3 : tie.Need-returns-3
-returns-3 c = let a = c .before .before .before .args in sym (cell-mul (a .kind) (a .mul) (a .kind2) (a .mul2) (omega arith) (omega arith) (c .if3 .taken))
+returns-3 c = let a = c .before .before .before .args in sym (cell-mul (a .kind) (a .hf-mul) (a .kind2) (a .hf-mul2) (omega arith) (omega arith) (c .if3 .taken))
 
 -- the sizes of two corners
 sized : (c : tie.After-size-of) → let k = c .before .before .before .before .args .kind in c .size-of .result ≡ sides (wideOf k) (highOf k)
@@ -44,7 +44,7 @@ returns-4 c =
     let a = c .before .before .before .before .before .before .before .before .args in
     let w : c .before .before .before .before .size-of .result .wide ≡ wideOf (a .kind) = ap (λ (s : Sides). s .wide) (sized (c .before .before .before .before)) in
     let w2 : c .before .before .before .size-of2 .result .wide ≡ wideOf (a .kind2) = ap (λ (s : Sides). s .wide) (sized2 (c .before .before .before)) in
-    sym (cell-wide (a .kind) (a .mul) (a .kind2) (a .mul2) (omega arith) (omega arith) (omega arith) (omega arith))
+    sym (cell-wide (a .kind) (a .hf-mul) (a .kind2) (a .hf-mul2) (omega arith) (omega arith) (omega arith) (omega arith))
 
 returns-5 : tie.Need-returns-5
 returns-5 c =
@@ -53,7 +53,7 @@ returns-5 c =
     let w2 : c .before .before .before .before .before .size-of2 .result .wide ≡ wideOf (a .kind2) = ap (λ (s : Sides). s .wide) (sized2 (c .before .before .before .before .before)) in
     let h : c .before .before .before .before .before .before .size-of .result .high ≡ highOf (a .kind) = ap (λ (s : Sides). s .high) (sized (c .before .before .before .before .before .before)) in
     let h2 : c .before .before .before .before .before .size-of2 .result .high ≡ highOf (a .kind2) = ap (λ (s : Sides). s .high) (sized2 (c .before .before .before .before .before)) in
-    ap (λ (n : ℕ). eqb n (c .before .before .before .before .before .size-of2 .result .high)) h ∙ ap (λ (n : ℕ). eqb (highOf (a .kind)) n) h2 ∙ sym (cell-high (a .kind) (a .mul) (a .kind2) (a .mul2) (omega arith) (omega arith) (omega arith) (omega arith))
+    ap (λ (n : ℕ). eqb n (c .before .before .before .before .before .size-of2 .result .high)) h ∙ ap (λ (n : ℕ). eqb (highOf (a .kind)) n) h2 ∙ sym (cell-high (a .kind) (a .hf-mul) (a .kind2) (a .hf-mul2) (omega arith) (omega arith) (omega arith) (omega arith))
 
 pub alike-cell-spec : {M : Type 1} → statement M
 alike-cell-spec =

@@ -12,13 +12,13 @@ use Rattle.likeness.proofs.alike_cells.Statement.{statement}
 use Rattle.likeness.proofs.alike_cells.Tie as tie
 
 abbrev Inv-loop : tie.InvT-loop
-Inv-loop kinds muls kinds2 muls2 wides highs i₀ i = (i ≤ length kinds) × (alikeFrom kinds muls kinds2 muls2 (length kinds) 0 ≡ left kinds muls kinds2 muls2 i)
+Inv-loop kinds hf-mul kinds2 hf-mul2 wides highs i₀ i = (i ≤ length kinds) × (alikeFrom kinds hf-mul kinds2 hf-mul2 (length kinds) 0 ≡ left kinds hf-mul kinds2 hf-mul2 i)
 
 abbrev μ-loop : tie.MeasureT-loop
-μ-loop kinds muls kinds2 muls2 wides highs i₀ i = length kinds - i
+μ-loop kinds hf-mul kinds2 hf-mul2 wides highs i₀ i = length kinds - i
 
 loop-holds : tie.Need-loop-holds Inv-loop μ-loop
-loop-holds c = let a = c .before .before .before .before .args in (omega arith, like-start (a .kinds .now) (a .muls .now) (a .kinds2 .now) (a .muls2 .now))
+loop-holds c = let a = c .before .before .before .before .args in (omega arith, like-start (a .kinds .now) (a .hf-mul .now) (a .kinds2 .now) (a .hf-mul2 .now))
 
 shared-slice-read-alike-cell : tie.Need-shared-slice-read-alike-cell Inv-loop μ-loop
 shared-slice-read-alike-cell c = search needs
@@ -45,7 +45,7 @@ alike-cell-requires c κs = (refl, refl)
 returns : tie.Need-returns Inv-loop μ-loop
 returns c =
     let a = c .before .before .before .before .before .before .before .before .before .before .before .before .before .before .args in
-    sym (c .before .before .before .before .before .before .before .before .before .loop .inv .1 ∙ like-stop (a .kinds .now) (a .muls .now) (a .kinds2 .now) (a .muls2 .now) (c .before .before .before .before .before .before .before .before .before .loop .i) (omega arith) (sym (c .before .alike-cell .ensures) ∙ not-true (c .before .alike-cell .result) (c .if1 .taken)))
+    sym (c .before .before .before .before .before .before .before .before .before .loop .inv .1 ∙ like-stop (a .kinds .now) (a .hf-mul .now) (a .kinds2 .now) (a .hf-mul2 .now) (c .before .before .before .before .before .before .before .before .before .loop .i) (omega arith) (sym (c .before .alike-cell .ensures) ∙ not-true (c .before .alike-cell .result) (c .if1 .taken)))
 
 add-i : tie.Need-add-i Inv-loop μ-loop
 add-i c = search needs
@@ -56,12 +56,12 @@ loop-less c = search needs
 loop-again : tie.Need-loop-again Inv-loop μ-loop
 loop-again c =
     let a = c .before .before .before .before .before .before .before .before .before .before .before .before .before .before .args in
-    (omega arith, c .before .before .before .before .before .before .before .before .before .loop .inv .1 ∙ like-next (a .kinds .now) (a .muls .now) (a .kinds2 .now) (a .muls2 .now) (c .before .before .before .before .before .before .before .before .before .loop .i) (omega arith) (sym (c .before .alike-cell .ensures) ∙ not-false (c .before .alike-cell .result) (c .if1 .left)))
+    (omega arith, c .before .before .before .before .before .before .before .before .before .loop .inv .1 ∙ like-next (a .kinds .now) (a .hf-mul .now) (a .kinds2 .now) (a .hf-mul2 .now) (c .before .before .before .before .before .before .before .before .before .loop .i) (omega arith) (sym (c .before .alike-cell .ensures) ∙ not-false (c .before .alike-cell .result) (c .if1 .left)))
 
 returns-2 : tie.Need-returns-2 Inv-loop μ-loop
 returns-2 c =
     let a = c .before .before .before .before .before .before .args in
-    sym (c .before .loop .inv .1 ∙ like-end (a .kinds .now) (a .muls .now) (a .kinds2 .now) (a .muls2 .now) (c .before .loop .i) (omega arith))
+    sym (c .before .loop .inv .1 ∙ like-end (a .kinds .now) (a .hf-mul .now) (a .kinds2 .now) (a .hf-mul2 .now) (c .before .loop .i) (omega arith))
 
 pub alike-cells-spec : {M : Type 1} → statement M
 alike-cells-spec =

@@ -13,7 +13,7 @@ use Rattle.refusal.specs.Said.{at}
 use Rattle.layout.specs.Kinds.{wideOf, highOf}
 use Rattle.layout.specs.laws.WalkSteps.{left-suc}
 use Rattle.layout.specs.Like.{Lent, bySort, alikeCorners, alikeCell, alikeFrom, alike}
-use Rattle.block_check.specs.Calls.{gives, refuses}
+use Rattle.refusal.specs.Answer.{gives, refuses}
 use Rattle.likeness.specs.Calls.{sided, filled, holdsLayout, likeOf}
 
 module _ (k m k′ m′ : ℕ) where
@@ -43,26 +43,26 @@ module _ (k m k′ m′ : ℕ) where
       unfolding alikeCell alikeCorners
       cell-high e f = rw (le-leb 2 k h, le-leb 2 k′ l, eq-eqb m m′ e, eq-eqb (wideOf k) (wideOf k′) f)
 
-module _ (kinds muls kinds′ muls′ : List ℕ) where
+module _ (kinds hfMul kinds′ hfMul′ : List ℕ) where
   abbrev pub left : ℕ → Bool
-  left i = alikeFrom kinds muls kinds′ muls′ (length kinds - i) i
+  left i = alikeFrom kinds hfMul kinds′ hfMul′ (length kinds - i) i
 
-  pub like-start : alikeFrom kinds muls kinds′ muls′ (length kinds) 0 ≡ left 0
-  like-start = ap (λ (n : ℕ). alikeFrom kinds muls kinds′ muls′ n 0) (let e : length kinds ≡ length kinds - 0 = omega arith in e)
+  pub like-start : alikeFrom kinds hfMul kinds′ hfMul′ (length kinds) 0 ≡ left 0
+  like-start = ap (λ (n : ℕ). alikeFrom kinds hfMul kinds′ hfMul′ n 0) (let e : length kinds ≡ length kinds - 0 = omega arith in e)
 
-  step : (i : ℕ) → i < length kinds → left i ≡ alikeCell (getD kinds i 0) (getD muls i 0) (getD kinds′ i 0) (getD muls′ i 0) && left (i + 1)
+  step : (i : ℕ) → i < length kinds → left i ≡ alikeCell (getD kinds i 0) (getD hfMul i 0) (getD kinds′ i 0) (getD hfMul′ i 0) && left (i + 1)
   unfolding alikeFrom
-  step i h = ap (λ (n : ℕ). alikeFrom kinds muls kinds′ muls′ n i) (left-suc i (length kinds) h)
+  step i h = ap (λ (n : ℕ). alikeFrom kinds hfMul kinds′ hfMul′ n i) (left-suc i (length kinds) h)
 
-  pub like-next : (i : ℕ) → i < length kinds → alikeCell (getD kinds i 0) (getD muls i 0) (getD kinds′ i 0) (getD muls′ i 0) ≡ true → left i ≡ left (i + 1)
+  pub like-next : (i : ℕ) → i < length kinds → alikeCell (getD kinds i 0) (getD hfMul i 0) (getD kinds′ i 0) (getD hfMul′ i 0) ≡ true → left i ≡ left (i + 1)
   like-next i h e = step i h ∙ ap (λ (b : Bool). b && left (i + 1)) e
 
-  pub like-stop : (i : ℕ) → i < length kinds → alikeCell (getD kinds i 0) (getD muls i 0) (getD kinds′ i 0) (getD muls′ i 0) ≡ false → left i ≡ false
+  pub like-stop : (i : ℕ) → i < length kinds → alikeCell (getD kinds i 0) (getD hfMul i 0) (getD kinds′ i 0) (getD hfMul′ i 0) ≡ false → left i ≡ false
   like-stop i h e = step i h ∙ ap (λ (b : Bool). b && left (i + 1)) e
 
   pub like-end : (i : ℕ) → length kinds ≤ i → left i ≡ true
   unfolding alikeFrom
-  like-end i h = ap (λ (n : ℕ). alikeFrom kinds muls kinds′ muls′ n i) (let e : length kinds - i ≡ 0 = omega arith in e)
+  like-end i h = ap (λ (n : ℕ). alikeFrom kinds hfMul kinds′ hfMul′ n i) (let e : length kinds - i ≡ 0 = omega arith in e)
 
 module _ (L N : Lent) where
   pub like-size : sided L ≡ false → likeOf L N ≡ refuses (at 2 0 0)

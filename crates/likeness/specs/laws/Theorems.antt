@@ -9,7 +9,7 @@ use Rattle.laws.specs.laws.Cases.{and-true}
 use Rattle.layout.specs.Like.{Lent, SameRectangles, alike}
 use Rattle.layout.specs.laws.LikeLaws.{alike-iff, not-wider, same-itself, same-turned, same-joined}
 use Rattle.layout.specs.laws.Theorems.{layout-iff}
-use Rattle.block_check.specs.Calls.{gives}
+use Rattle.refusal.specs.Answer.{gives}
 use Rattle.likeness.specs.Calls.{sided, filled, holdsLayout, likeOf}
 use Rattle.block_check.specs.laws.Laws.{pass}
 use Rattle.block_sides.specs.laws.Limits.{in-limits, lengths-fit, fit-lengths, limits-in}
@@ -44,8 +44,8 @@ module _ (L N : Lent) where
   same-alike : Sound L → Sound N → SameRectangles L N → alike L N ≡ true
   same-alike s t r =
       let p = s .sides in let q = t .sides in
-      let a = not-wider L N (s .layout) (t .layout) r (p .wideFrom) (p .highFrom) in
-      let b = not-wider N L (t .layout) (s .layout) (same-turned L N r) (q .wideFrom) (q .highFrom) in
+      let a = not-wider L N (s .layout) (t .layout) r (p .bwFrom) (p .bhFrom) in
+      let b = not-wider N L (t .layout) (s .layout) (same-turned L N r) (q .bwFrom) (q .bhFrom) in
       alike-iff L N .1 (omega arith, omega arith, r)
 
   pub like-yes : (likeOf L N ≡ gives true) ↔ (Sound L × Sound N × SameRectangles L N)

@@ -11,9 +11,6 @@ use lib.ListN.{length}
 use Rattle.lister.proofs.list_buffers.Statement.{statement}
 use Rattle.lister.proofs.list_buffers.Tie as tie
 
-blocks-of-requires : tie.Need-blocks-of-requires
-blocks-of-requires c κs = search needs
-
 mul-n : tie.Need-mul-n
 mul-n c =
     let a = c .before .before .before .before .before .before .before .before .args in
@@ -129,26 +126,11 @@ list-layout-requires c κs =
     let m = few-blocks (b .result .bw) (b .result .bh) w v in
     (ew, eh, w, v, cleared 0 (a .sharpness .now) (b .result .bh * b .result .bw) (b .result .bh * b .result .bw) (h .2) m refl, cleared 0 (a .kinds .now) (b .result .bh * b .result .bw) (b .result .bh * b .result .bw) (h .3) m refl, cleared 0 (a .hf-mul .now) (b .result .bh * b .result .bw) (b .result .bh * b .result .bw) (h .4) m refl, cleared 0 (a .sigma .now) (b .result .bh * b .result .bw) (b .result .bh * b .result .bw) (h .5) m refl)
 
-same-length : tie.Need-same-length
-same-length c = search needs
-
-same-length-2 : tie.Need-same-length-2
-same-length-2 c = search needs
-
-same-length-3 : tie.Need-same-length-3
-same-length-3 c = search needs
-
-same-length-4 : tie.Need-same-length-4
-same-length-4 c = search needs
-
-returns : tie.Need-returns
-returns c = search needs
-
 pub list-buffers-spec : {M : Type 1} → statement M
 list-buffers-spec =
     tie.close
     (tie.spec
-    blocks-of-requires
+    (λ c κs. search needs)
     mul-n
     slice-aggregate-list-layout
     slice-relend-prefix-list-layout
@@ -158,8 +140,8 @@ list-buffers-spec =
     slice-relend-prefix-list-layout-3
     slice-aggregate-list-layout-4
     list-layout-requires
-    same-length
-    same-length-2
-    same-length-3
-    same-length-4
-    returns)
+    (λ c. search needs)
+    (λ c. search needs)
+    (λ c. search needs)
+    (λ c. search needs)
+    (λ c. search needs))

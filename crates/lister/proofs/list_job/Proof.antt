@@ -14,9 +14,6 @@ use lib.ListN.{length, take}
 use Rattle.lister.proofs.list_job.Statement.{statement}
 use Rattle.lister.proofs.list_job.Tie as tie
 
-read-columns-requires : tie.Need-read-columns-requires
-read-columns-requires c κs = search needs
-
 mul-end : tie.Need-mul-end
 mul-end c =
     let a = c .before .before .before .before .before .args in
@@ -37,12 +34,6 @@ add-end c =
     let k = r .count in
     omega arith
 
-put-bad-requires : tie.Need-put-bad-requires
-put-bad-requires c κs = search needs
-
-same-length : tie.Need-same-length
-same-length c = search needs
-
 returns : tie.Need-returns
 returns c =
     let a = c .before .before .before .before .before .before .before .before .before .before .args in
@@ -53,15 +44,6 @@ returns c =
     let k = r .count in
     let b = c .before .before .put-bad in
     subst (λ (s : List ℕ). Puts (a .out .now) 0 s (b .last .0) (b .result)) (bad-cut (a .job .now) (h .0) (h .1) (omega (arith, h .2, h .4)) (omega (arith, h .3, h .5)) (v .result) (r .count) (c .before .before .before .before .if1 .taken)) (b .ensures)
-
-shared-slice-read-if2 : tie.Need-shared-slice-read-if2
-shared-slice-read-if2 c = search needs
-
-put-bad-requires-2 : tie.Need-put-bad-requires-2
-put-bad-requires-2 c κs = search needs
-
-same-length-2 : tie.Need-same-length-2
-same-length-2 c = search needs
 
 returns-2 : tie.Need-returns-2
 returns-2 c =
@@ -94,12 +76,6 @@ slice-aggregate-list-columns-2 c =
     let k = r .count in
     sym (ap length (read-first (mulAt (a .job .now)) (v .result) (a .muls .now) (v .last .1 .1 .0) (r .mulsAre)) ∙ length-tabulate (mulAt (a .job .now)) (v .result) 0)
 
-list-columns-requires : tie.Need-list-columns-requires
-list-columns-requires c κs = search needs
-
-same-length-3 : tie.Need-same-length-3
-same-length-3 c = search needs
-
 returns-3 : tie.Need-returns-3
 returns-3 c =
     let a = c .before .before .before .before .before .before .before .before .before .before .before .before .before .before .before .before .before .before .args in
@@ -118,18 +94,18 @@ pub list-job-spec : {M : Type 1} → statement M
 list-job-spec =
     tie.close
     (tie.spec
-    read-columns-requires
+    (λ c κs. search needs)
     mul-end
     add-end
-    put-bad-requires
-    same-length
+    (λ c κs. search needs)
+    (λ c. search needs)
     returns
-    shared-slice-read-if2
-    put-bad-requires-2
-    same-length-2
+    (λ c. search needs)
+    (λ c κs. search needs)
+    (λ c. search needs)
     returns-2
     slice-aggregate-list-columns
     slice-aggregate-list-columns-2
-    list-columns-requires
-    same-length-3
+    (λ c κs. search needs)
+    (λ c. search needs)
     returns-3)

@@ -15,9 +15,6 @@ use Prim.Native.Nat.{ℕ}
 use Rattle.lister.proofs.list_layout.Statement.{statement}
 use Rattle.lister.proofs.list_layout.Tie as tie
 
-layout-requires : tie.Need-layout-requires
-layout-requires c κs = search needs
-
 enum-told : tie.Need-enum-told
 enum-told c = search needs
 
@@ -31,27 +28,6 @@ put-accepted-requires c κs =
     let r = accepts (a .width) (a .height) (a .types .now) (a .muls .now) (a .bw) (a .bh) (h .0) (h .1) (v .last .1 .1 .1 .1 .1 .1 .1 .1 .1 .0) (v .last .1 .1 .1 .1 .1 .1 .1 .1 .1 .1 .0) (v .last .1 .1 .1 .1 .1 .1 .1 .1 .1 .1 .1 .0) _ f in
     (r .lengthK, r .lengthM, omega (arith, h .2), omega (arith, h .3), r .full)
 
-enum-known-answer : tie.Need-enum-known-answer
-enum-known-answer c = search needs
-
-numbers-requires : tie.Need-numbers-requires
-numbers-requires c κs = search needs
-
-put-refused-requires : tie.Need-put-refused-requires
-put-refused-requires c κs = search needs
-
-same-length : tie.Need-same-length
-same-length c = search needs
-
-same-length-2 : tie.Need-same-length-2
-same-length-2 c = search needs
-
-same-length-3 : tie.Need-same-length-3
-same-length-3 c = search needs
-
-same-length-4 : tie.Need-same-length-4
-same-length-4 c = search needs
-
 returns : tie.Need-returns
 returns c =
     let a = c .before .before .before .before .before .before .before .before .before .before .before .before .before .before .before .before .before .before .before .before .before .before .before .before .before .args in
@@ -61,18 +37,6 @@ returns c =
     let f = sym (ap (λ (z : LayoutAnswer). leaves z (v .last .1 .1 .1 .1 .1 .1 .1 .1 .1 .0) (v .last .1 .1 .1 .1 .1 .1 .1 .1 .1 .1 .0) (v .last .1 .1 .1 .1 .1 .1 .1 .1 .1 .1 .1 .0)) (c .before .before .before .before .before .before .enum-told .given .1)) ∙ e in
     let r = accepts (a .width) (a .height) (a .types .now) (a .muls .now) (a .bw) (a .bh) (h .0) (h .1) (v .last .1 .1 .1 .1 .1 .1 .1 .1 .1 .0) (v .last .1 .1 .1 .1 .1 .1 .1 .1 .1 .1 .0) (v .last .1 .1 .1 .1 .1 .1 .1 .1 .1 .1 .1 .0) _ f in
     subst (λ (s : List ℕ). Puts (a .out .now) 0 s (c .before .before .put-accepted .last .0) (c .before .before .put-accepted .result)) (r .text) (c .before .before .put-accepted .ensures)
-
-same-length-5 : tie.Need-same-length-5
-same-length-5 c = search needs
-
-same-length-6 : tie.Need-same-length-6
-same-length-6 c = search needs
-
-same-length-7 : tie.Need-same-length-7
-same-length-7 c = search needs
-
-same-length-8 : tie.Need-same-length-8
-same-length-8 c = search needs
 
 returns-2 : tie.Need-returns-2
 returns-2 c =
@@ -88,19 +52,19 @@ pub list-layout-spec : {M : Type 1} → statement M
 list-layout-spec =
     tie.close
     (tie.spec
-    layout-requires
+    (λ c κs. search needs)
     enum-told
     put-accepted-requires
-    enum-known-answer
-    numbers-requires
-    put-refused-requires
-    same-length
-    same-length-2
-    same-length-3
-    same-length-4
+    (λ c. search needs)
+    (λ c κs. search needs)
+    (λ c κs. search needs)
+    (λ c. search needs)
+    (λ c. search needs)
+    (λ c. search needs)
+    (λ c. search needs)
     returns
-    same-length-5
-    same-length-6
-    same-length-7
-    same-length-8
+    (λ c. search needs)
+    (λ c. search needs)
+    (λ c. search needs)
+    (λ c. search needs)
     returns-2)

@@ -4,9 +4,6 @@ use native.Mathlib.Omega.{arith}
 use Rattle.lister.proofs.list_whole.Statement.{statement}
 use Rattle.lister.proofs.list_whole.Tie as tie
 
-list-requires : tie.Need-list-requires
-list-requires c κs = search needs
-
 returns : tie.Need-returns
 returns c =
     let a = c .before .before .before .args in
@@ -14,4 +11,4 @@ returns c =
     text-whole (a .job .now) (a .out .now) (b .last .1 .0) (b .result) (omega arith) (b .ensures)
 
 pub list-whole-spec : {M : Type 1} → statement M
-list-whole-spec = tie.close (tie.spec list-requires returns)
+list-whole-spec = tie.close (tie.spec (λ c κs. search needs) returns)

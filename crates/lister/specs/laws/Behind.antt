@@ -9,10 +9,8 @@ use lib.Dec.{eqb}
 use lib.ListN.{length, take, drop, length-append, length-take}
 use lib.Seq.{take-nil, drop-nil}
 use Rattle.laws.specs.laws.Cases.{eq-or-ne}
-use Rattle.lister_job.specs.Job.{hasSize, isJob, needed}
-use Rattle.lister_job.specs.Needed.{Same}
+use Rattle.lister_job.specs.Job.{hasSize, isJob, needed, readBy, read, Same}
 use Rattle.lister_job.specs.laws.Needed.{needed-none, needed-job, needed-fits}
-use Rattle.lister_job.specs.Reading.{readBy, read}
 use Rattle.lister_job.specs.laws.Reading.{read-stops, read-goes, seam}
 use Rattle.lister.specs.Listing.{textOf}
 
@@ -21,8 +19,8 @@ unfolding textOf
 same-text s s′ e = go (hasSize s) refl
   where
     go : (b : Bool) → hasSize s ≡ b → textOf s′ ≡ textOf s
-    go true h = rw (e .size, e .wide h, e .high h, e .ends h, e .kinds h, e .factors h)
-    go false h = rw (e .size, h)
+    go true h = rw (e .sizeIs, e .widthIs h, e .heightIs h, e .endIs h, e .typesAre h, e .mulsAre h)
+    go false h = rw (e .sizeIs, h)
 
 -- where nothing more is needed, nothing that follows changes the text
 pub text-decided : (s u : List ℕ) → needed s ≡ 0 → textOf (s ++ u) ≡ textOf s

@@ -22,7 +22,7 @@ use Rattle.hf_metadata.specs.Call.{Outcome, leaves, inputs, layoutOf}
 use Rattle.accepted_layout.specs.laws.Theorems.{accepted-layout, accepted-area}
 use Rattle.filter_strength.specs.declared.Filter.the-variants.{Off}
 use Rattle.filter_strength.specs.Strength.{zero32}
-use Rattle.lister_job.specs.laws.Job.{prefixed}
+use Rattle.lister_job.specs.laws.JobSteps.{prefixed}
 use Rattle.lister_job.specs.Job.{width, height, columnPlace, columns, types, muls, hasSize, hasEnd}
 use Rattle.lister.specs.Texts.{acceptedText, refusedText, BAD-INPUT}
 use Rattle.lister.specs.Listing.{textBy, MODES, bwOf, bhOf, listed, outcome, layoutText, textOf}

@@ -15,7 +15,7 @@ use Rattle.refusal.specs.declared.Said.{Said}
 use Rattle.layout.specs.Grid.{at}
 use Rattle.layout.specs.Valid.{Layout}
 use Rattle.layout.specs.Varblocks.{Varblock, varblocksOf, area, cornersRow, cornersFrom}
-use Rattle.hf_metadata.specs.Call.{Answer, accepted, refused}
+use Rattle.refusal.specs.Answer.{Answer, gives, refuses}
 use Rattle.accepted_layout.specs.laws.Theorems.{accepted-layout}
 use Rattle.text.specs.laws.Decimal.{ten}
 use Rattle.text.specs.Text.{digitsOf, decimal, Puts}
@@ -116,9 +116,9 @@ refused-most r =
 layout-most : (w h : ℕ) (ts ms : List ℕ) → w ≤ 512 → h ≤ 512 → length (layoutText w h ts ms) ≤ 90000
 layout-most w h ts ms a b = go (outcome w h ts ms .answer) refl
   where
-    go : (r : Answer) → outcome w h ts ms .answer ≡ r → length (textBy (bwOf w) (bhOf h) (outcome w h ts ms) r) ≤ 90000
-    go (refused r) e = refused-most r
-    go (accepted used) e =
+    go : (r : Answer ℕ) → outcome w h ts ms .answer ≡ r → length (textBy (bwOf w) (bhOf h) (outcome w h ts ms) r) ≤ 90000
+    go (refuses r) e = refused-most r
+    go (gives used) e =
         accepted-most (bwOf w) (bhOf h) (outcome w h ts ms .kinds) (outcome w h ts ms .hfMul)
         (accepted-layout (listed w h ts ms) (replicate (blocks w h ts ms) 0) (replicate (blocks w h ts ms) 0) (replicate (blocks w h ts ms) 0) used e) (few-wide w a) (few-high h b)
 

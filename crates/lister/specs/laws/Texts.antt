@@ -1,4 +1,4 @@
--- Laws: The lines that the lister prints (document 01, The lister).
+-- The lines that the lister prints (document 01, The lister).
 use mathlib.Core.Bool.{cond}
 use mathlib.Core.List.{List, []}
 use Prim.Native.Nat.{ℕ, _-_}

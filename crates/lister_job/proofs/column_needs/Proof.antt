@@ -3,12 +3,6 @@ use borrow.Author.Needs.{needs}
 use Rattle.lister_job.proofs.column_needs.Statement.{statement}
 use Rattle.lister_job.proofs.column_needs.Tie as tie
 
-mul-start : tie.Need-mul-start
-mul-start c = search needs
-
-add-start : tie.Need-add-start
-add-start c = search needs
-
 returns : tie.Need-returns
 returns c =
     let a = c .before .args in
@@ -19,19 +13,10 @@ returns-2 c =
     let a = c .before .before .args in
     column-over (a .job .now) (a .k) (c .before .if1 .left) (c .if2 .taken)
 
-shared-slice-read-if3 : tie.Need-shared-slice-read-if3
-shared-slice-read-if3 c = search needs
-
 returns-3 : tie.Need-returns-3
 returns-3 c =
     let a = c .before .before .before .before .args in
     column-other (a .job .now) (a .k) (c .before .before .before .if1 .left) (c .if3 .taken)
-
-add-result : tie.Need-add-result
-add-result c = search needs
-
-sub-result : tie.Need-sub-result
-sub-result c = search needs
 
 returns-4 : tie.Need-returns-4
 returns-4 c =
@@ -42,12 +27,12 @@ pub column-needs-spec : {M : Type 1} → statement M
 column-needs-spec =
     tie.close
     (tie.spec
-    mul-start
-    add-start
+    (λ c. search needs)
+    (λ c. search needs)
     returns
     returns-2
-    shared-slice-read-if3
+    (λ c. search needs)
     returns-3
-    add-result
-    sub-result
+    (λ c. search needs)
+    (λ c. search needs)
     returns-4)

@@ -7,27 +7,15 @@ use lib.Dec.{leb}
 use Rattle.lister_job.proofs.has_size.Statement.{statement}
 use Rattle.lister_job.proofs.has_size.Tie as tie
 
-returns : tie.Need-returns
-returns c = unsized-short (c .before .before .args .job .now) (c .if1 .taken)
-
-shared-slice-read-if2 : tie.Need-shared-slice-read-if2
-shared-slice-read-if2 c = search needs
-
 returns-2 : tie.Need-returns-2
 returns-2 c =
     let a = c .before .before .before .before .args in
     unsized-first (a .job .now) (c .before .before .if1 .left) (c .if2 .taken)
 
-number16-requires : tie.Need-number16-requires
-number16-requires c κs = search needs
-
 returns-3 : tie.Need-returns-3
 returns-3 c =
     let a = c .before .before .before .before .before .before .args in
     unsized-wide (a .job .now) (c .before .before .before .before .if1 .left) (c .before .before .if2 .left) (omega (arith, c .if3 .taken, c .before .number16 .ensures))
-
-number16-requires-2 : tie.Need-number16-requires-2
-number16-requires-2 c κs = search needs
 
 returns-4 : tie.Need-returns-4
 returns-4 c =
@@ -38,10 +26,10 @@ pub has-size-spec : {M : Type 1} → statement M
 has-size-spec =
     tie.close
     (tie.spec
-    returns
-    shared-slice-read-if2
+    (λ c. unsized-short (c .before .before .args .job .now) (c .if1 .taken))
+    (λ c. search needs)
     returns-2
-    number16-requires
+    (λ c κs. search needs)
     returns-3
-    number16-requires-2
+    (λ c κs. search needs)
     returns-4)

@@ -4,22 +4,10 @@ use mathlib.Core.Path.{_∙_, sym}
 use Rattle.lister_job.proofs.needed.Statement.{statement}
 use Rattle.lister_job.proofs.needed.Tie as tie
 
-size-needs-requires : tie.Need-size-needs-requires
-size-needs-requires c κs = search needs
-
 returns : tie.Need-returns
 returns c =
     let a = c .before .before .before .args in
     c .size-needs .ensures ∙ sym (needed-size (a .job .now) (c .before .if1 .taken))
-
-has-size-requires : tie.Need-has-size-requires
-has-size-requires c κs = search needs
-
-sub-column-needs : tie.Need-sub-column-needs
-sub-column-needs c = search needs
-
-column-needs-requires : tie.Need-column-needs-requires
-column-needs-requires c κs = search needs
 
 returns-2 : tie.Need-returns-2
 returns-2 c =
@@ -35,10 +23,10 @@ pub needed-spec : {M : Type 1} → statement M
 needed-spec =
     tie.close
     (tie.spec
-    size-needs-requires
+    (λ c κs. search needs)
     returns
-    has-size-requires
-    sub-column-needs
-    column-needs-requires
+    (λ c κs. search needs)
+    (λ c. search needs)
+    (λ c κs. search needs)
     returns-2
     returns-3)

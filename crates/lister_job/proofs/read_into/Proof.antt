@@ -1,7 +1,7 @@
 use mathlib.Core.List.{List}
 use Rattle.lister_job.specs.laws.JobSteps.{prefixed-more, countLeft, count-next, count-cut, count-other, count-full}
 use Rattle.lister_job.specs.Job.{columns, typeAt, mulAt}
-use Rattle.lister_job.specs.laws.Job.{prefixed}
+use Rattle.lister_job.specs.laws.JobSteps.{prefixed}
 use mathlib.Core.Path.{refl}
 use borrow.Author.Needs.{needs}
 use native.Mathlib.Omega.{arith}
@@ -17,74 +17,17 @@ Inv-loop job types₀ muls₀ n₀ types muls n = (n ≤ 4096) × (length types 
 abbrev μ-loop : tie.MeasureT-loop
 μ-loop job types₀ muls₀ n₀ types muls n = 4096 - n
 
-loop-holds : tie.Need-loop-holds Inv-loop μ-loop
-loop-holds c = (omega arith, omega arith, omega arith, refl, refl, refl)
-
-mul-i : tie.Need-mul-i Inv-loop μ-loop
-mul-i c = search needs
-
-add-i : tie.Need-add-i Inv-loop μ-loop
-add-i c = search needs
-
-add-if1 : tie.Need-add-if1 Inv-loop μ-loop
-add-if1 c = search needs
-
-same-length : tie.Need-same-length Inv-loop μ-loop
-same-length c = search needs
-
-same-length-2 : tie.Need-same-length-2 Inv-loop μ-loop
-same-length-2 c = search needs
-
 returns : tie.Need-returns Inv-loop μ-loop
 returns c =
     let a = c .before .before .before .before .before .before .args in
     let l = c .before .before .loop in
     record { count = sym (l .inv .5 ∙ count-cut (a .job .now) (l .n) (omega arith) (omega arith)); typesAre = l .inv .3; mulsAre = l .inv .4 }
 
-shared-slice-read-if2 : tie.Need-shared-slice-read-if2 Inv-loop μ-loop
-shared-slice-read-if2 c = search needs
-
-same-length-3 : tie.Need-same-length-3 Inv-loop μ-loop
-same-length-3 c = search needs
-
-same-length-4 : tie.Need-same-length-4 Inv-loop μ-loop
-same-length-4 c = search needs
-
 returns-2 : tie.Need-returns-2 Inv-loop μ-loop
 returns-2 c =
     let a = c .before .before .before .before .before .before .before .before .args in
     let l = c .before .before .before .before .loop in
     record { count = sym (l .inv .5 ∙ count-other (a .job .now) (l .n) (omega arith) (omega arith) (c .if2 .taken)); typesAre = l .inv .3; mulsAre = l .inv .4 }
-
-add-number32 : tie.Need-add-number32 Inv-loop μ-loop
-add-number32 c = search needs
-
-number32-requires : tie.Need-number32-requires Inv-loop μ-loop
-number32-requires c κs = search needs
-
-mul-types : tie.Need-mul-types Inv-loop μ-loop
-mul-types c = search needs
-
-slice-write-types : tie.Need-slice-write-types Inv-loop μ-loop
-slice-write-types c = search needs
-
-add-number32-2 : tie.Need-add-number32-2 Inv-loop μ-loop
-add-number32-2 c = search needs
-
-number32-requires-2 : tie.Need-number32-requires-2 Inv-loop μ-loop
-number32-requires-2 c κs = search needs
-
-mul-muls : tie.Need-mul-muls Inv-loop μ-loop
-mul-muls c = search needs
-
-slice-write-muls : tie.Need-slice-write-muls Inv-loop μ-loop
-slice-write-muls c = search needs
-
-add-n : tie.Need-add-n Inv-loop μ-loop
-add-n c = search needs
-
-loop-less : tie.Need-loop-less Inv-loop μ-loop
-loop-less c = search needs
 
 loop-again : tie.Need-loop-again Inv-loop μ-loop
 loop-again c =
@@ -98,12 +41,6 @@ loop-again c =
       l .inv .5 ∙ count-next (a .job .now) (l .n) (omega arith) (omega arith) (c .before .before .if2 .left),
     )
 
-same-length-5 : tie.Need-same-length-5 Inv-loop μ-loop
-same-length-5 c = search needs
-
-same-length-6 : tie.Need-same-length-6 Inv-loop μ-loop
-same-length-6 c = search needs
-
 returns-3 : tie.Need-returns-3 Inv-loop μ-loop
 returns-3 c =
     let a = c .before .before .before .before .before .args in
@@ -116,28 +53,28 @@ read-into-spec =
     (tie.spec
     Inv-loop
     μ-loop
-    loop-holds
-    mul-i
-    add-i
-    add-if1
-    same-length
-    same-length-2
+    (λ c. (omega arith, omega arith, omega arith, refl, refl, refl))
+    (λ c. search needs)
+    (λ c. search needs)
+    (λ c. search needs)
+    (λ c. search needs)
+    (λ c. search needs)
     returns
-    shared-slice-read-if2
-    same-length-3
-    same-length-4
+    (λ c. search needs)
+    (λ c. search needs)
+    (λ c. search needs)
     returns-2
-    add-number32
-    number32-requires
-    mul-types
-    slice-write-types
-    add-number32-2
-    number32-requires-2
-    mul-muls
-    slice-write-muls
-    add-n
-    loop-less
+    (λ c. search needs)
+    (λ c κs. search needs)
+    (λ c. search needs)
+    (λ c. search needs)
+    (λ c. search needs)
+    (λ c κs. search needs)
+    (λ c. search needs)
+    (λ c. search needs)
+    (λ c. search needs)
+    (λ c. search needs)
     loop-again
-    same-length-5
-    same-length-6
+    (λ c. search needs)
+    (λ c. search needs)
     returns-3)

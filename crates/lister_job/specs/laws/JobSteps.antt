@@ -9,8 +9,17 @@ use lib.Seq.{drop-cons, set-at}
 use borrow.Author.Tests.{le-leb, lt-leb, eq-eqb, ne-eqb}
 use Rattle.laws.specs.Lists.{tabulate}
 use Rattle.laws.specs.laws.Lists.{length-tabulate}
-use Rattle.lister_job.specs.Job.{number16, columnPlace, isColumn, countFrom, columns}
-use Rattle.lister_job.specs.laws.Job.{prefixed}
+use Rattle.lister_job.specs.Job.{number16, columnPlace, isColumn, typeAt, mulAt, countFrom, columns}
+
+-- the first n places hold f 0, f 1, .., the rest is as it came
+abbrev pub prefixed : (ℕ → ℕ) → ℕ → List ℕ → List ℕ
+prefixed f n d = tabulate f n 0 ++ drop n d
+
+-- what the code reads of the columns: how many, and what it leaves in the lent lists
+pub record ReadColumns (s : List ℕ) (n : ℕ) (types muls types′ muls′ : List ℕ) : Type 0 where
+  pub count : n ≡ columns s
+  pub typesAre : types′ ≡ prefixed (typeAt s) n types
+  pub mulsAre : muls′ ≡ prefixed (mulAt s) n muls
 
 -- one more at the end
 tabulate-more : (f : ℕ → ℕ) (n o : ℕ) (r : List ℕ) → tabulate f n o ++ (f (o + n) ∷ r) ≡ tabulate f (suc n) o ++ r

@@ -1,4 +1,4 @@
--- Laws: Laws on what a job still needs (document 01, The lister: "what follows is not read").
+-- Laws on what a job still needs (document 01, The lister: "what follows is not read").
 use mathlib.Core.Path.{_≡_, refl, ap, sym, _∙_}
 use mathlib.Core.Bool.{Bool, true, false, cond, _&&_}
 use mathlib.Core.List.{List, [], _∷_, _++_, append-nil}
@@ -11,9 +11,8 @@ use lib.Seq.{getD-at}
 use borrow.Author.Tests.{le-leb, lt-leb, lt-ltb, le-ltb, eq-eqb, ne-eqb, ltb-true, ltb-false, leb-true, leb-false, eqb-true, eqb-false}
 use Rattle.laws.specs.laws.Cases.{le-or-lt, eq-or-ne, and-true}
 use Rattle.laws.specs.Lists.{tabulate}
-use Rattle.lister_job.specs.Job.{number16, number32, width, height, columnPlace, hasSize, isColumn, typeAt, mulAt, countFrom, columns, types, muls, hasEnd, isJob, sizeNeeds, columnNeeds, needed}
+use Rattle.lister_job.specs.Job.{number16, number32, width, height, columnPlace, hasSize, isColumn, typeAt, mulAt, countFrom, columns, types, muls, jobEnd, hasEnd, isJob, sizeNeeds, columnNeeds, needed, Same}
 use Rattle.lister_job.specs.laws.JobSteps.{columns-most}
-use Rattle.lister_job.specs.Needed.{Same}
 
 and-false : (t : Bool) → t && false ≡ false
 and-false true = refl
@@ -230,12 +229,13 @@ module _ (s t : List ℕ) (none : needed s ≡ 0) where
   -- where nothing more is needed, nothing that follows changes anything
   pub needed-none : Same s (s ++ t)
   needed-none = record {
-    size = go (le-or-lt 5 (length s));
-    wide = λ e. number16-same s t 1 (omega (arith, size-long s e));
-    high = λ e. number16-same s t 3 (omega (arith, size-long s e));
-    ends = ends-same;
-    kinds = types-same;
-    factors = muls-same;
+    sizeIs = go (le-or-lt 5 (length s));
+    widthIs = λ e. number16-same s t 1 (omega (arith, size-long s e));
+    heightIs = λ e. number16-same s t 3 (omega (arith, size-long s e));
+    endsAt = λ e. ap (λ (k : ℕ). columnPlace k + 1) (columns-same e);
+    endIs = ends-same;
+    typesAre = types-same;
+    mulsAre = muls-same;
   }
     where
       go : (5 ≤ length s) ⊎ (length s < 5) → hasSize (s ++ t) ≡ hasSize s
@@ -258,8 +258,11 @@ module _ (s t : List ℕ) (job : isJob (s ++ t) ≡ true) where
       let p = columnPlace (columns (s ++ t)) in
       eqb-true (getD (s ++ t) p 0) 0 (and-true (leb (p + 1) (length (s ++ t))) (eqb (getD (s ++ t) p 0) 0) e .1)
 
+  ended-at : length (s ++ t) ≡ jobEnd (s ++ t)
+  ended-at = eqb-true (length (s ++ t)) (jobEnd (s ++ t)) (parts .1)
+
   exact : length s + length t ≡ columnPlace (columns (s ++ t)) + 1
-  exact = sym (length-append s t) ∙ eqb-true (length (s ++ t)) (columnPlace (columns (s ++ t)) + 1) (parts .1)
+  exact = sym (length-append s t) ∙ ended-at
 
   begins : getD (s ++ t) 0 0 ≡ 16
   begins =
@@ -316,6 +319,13 @@ module _ (j : List ℕ) (job : isJob j ≡ true) where
 
   pub needed-job : needed j ≡ 0
   needed-job = let a = needed-inside j [] nothing-behind in omega arith
+
+  -- whatever follows it: the same size and columns, and it ends where the job does
+  pub job-first : (u : List ℕ) → Same j (j ++ u) × (jobEnd (j ++ u) ≡ length j)
+  job-first u =
+      let s = needed-none j u needed-job in
+      let z = rw (append-nil j) at (sized j [] nothing-behind) in
+      (s, s .endsAt z ∙ sym (rw (append-nil j) at (ended-at j [] nothing-behind)))
 
   pub job-most : length j ≤ 36870
   job-most = let e = exact j [] nothing-behind in omega (arith, columns-most (j ++ []))

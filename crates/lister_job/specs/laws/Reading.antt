@@ -1,4 +1,4 @@
--- Laws: A job is read record by record, and nothing behind its end (document 01, The lister).
+-- A job is read record by record, and nothing behind its end (document 01, The lister).
 use mathlib.Core.Path.{_≡_, refl, ap, sym, _∙_}
 use mathlib.Core.Bool.{true}
 use mathlib.Core.List.{List, [], _∷_, _++_, append-nil, append-assoc}
@@ -9,9 +9,8 @@ use lib.ListN.{length, take, drop, length-drop, take-append-drop}
 use lib.Seq.{take-append-le, drop-append-le}
 use borrow.Author.Tests.{eq-eqb, ne-eqb}
 use Rattle.laws.specs.laws.Cases.{eq-or-ne}
-use Rattle.lister_job.specs.Job.{isJob, needed}
+use Rattle.lister_job.specs.Job.{isJob, needed, readBy, read}
 use Rattle.lister_job.specs.laws.Needed.{needed-inside, needed-until, job-most}
-use Rattle.lister_job.specs.Reading.{read, readBy}
 
 pub read-stops : (n : ℕ) (s u : List ℕ) → needed s ≡ 0 → readBy n s u ≡ s
 unfolding readBy

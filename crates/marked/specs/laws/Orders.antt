@@ -13,7 +13,7 @@ use Rattle.permutation.specs.Digits.{ordered}
 use Rattle.hf_pass_store.specs.Store.{PLACES, stored, stretch}
 use Rattle.hf_pass_naturals.specs.Naturals.{naturals}
 use Rattle.hf_pass.specs.declared.OrdersAnswer.the-variants.{Accepted}
-use Rattle.hf_pass.specs.Reading.{Given, digits, oneList, orders}
+use Rattle.hf_pass.specs.Orders.{Given, digits, oneList, orders}
 use Rattle.hf_pass.specs.Call.{Outcome, outcome, parsed}
 use Rattle.hf_pass.specs.laws.Stretch.{stretch-list}
 

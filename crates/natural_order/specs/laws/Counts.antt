@@ -8,7 +8,7 @@ use native.Mathlib.Decide.{ℕ-discrete}
 use borrow.Author.Tests.{eq-eqb, ne-eqb}
 use Rattle.natural_order.specs.Places.{Place, run, joins, is, count}
 use Rattle.natural_order.specs.laws.Bools.{and-false}
-use Rattle.natural_order.specs.Counts.{Hit}
+use Rattle.natural_order.specs.Order.{Hit}
 
 pub is-hit : (x y : ℕ) (p : Place) → Hit x y p → is x y p ≡ true
 is-hit x y p h = rw (eq-eqb x (p .0) (h .0), eq-eqb y (p .1) (h .1))

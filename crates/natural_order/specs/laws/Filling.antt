@@ -1,6 +1,6 @@
--- The ways out of filling a list.
+-- What filling a lent list with a natural order answers and leaves (document 01, Orders), and the ways out of it.
 use mathlib.Core.Path.{_≡_}
-use mathlib.Core.Bool.{true, false}
+use mathlib.Core.Bool.{true, false, Bool, cond, _&&_}
 use mathlib.Core.List.{List}
 use Prim.Native.Nat.{ℕ, _*_, _<_, _≤_}
 use lib.ListN.{length}
@@ -10,9 +10,16 @@ use Rattle.block_sizes.specs.BlockSizes.{widthOf, heightOf}
 use Rattle.block_sizes.specs.laws.BlockSizes.{blockSize}
 use Rattle.natural_order.specs.Places.{flat}
 use Rattle.natural_order.specs.Natural.{natural}
-use Rattle.natural_order.specs.Sizes.{Size}
+use Rattle.natural_order.specs.Order.{Size}
 use Rattle.natural_order.specs.laws.Sizes.{size-of, width-most, area-most}
-use Rattle.natural_order.specs.laws.Filled.{roomFor, filled}
+use lib.Dec.{ltb, eqb}
+
+-- one of the 13 orders, and a list of just as many places
+unfoldable pub roomFor : List ℕ → ℕ → Bool
+roomFor list order = ltb order 13 && eqb (length list) (2 * (widthOf order * heightOf order))
+
+unfoldable pub filled : List ℕ → ℕ → List ℕ
+filled list order = cond (roomFor list order) (flat (natural (widthOf order) (heightOf order))) list
 
 -- what the code knows of an order's sides
 pub record Sided (order : ℕ) (s : Sides) : Type 0 where

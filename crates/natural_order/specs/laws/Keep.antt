@@ -10,7 +10,7 @@ use lib.Dec.{ltb, eqb}
 use borrow.Author.Tests.{eqb-true}
 use Rattle.natural_order.specs.Places.{Place, is, tally, count}
 use Rattle.natural_order.specs.Natural.{listed, keep}
-use Rattle.natural_order.specs.Counts.{Hit}
+use Rattle.natural_order.specs.Order.{Hit}
 use Rattle.natural_order.specs.laws.Counts.{is-hit, is-miss}
 use Rattle.natural_order.specs.laws.Bools.{and-right}
 

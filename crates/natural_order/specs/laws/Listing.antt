@@ -11,7 +11,7 @@ use lib.ListN.{length, getD}
 use borrow.Author.Tests.{eqb-true}
 use Rattle.natural_order.specs.Places.{Place, is, tally, count, Lists}
 use Rattle.natural_order.specs.Natural.{rows}
-use Rattle.natural_order.specs.Counts.{Hit}
+use Rattle.natural_order.specs.Order.{Hit}
 use Rattle.natural_order.specs.laws.Counts.{is-hit}
 use Rattle.natural_order.specs.laws.Rows.{inside-yes, inside-no-x, inside-no-y, rows-lists, rows-length}
 use Rattle.natural_order.specs.laws.Bools.{and-left, and-right, tally-one}

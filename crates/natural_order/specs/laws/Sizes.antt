@@ -11,7 +11,7 @@ use Rattle.laws.specs.Tables.{every}
 use Rattle.laws.specs.laws.Tables.{at-each}
 use Rattle.block_sizes.specs.BlockSizes.{BLOCK-SIZES, widthOf, heightOf}
 use Rattle.natural_order.specs.Places.{Place}
-use Rattle.natural_order.specs.Sizes.{Size}
+use Rattle.natural_order.specs.Order.{Size}
 
 abbrev pub right : Place → Bool
 right s = eqb (s .1 % 8) 0 && (eqb (s .0 % s .1) 0 && (leb 1 (s .1) && leb 1 (s .0)))
@@ -23,8 +23,8 @@ of-right s t =
     record {
       eights = eqb→eq (s .1 % 8) 0 (and-l (eqb (s .1 % 8) 0) (eqb (s .0 % s .1) 0 && (leb 1 (s .1) && leb 1 (s .0))) t);
       multiple = eqb→eq (s .0 % s .1) 0 (and-l (eqb (s .0 % s .1) 0) (leb 1 (s .1) && leb 1 (s .0)) t₁);
-      high = leb→le 1 (s .1) (and-l (leb 1 (s .1)) (leb 1 (s .0)) t₂);
-      wide = leb→le 1 (s .0) (and-r (leb 1 (s .1)) (leb 1 (s .0)) t₂);
+      height-some = leb→le 1 (s .1) (and-l (leb 1 (s .1)) (leb 1 (s .0)) t₂);
+      width-some = leb→le 1 (s .0) (and-r (leb 1 (s .1)) (leb 1 (s .0)) t₂);
     }
 
 -- each of the 13 is such a size
@@ -52,52 +52,52 @@ pub area-most : (k : ℕ) → k < 13 → widthOf k * heightOf k ≤ 65536
 unfolding widthOf heightOf
 area-most k h = let s = getD BLOCK-SIZES k (0, 0) in leb→le (s .0 * s .1) 65536 (and-r (leb (s .0) 256) (leb (s .0 * s .1) 65536) (small-at k h))
 
--- the numbers of a size: s = bw / bh, k = bh / 8, w = bw / 8
-module _ (bw bh : ℕ) (z : Size bw bh) where
-  pub bw-by : bw ≡ bh * (bw / bh)
-  bw-by = let e = div-add-mod' bw bh in let m = z .multiple in mul-by (mul-comm bh (bw / bh)) (omega arith)
+-- the numbers of a size: s = width / height, k = height / 8, w = width / 8
+module _ (width height : ℕ) (z : Size width height) where
+  pub width-by : width ≡ height * (width / height)
+  width-by = let e = div-add-mod' width height in let m = z .multiple in mul-by (mul-comm height (width / height)) (omega arith)
     where
       mul-by : {a b c : ℕ} → a ≡ b → c ≡ b → c ≡ a
       mul-by p q = q ∙ sym p
 
-  pub bh-by : bh ≡ bh / 8 * 8
-  bh-by = let e = div-add-mod' bh 8 in let m = z .eights in omega arith
+  pub height-by : height ≡ height / 8 * 8
+  height-by = let e = div-add-mod' height 8 in let m = z .eights in omega arith
 
-  -- bw / 8 = (bh / 8) * s
-  pub w-by : bw / 8 ≡ bh / 8 * (bw / bh)
+  -- width / 8 = (height / 8) * s
+  pub w-by : width / 8 ≡ height / 8 * (width / height)
   w-by =
-      let s = bw / bh in
-      let k = bh / 8 in
-      let e : bh * s ≡ k * s * 8 = ap (λ (n : ℕ). n * s) bh-by ∙ mul-assoc k 8 s ∙ ap (λ (n : ℕ). k * n) (mul-comm 8 s) ∙ sym (mul-assoc k s 8) in
-      ap (λ (n : ℕ). n / 8) (bw-by ∙ e) ∙ mul-div-cancel (k * s) (omega arith)
+      let s = width / height in
+      let k = height / 8 in
+      let e : height * s ≡ k * s * 8 = ap (λ (n : ℕ). n * s) height-by ∙ mul-assoc k 8 s ∙ ap (λ (n : ℕ). k * n) (mul-comm 8 s) ∙ sym (mul-assoc k s 8) in
+      ap (λ (n : ℕ). n / 8) (width-by ∙ e) ∙ mul-div-cancel (k * s) (omega arith)
 
-  pub bw-eights : bw ≡ bw / 8 * 8
-  bw-eights =
-      let s = bw / bh in
-      let k = bh / 8 in
-      let e : bh * s ≡ k * s * 8 = ap (λ (n : ℕ). n * s) bh-by ∙ mul-assoc k 8 s ∙ ap (λ (n : ℕ). k * n) (mul-comm 8 s) ∙ sym (mul-assoc k s 8) in
-      bw-by ∙ e ∙ ap (λ (n : ℕ). n * 8) (sym w-by)
+  pub width-eights : width ≡ width / 8 * 8
+  width-eights =
+      let s = width / height in
+      let k = height / 8 in
+      let e : height * s ≡ k * s * 8 = ap (λ (n : ℕ). n * s) height-by ∙ mul-assoc k 8 s ∙ ap (λ (n : ℕ). k * n) (mul-comm 8 s) ∙ sym (mul-assoc k s 8) in
+      width-by ∙ e ∙ ap (λ (n : ℕ). n * 8) (sym w-by)
 
-  pub s-some : 0 < bw / bh
-  s-some = go (bw / bh) refl
+  pub s-some : 0 < width / height
+  s-some = go (width / height) refl
     where
-      go : (n : ℕ) → bw / bh ≡ n → 0 < n
-      go zero e = let d = div-add-mod' bw bh in let m = z .multiple in let w = z .wide in absurd (omega (arith, zero-mul bh, ap (λ (n : ℕ). n * bh) e))
+      go : (n : ℕ) → width / height ≡ n → 0 < n
+      go zero e = let d = div-add-mod' width height in let m = z .multiple in let w = z .width-some in absurd (omega (arith, zero-mul height, ap (λ (n : ℕ). n * height) e))
       go (suc n) e = omega arith
 
   -- no higher than wide
-  pub not-higher : bh ≤ bw
-  not-higher = let e : bh * 1 ≡ bh = omega arith in omega (arith, bw-by, mul-le-mul-left bh s-some)
+  pub not-higher : height ≤ width
+  not-higher = let e : height * 1 ≡ height = omega arith in omega (arith, width-by, mul-le-mul-left height s-some)
 
-  -- below in rows of bh is below in rows of bw
-  pub row-in : (y : ℕ) → y < bh → y * (bw / bh) < bw
-  row-in y h = omega (arith, bw-by, mul-lt-mul-of-pos-right h s-some)
+  -- below in rows of height is below in rows of width
+  pub row-in : (y : ℕ) → y < height → y * (width / height) < width
+  row-in y h = omega (arith, width-by, mul-lt-mul-of-pos-right h s-some)
 
-  pub row-out : (y : ℕ) → bh ≤ y → bw ≤ y * (bw / bh)
-  row-out y h = omega (arith, bw-by, mul-le-mul-right (bw / bh) h)
+  pub row-out : (y : ℕ) → height ≤ y → width ≤ y * (width / height)
+  row-out y h = omega (arith, width-by, mul-le-mul-right (width / height) h)
 
-  pub corner-in : (y : ℕ) → y < bh / 8 → y * (bw / bh) < bw / 8
+  pub corner-in : (y : ℕ) → y < height / 8 → y * (width / height) < width / 8
   corner-in y h = rw w-by (mul-lt-mul-of-pos-right h s-some)
 
-  pub corner-out : (y : ℕ) → bh / 8 ≤ y → bw / 8 ≤ y * (bw / bh)
-  corner-out y h = rw w-by (mul-le-mul-right (bw / bh) h)
+  pub corner-out : (y : ℕ) → height / 8 ≤ y → width / 8 ≤ y * (width / height)
+  corner-out y h = rw w-by (mul-le-mul-right (width / height) h)

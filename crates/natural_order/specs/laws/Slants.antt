@@ -8,7 +8,7 @@ use native.Mathlib.Nat.{div-add-mod', zero-mul, suc-mul, mul-mod-left, le-of-mul
 use native.Mathlib.Numerals.{add-one}
 use native.Mathlib.Omega.{arith}
 use lib.Dec.{ltb, eqb}
-use lib.ListN.{length}
+use lib.ListN.{length, length-append}
 use borrow.Author.Tests.{eqb-true, eqb-false, eq-eqb, ne-eqb, lt-ltb, le-ltb}
 use Rattle.laws.specs.laws.Cases.{le-or-lt}
 use Rattle.natural_order.specs.Places.{Place, run, flat}
@@ -28,6 +28,16 @@ ups t s (suc n) q = (t - q * s, q) ∷ ups t s n (suc q)
 unfoldable pub downs : ℕ → ℕ → ℕ → ℕ → List Place
 downs t s zero q = []
 downs t s (suc n) q = (t - (q - 1) * s, q - 1) ∷ downs t s n (q - 1)
+
+pub ups-long : (t s n q : ℕ) → length (flat (ups t s n q)) ≡ 2 * n
+unfolding ups
+ups-long t s zero q = refl
+ups-long t s (suc n) q = omega (arith, ups-long t s n (suc q))
+
+pub downs-long : (t s n q : ℕ) → length (flat (downs t s n q)) ≡ 2 * n
+unfolding downs
+downs-long t s zero q = refl
+downs-long t s (suc n) q = omega (arith, downs-long t s n (q - 1))
 
 module _ (s : ℕ) (some : 0 < s) where
   -- the only multiple of s from u to u + s, if u is one
@@ -271,8 +281,23 @@ pub record Near (w s d rest lo hi : ℕ) : Type 0 where
   pub less : rest ≤ d
   pub rows : (q : ℕ) → q < hi → q * s ≤ d - 1
   pub rows-left : (q : ℕ) → q < rest → q * s ≤ d - 1
+  pub long : length (flat (near w s d)) ≡ 2 * (hi - lo) + 2 * rest
   pub down : d % 2 ≡ 1 → flat (near w s d) ≡ flat (downs (d - 1) s (hi - lo) hi) ++ flat (downs (d - 1) s rest rest)
   pub up : (d % 2 ≡ 1 → ⊥) → flat (near w s d) ≡ flat (ups (d - 1) s rest 0) ++ flat (ups (d - 1) s (hi - lo) lo)
+
+near-long : (w s d : ℕ) → length (flat (near w s d)) ≡ 2 * (multiples s d - multiples s w) + 2 * multiples s (d - w)
+unfolding near
+near-long w s d = go (eqb (d % 2) 1)
+  where
+    n : ℕ
+    n = multiples s d - multiples s w
+
+    m : ℕ
+    m = multiples s (d - w)
+
+    go : (b : Bool) → length (flat (cond b (downs (d - 1) s n (multiples s d) ++ downs (d - 1) s m m) (ups (d - 1) s m 0 ++ ups (d - 1) s n (multiples s w)))) ≡ 2 * n + 2 * m
+    go true = rw (flat-append, length-append, downs-long, downs-long)
+    go false = rw (flat-append, length-append, ups-long, ups-long) (omega arith)
 
 pub near-at : (w s d rest lo hi : ℕ) → 0 < s → 0 < d → w ≤ d → rest ≡ multiples s (d - w) → lo ≡ multiples s w → hi ≡ multiples s d → Near w s d rest lo hi
 unfolding near
@@ -286,6 +311,7 @@ near-at w s d rest lo hi some d-some inside er el eh =
       less = omega (arith, multiples-most s (d - w));
       rows = λ q h. omega (arith, multiples-below s some q d h);
       rows-left = λ q h. omega (arith, multiples-below s some q (d - w) h);
+      long = near-long w s d;
       down = λ e. rw (eq-eqb (d % 2) 1 e) (flat-append (downs t s (multiples s d - multiples s w) (multiples s d)) (downs t s (multiples s (d - w)) (multiples s (d - w))));
       up = λ e. rw (ne-eqb (d % 2) 1 e) (flat-append (ups t s (multiples s (d - w)) 0) (ups t s (multiples s d - multiples s w) (multiples s w)));
     }
@@ -329,6 +355,13 @@ module _ (w s b d : ℕ) (some : 0 < s) (d-some : 0 < d) (inside : d ≤ 2 * b) 
   highest-most : highest ≤ d
   highest-most = omega (arith, multiples-most s (d - (d - b)))
 
+  slant-long : length (flat (keep w s (diagonal b d))) ≡ 2 * (highest - lowest)
+  slant-long = go (eqb (d % 2) 1) refl
+    where
+      go : (t : Bool) → eqb (d % 2) 1 ≡ t → length (flat (keep w s (diagonal b d))) ≡ 2 * (highest - lowest)
+      go true e = rw (odd-kept e) (downs-long (d - 1) s (highest - lowest) highest)
+      go false e = rw (even-kept e) (ups-long (d - 1) s (highest - lowest) lowest)
+
   row-below : (q : ℕ) → q < highest → q * s ≤ d - 1
   row-below q h = omega (arith, multiples-below s some q (d - (d - b)) h)
 
@@ -337,6 +370,7 @@ pub record Slant (w s b d lo hi : ℕ) : Type 0 where
   pub few : lo ≤ hi
   pub most : hi ≤ d
   pub rows : (q : ℕ) → q < hi → q * s ≤ d - 1
+  pub long : length (flat (keep w s (diagonal b d))) ≡ 2 * (hi - lo)
   pub down : d % 2 ≡ 1 → flat (keep w s (diagonal b d)) ≡ flat (downs (d - 1) s (hi - lo) hi)
   pub up : (d % 2 ≡ 1 → ⊥) → flat (keep w s (diagonal b d)) ≡ flat (ups (d - 1) s (hi - lo) lo)
 
@@ -349,19 +383,10 @@ slant w s b d m lo hi some d-some inside far em el eh =
       few = lowest-most w s b d some d-some inside far;
       most = highest-most w s b d some d-some inside far;
       rows = row-below w s b d some d-some inside far;
+      long = slant-long w s b d some d-some inside far;
       down = λ e. ap flat (odd-kept w s b d some d-some inside far (eq-eqb (d % 2) 1 e));
       up = λ e. ap flat (even-kept w s b d some d-some inside far (ne-eqb (d % 2) 1 e));
     }
-
-pub ups-long : (t s n q : ℕ) → length (flat (ups t s n q)) ≡ 2 * n
-unfolding ups
-ups-long t s zero q = refl
-ups-long t s (suc n) q = omega (arith, ups-long t s n (suc q))
-
-pub downs-long : (t s n q : ℕ) → length (flat (downs t s n q)) ≡ 2 * n
-unfolding downs
-downs-long t s zero q = refl
-downs-long t s (suc n) q = omega (arith, downs-long t s n (q - 1))
 
 -- one more place
 pub ups-turn : (t s n q j : ℕ) → j < n → flat (ups t s (n - j) q) ≡ ((t - q * s) ∷ q ∷ []) ++ flat (ups t s (n - (j + 1)) (q + 1))

@@ -6,7 +6,7 @@ use native.Mathlib.Omega.{arith}
 use lib.Dec.{eqb}
 use Rattle.natural_order.specs.Places.{Place, run, count, Lists}
 use Rattle.natural_order.specs.Natural.{cell, diagonal, square}
-use Rattle.natural_order.specs.Counts.{Hit}
+use Rattle.natural_order.specs.Order.{Hit}
 use Rattle.natural_order.specs.laws.Counts.{run-none, run-once, joins-none, joins-once}
 use Rattle.natural_order.specs.laws.Rows.{by-inside}
 

@@ -10,8 +10,8 @@ use lib.Seq.{sets, sets-eq}
 use Rattle.laws.specs.laws.Lists.{sets-append}
 use Rattle.natural_order.specs.Places.{Place, run, joins, flat}
 use Rattle.natural_order.specs.Natural.{spot, diagonal, square, listed, keep, rows, natural}
-use Rattle.natural_order.specs.Sizes.{Size}
-use Rattle.natural_order.specs.laws.Facts.{natural-facts}
+use Rattle.natural_order.specs.Order.{Size}
+use Rattle.natural_order.specs.laws.Order.{natural-facts}
 
 -- runs and joined lists from o to e
 pub run-from : (f : ℕ → Place) (o e : ℕ) → o < e → run f (e - o) o ≡ f o ∷ run f (e - (o + 1)) (o + 1)
@@ -110,24 +110,24 @@ unfolding restOfRows
 rows-end w h y k = ap flat (joins-end (λ y. run (spot y) w 0) y h k)
 
 -- the corner, then the square
-pub natural-parts : (bw bh : ℕ) → flat (natural bw bh) ≡ flat (rows (bw / 8) (bh / 8)) ++ flat (keep (bw / 8) (bw / bh) (square bw))
+pub natural-parts : (width height : ℕ) → flat (natural width height) ≡ flat (rows (width / 8) (height / 8)) ++ flat (keep (width / 8) (width / height) (square width))
 unfolding natural
-natural-parts bw bh = flat-append (rows (bw / 8) (bh / 8)) (keep (bw / 8) (bw / bh) (square bw))
+natural-parts width height = flat-append (rows (width / 8) (height / 8)) (keep (width / 8) (width / height) (square width))
 
 pub flat-length : (l : List Place) → length (flat l) ≡ 2 * length l
 flat-length [] = refl
 flat-length (p ∷ l) = let r = flat-length l in omega arith
 
-pub natural-numbers : (bw bh : ℕ) → Size bw bh → length (flat (natural bw bh)) ≡ 2 * (bw * bh)
-natural-numbers bw bh z = flat-length (natural bw bh) ∙ ap (λ (n : ℕ). 2 * n) (natural-facts bw bh z .long)
+pub natural-numbers : (width height : ℕ) → Size width height → length (flat (natural width height)) ≡ 2 * (width * height)
+natural-numbers width height z = flat-length (natural width height) ∙ ap (λ (n : ℕ). 2 * n) (natural-facts width height z .long)
 
-pub natural-sum : (bw bh : ℕ) → Size bw bh → length (flat (rows (bw / 8) (bh / 8))) + length (flat (keep (bw / 8) (bw / bh) (square bw))) ≡ 2 * (bw * bh)
-natural-sum bw bh z =
+pub natural-sum : (width height : ℕ) → Size width height → length (flat (rows (width / 8) (height / 8))) + length (flat (keep (width / 8) (width / height) (square width))) ≡ 2 * (width * height)
+natural-sum width height z =
     omega (
       arith,
-      natural-numbers bw bh z,
-      ap length (natural-parts bw bh),
-      length-append (flat (rows (bw / 8) (bh / 8))) (flat (keep (bw / 8) (bw / bh) (square bw))),
+      natural-numbers width height z,
+      ap length (natural-parts width height),
+      length-append (flat (rows (width / 8) (height / 8))) (flat (keep (width / 8) (width / height) (square width))),
     )
 
 pub sets-all : (l vs : List ℕ) → length vs ≡ length l → sets l 0 vs ≡ vs
@@ -136,5 +136,5 @@ sets-all l vs e =
     sets-eq vs l 0 (omega arith) ∙ ap (λ (r : List ℕ). vs ++ r) (drop-of-length-le l z) ∙ append-nil vs
 
 -- the whole list is the natural order
-pub natural-laid : (bw bh : ℕ) → Size bw bh → (l m : List ℕ) → length l ≡ 2 * (bw * bh) → m ≡ sets l 0 (flat (natural bw bh)) → m ≡ flat (natural bw bh)
-natural-laid bw bh z l m n e = e ∙ sets-all l (flat (natural bw bh)) (natural-numbers bw bh z ∙ sym n)
+pub natural-laid : (width height : ℕ) → Size width height → (l m : List ℕ) → length l ≡ 2 * (width * height) → m ≡ sets l 0 (flat (natural width height)) → m ≡ flat (natural width height)
+natural-laid width height z l m n e = e ∙ sets-all l (flat (natural width height)) (natural-numbers width height z ∙ sym n)

@@ -16,8 +16,8 @@ use Rattle.natural_order.specs.laws.Rows.{by-inside, inside-yes, inside-
 use Rattle.natural_order.specs.laws.Square.{square-lists}
 use Rattle.natural_order.specs.laws.Keep.{counted, keep-count}
 use Rattle.natural_order.specs.laws.Bools.{and-false}
-use Rattle.natural_order.specs.Sizes.{Size}
-use Rattle.natural_order.specs.laws.Sizes.{s-some, row-in, row-out, corner-in, corner-out, bw-eights, bh-by}
+use Rattle.natural_order.specs.Order.{Size}
+use Rattle.natural_order.specs.laws.Sizes.{s-some, row-in, row-out, corner-in, corner-out, width-eights, height-by}
 
 counted-none : (b : Bool) (n : ℕ) → n ≡ 0 → counted b n ≡ 0
 counted-none true n e = e
@@ -34,58 +34,58 @@ module _ (w s x t : ℕ) where
   below-it : w ≤ t → t % s ≡ 0 → listed w s (x, t) ≡ true
   below-it a e = rw (le-ltb t w a, and-false, eq-eqb (t % s) 0 e)
 
-module _ (bw bh : ℕ) (z : Size bw bh) where
+module _ (width height : ℕ) (z : Size width height) where
   -- the corner's count and the rest's
-  sum : (x y : ℕ) → count x y (natural bw bh) ≡ tally (ltb x (bw / 8) && ltb y (bh / 8)) + counted (listed (bw / 8) (bw / bh) (x, y * (bw / bh))) (tally (ltb x bw && ltb (y * (bw / bh)) bw))
+  sum : (x y : ℕ) → count x y (natural width height) ≡ tally (ltb x (width / 8) && ltb y (height / 8)) + counted (listed (width / 8) (width / height) (x, y * (width / height))) (tally (ltb x width && ltb (y * (width / height)) width))
   unfolding natural
   sum x y =
-      let s = bw / bh in
-      count-append x y (rows (bw / 8) (bh / 8)) (keep (bw / 8) s (square bw))
-      ∙ rw (rows-lists (bw / 8) (bh / 8) x y, keep-count (bw / 8) s x y (s-some bw bh z) (square bw), square-lists bw x (y * s))
+      let s = width / height in
+      count-append x y (rows (width / 8) (height / 8)) (keep (width / 8) s (square width))
+      ∙ rw (rows-lists (width / 8) (height / 8) x y, keep-count (width / 8) s x y (s-some width height z) (square width), square-lists width x (y * s))
 
-  once : (x y : ℕ) → x < bw → y < bh → count x y (natural bw bh) ≡ 1
-  once x y p q = sum x y ∙ rw (inside-yes x (y * (bw / bh)) bw bw p (row-in bw bh z y q)) (go (decLt x (bw / 8)) (decLt y (bh / 8)))
+  once : (x y : ℕ) → x < width → y < height → count x y (natural width height) ≡ 1
+  once x y p q = sum x y ∙ rw (inside-yes x (y * (width / height)) width width p (row-in width height z y q)) (go (decLt x (width / 8)) (decLt y (height / 8)))
     where
-      go : Dec (x < bw / 8) → Dec (y < bh / 8) → tally (ltb x (bw / 8) && ltb y (bh / 8)) + counted (listed (bw / 8) (bw / bh) (x, y * (bw / bh))) 1 ≡ 1
+      go : Dec (x < width / 8) → Dec (y < height / 8) → tally (ltb x (width / 8) && ltb y (height / 8)) + counted (listed (width / 8) (width / height) (x, y * (width / height))) 1 ≡ 1
       go (yes a) (yes b) =
-          rw (in-corner (bw / 8) (bw / bh) x (y * (bw / bh)) a (corner-in bw bh z y b), inside-yes x y (bw / 8) (bh / 8) a b)
+          rw (in-corner (width / 8) (width / height) x (y * (width / height)) a (corner-in width height z y b), inside-yes x y (width / 8) (height / 8) a b)
       go (no a) b =
           rw (
-            right-of-it (bw / 8) (bw / bh) x (y * (bw / bh)) (omega arith) (mul-mod-left y (bw / bh)),
-            inside-no-x x y (bw / 8) (bh / 8) (omega arith),
+            right-of-it (width / 8) (width / height) x (y * (width / height)) (omega arith) (mul-mod-left y (width / height)),
+            inside-no-x x y (width / 8) (height / 8) (omega arith),
           )
       go (yes a) (no b) =
           rw (
-            below-it (bw / 8) (bw / bh) x (y * (bw / bh)) (corner-out bw bh z y (omega arith)) (mul-mod-left y (bw / bh)),
-            inside-no-y x y (bw / 8) (bh / 8) (omega arith),
+            below-it (width / 8) (width / height) x (y * (width / height)) (corner-out width height z y (omega arith)) (mul-mod-left y (width / height)),
+            inside-no-y x y (width / 8) (height / 8) (omega arith),
           )
 
-  none-x : (x y : ℕ) → bw ≤ x → count x y (natural bw bh) ≡ 0
+  none-x : (x y : ℕ) → width ≤ x → count x y (natural width height) ≡ 0
   none-x x y p =
-      let e = bw-eights bw bh z in
+      let e = width-eights width height z in
       sum x y
       ∙ rw (
-        inside-no-x x y (bw / 8) (bh / 8) (omega arith),
-        inside-no-x x (y * (bw / bh)) bw bw p,
-        counted-none (listed (bw / 8) (bw / bh) (x, y * (bw / bh))) 0 refl,
+        inside-no-x x y (width / 8) (height / 8) (omega arith),
+        inside-no-x x (y * (width / height)) width width p,
+        counted-none (listed (width / 8) (width / height) (x, y * (width / height))) 0 refl,
       )
 
-  none-y : (x y : ℕ) → bh ≤ y → count x y (natural bw bh) ≡ 0
+  none-y : (x y : ℕ) → height ≤ y → count x y (natural width height) ≡ 0
   none-y x y p =
-      let e = bh-by bw bh z in
+      let e = height-by width height z in
       sum x y
       ∙ rw (
-        inside-no-y x y (bw / 8) (bh / 8) (omega arith),
-        inside-no-y x (y * (bw / bh)) bw bw (row-out bw bh z y p),
-        counted-none (listed (bw / 8) (bw / bh) (x, y * (bw / bh))) 0 refl,
+        inside-no-y x y (width / 8) (height / 8) (omega arith),
+        inside-no-y x (y * (width / height)) width width (row-out width height z y p),
+        counted-none (listed (width / 8) (width / height) (x, y * (width / height))) 0 refl,
       )
 
-  -- each cell of bw × bh once, and nothing else
-  pub natural-lists : Lists bw bh (natural bw bh)
-  natural-lists x y = by-inside (count x y (natural bw bh)) x y bw bh (once x y) (none-x x y) (none-y x y)
+  -- each cell of width × height once, and nothing else
+  pub natural-lists : Lists width height (natural width height)
+  natural-lists x y = by-inside (count x y (natural width height)) x y width height (once x y) (none-x x y) (none-y x y)
 
--- the first (bw / 8) × (bh / 8) places are the corner row by row
-pub natural-corner : (bw bh : ℕ) → take (bw / 8 * (bh / 8)) (natural bw bh) ≡ rows (bw / 8) (bh / 8)
+-- the first (width / 8) × (height / 8) places are the corner row by row
+pub natural-corner : (width height : ℕ) → take (width / 8 * (height / 8)) (natural width height) ≡ rows (width / 8) (height / 8)
 unfolding natural
-natural-corner bw bh =
-    take-at (rows (bw / 8) (bh / 8)) (keep (bw / 8) (bw / bh) (square bw)) (bw / 8 * (bh / 8)) (rows-length (bw / 8) (bh / 8) ∙ mul-comm (bh / 8) (bw / 8))
+natural-corner width height =
+    take-at (rows (width / 8) (height / 8)) (keep (width / 8) (width / height) (square width)) (width / 8 * (height / 8)) (rows-length (width / 8) (height / 8) ∙ mul-comm (height / 8) (width / 8))

@@ -3,18 +3,6 @@ use borrow.Author.Needs.{needs}
 use Rattle.netbuff_contexts.proofs.netbuff_block_context.Statement.{statement}
 use Rattle.netbuff_contexts.proofs.netbuff_block_context.Tie as tie
 
-parse-into-requires : tie.Need-parse-into-requires
-parse-into-requires c κs = search needs
-
-enum-known-answer : tie.Need-enum-known-answer
-enum-known-answer c = search needs
-
-enum-known-answer-2 : tie.Need-enum-known-answer-2
-enum-known-answer-2 c = search needs
-
-numbers-requires : tie.Need-numbers-requires
-numbers-requires c κs = search needs
-
 returns : tie.Need-returns
 returns c = let p = c .before .before .before .before .parse-into in
     let l = p .last .1 .1 .1 in
@@ -30,11 +18,5 @@ returns-2 c = let p = c .before .before .before .before .before .parse-into in
 
 pub netbuff-block-context-spec : {M : Type 1} → statement M
 netbuff-block-context-spec =
-    tie.close
-    (tie.spec
-    parse-into-requires
-    enum-known-answer
-    enum-known-answer-2
-    numbers-requires
-    returns
+    tie.close (tie.spec (λ c κs. search needs) (λ c. search needs) (λ c. search needs) (λ c κs. search needs) returns
     returns-2)

@@ -4,7 +4,7 @@ use mathlib.Core.Bool.{Bool}
 use mathlib.Core.List.{List}
 use Prim.Native.Nat.{ℕ}
 use Rattle.block_check.specs.declared.Group.{Group}
-use Rattle.block_check.specs.Calls.{Answer}
+use Rattle.refusal.specs.Answer.{Answer}
 use Rattle.block_record.specs.declared.cut.CutAnswer.{CutAnswer}
 use Rattle.block_record.specs.Calls.{Outcome, outcome, saidCut}
 use Rattle.likeness.specs.declared.LikeAnswer.{LikeAnswer}
@@ -18,7 +18,7 @@ cut-leaves h a k m kept o e f =
     record {
       handedIs = f ∙ ap (λ (z : Outcome). handedCut (z .answer) kept) e;
       kindsAre = ap (λ (z : Outcome). z .kinds) e;
-      mulsAre = ap (λ (z : Outcome). z .muls) e;
+      hfMulIs = ap (λ (z : Outcome). z .hfMul) e;
     }
 
 -- the call's own answer, handed on

@@ -1,24 +1,23 @@
--- Laws: What the exported layout call and column count hand out (document 01, Layout and filter strength, and Refused).
+-- The calls' own answers, handed on.
 use mathlib.Core.Path.{_≡_, ap, _∙_}
 use mathlib.Core.List.{List}
 use Prim.Native.Nat.{ℕ}
+use Rattle.refusal.specs.Answer.{Answer}
+use Rattle.refusal.specs.Handed.{Handed, handed}
 use Rattle.column_count.specs.declared.ColumnCount.{ColumnCount}
 use Rattle.column_count.specs.Count.{Counted, counted}
 use Rattle.hf_metadata.specs.Call.{answered, Outcome, leaves}
 use Rattle.hf_metadata.specs.declared.LayoutAnswer.{LayoutAnswer}
-use Rattle.netbuff_layout.specs.Layout.{CountHanded, LayoutLeaves, UsedHanded, handedCount, handedUsed}
+use Rattle.netbuff_layout.specs.Layout.{LayoutLeaves}
 
--- the call's own answer, handed on
-pub count-handed : (h : CountHanded) (a : ColumnCount) (keptCount keptBits : ℕ) (o : Counted) → counted a ≡ o → h ≡ handedCount (counted a) keptCount keptBits
-    → h ≡ handedCount o keptCount keptBits
-count-handed h a keptCount keptBits o e f = f ∙ ap (λ (z : Counted). handedCount z keptCount keptBits) e
+pub count-handed : (h : Handed Counted) (a : ColumnCount) (kept : Counted) (o : Answer Counted) → counted a ≡ o → h ≡ handed (counted a) kept → h ≡ handed o kept
+count-handed h a kept o e f = f ∙ ap (λ (z : Answer Counted). handed z kept) e
 
--- the call's own answer, handed on
-pub layout-leaves : (h : UsedHanded) (a : LayoutAnswer) (k m g : List ℕ) (kept : ℕ) (o : Outcome) → leaves a k m g ≡ o → h ≡ handedUsed (answered a) kept
+pub layout-leaves : (h : Handed ℕ) (a : LayoutAnswer) (k m g : List ℕ) (kept : ℕ) (o : Outcome) → leaves a k m g ≡ o → h ≡ handed (answered a) kept
     → LayoutLeaves h k m g kept o
 layout-leaves h a k m g kept o e f =
     record {
-      handedIs = f ∙ ap (λ (z : Outcome). handedUsed (z .answer) kept) e;
+      handedIs = f ∙ ap (λ (z : Outcome). handed (z .answer) kept) e;
       kindsAre = ap (λ (z : Outcome). z .kinds) e;
       hfMulIs = ap (λ (z : Outcome). z .hfMul) e;
       sigmaIs = ap (λ (z : Outcome). z .sigma) e;

@@ -4,10 +4,11 @@ use mathlib.Core.List.{List}
 use Prim.Native.Nat.{ℕ}
 use Rattle.hf_pass.specs.declared.OrdersAnswer.{OrdersAnswer}
 use Rattle.hf_pass.specs.Call.{answered, Outcome, outcome}
-use Rattle.netbuff_orders.specs.Orders.{Handed, OrdersLeave, handed}
+use Rattle.refusal.specs.Handed.{Handed, handed}
+use Rattle.netbuff_orders.specs.Orders.{OrdersLeave}
 
 -- the call's own answer, handed on
-pub orders-leave : (h : Handed) (a : OrdersAnswer) (store : List ℕ) (kept : ℕ) (o : Outcome) → outcome a store ≡ o → h ≡ handed (answered a) kept → OrdersLeave h store kept o
+pub orders-leave : (h : Handed ℕ) (a : OrdersAnswer) (store : List ℕ) (kept : ℕ) (o : Outcome) → outcome a store ≡ o → h ≡ handed (answered a) kept → OrdersLeave h store kept o
 orders-leave h a store kept o e f =
     record {
       handedIs = f ∙ ap (λ (z : Outcome). handed (z .answer) kept) e;

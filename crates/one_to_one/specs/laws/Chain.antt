@@ -3,14 +3,15 @@ use mathlib.Core.Path.{_≡_, ap}
 use mathlib.Core.Logic.{_↔_}
 use mathlib.Core.List.{List}
 use Prim.Native.Nat.{ℕ}
-use Rattle.block_check.specs.Calls.{gives, checkOf}
+use Rattle.refusal.specs.Answer.{gives}
+use Rattle.block_check.specs.Calls.{checkOf}
 use Rattle.block_sides.specs.Limits.{Sided}
 use Rattle.block_sides.specs.laws.Limits.{limits-in}
 use Rattle.block_check.specs.laws.Theorems.{checked}
 use Rattle.block_record.specs.Calls.{group}
 use Rattle.block_record.specs.laws.Theorems.{cut-checks}
 use Rattle.hf_metadata.specs.Call.{layoutOf}
-use Rattle.accepted_layout.specs.Theorems.{bwOf, bhOf}
+use Rattle.accepted_layout.specs.Outcome.{bwOf, bhOf}
 use Rattle.hf_block_context.specs.laws.Accepted.{accepted-fit}
 use Rattle.hf_coeff_group.specs.Group.{Grids}
 use Rattle.hf_coeff.specs.Call.{Lent}

@@ -14,22 +14,21 @@ use Rattle.natural_order.specs.Places.{flat}
 use Rattle.natural_order.specs.Natural.{natural}
 use Rattle.filter_strength.specs.declared.Filter.the-variants.{Off}
 use Rattle.filter_strength.specs.Strength.{zero32}
-use Rattle.hf_metadata.specs.Call.{Inputs, inputs, layoutOf, accepted}
+use Rattle.hf_metadata.specs.Call.{Inputs, inputs, layoutOf}
 use Rattle.hf_pass_store.specs.Store.{PLACES, stretch}
-use Rattle.refusal.specs.Answer as answer
 use Rattle.hf_pass.specs.declared.OrdersAnswer.the-variants as orderAnswer
-use Rattle.hf_pass.specs.Reading.{Given as GivenLists, digits, oneList, orders}
+use Rattle.hf_pass.specs.Orders.{Given as GivenLists, digits, oneList, orders}
 use Rattle.hf_pass.specs.Call as order
 use Rattle.hf_pass.specs.laws.Stretch.{store-length, stretch-list}
-use Rattle.hf_pass.specs.Wrote.{Wrote}
+use Rattle.hf_pass.specs.Call.{Wrote}
 use Rattle.block_context.specs.Record.{bsizeOf}
 use Rattle.thresholds.specs.Thresholds.{lfValue, qfValue, readValues, readList, readLists}
 use Rattle.hf_block_context.specs.Call as context
 use Rattle.hf_coeff.specs.Call.{lengthsFit, readPreset}
-use Rattle.block_check.specs.Calls.{gives}
+use Rattle.refusal.specs.Answer.{gives}
 use Rattle.block_record.specs.Calls.{group, outcome, cutOf}
 use Rattle.block_record.specs.laws.CutSteps.{cut-done}
-use Rattle.accepted_layout.specs.Theorems.{bwOf, bhOf}
+use Rattle.accepted_layout.specs.Outcome.{bwOf, bhOf}
 use Rattle.one_to_one.specs.Filling.{cell, wanted, Fixed, Filling, Fills, Given}
 use Rattle.one_to_one.specs.Sequence.{theSequence}
 use Rattle.one_to_one.specs.laws.Demand3.{one-sequence}
@@ -72,7 +71,7 @@ columns = inputs 16 16 (0 ∷ 0 ∷ 0 ∷ []) (6 ∷ 0 ∷ 0 ∷ []) (4 ∷ 0 �
 abbrev four : List ℕ
 four = replicate 4 0
 
-layout-accepted : layoutOf columns four four four ≡ record { answer = answer.gives 3; kinds = kinds; hfMul = muls; sigma = four }
+layout-accepted : layoutOf columns four four four ≡ record { answer = gives 3; kinds = kinds; hfMul = muls; sigma = four }
 unfolding layout-computes
 layout-accepted = refl
 

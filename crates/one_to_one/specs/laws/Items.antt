@@ -22,7 +22,7 @@ use Rattle.layout.specs.laws.Corners.{Apart, corners-apart}
 use Rattle.layout.specs.laws.Rectangles.{known, type-is, right, bottom, few, covers, at-corner}
 use Rattle.layout.specs.laws.Theorems.{disjoint}
 use Rattle.hf_pass_store.specs.Store.{stretch}
-use Rattle.hf_pass.specs.Wrote.{Wrote}
+use Rattle.hf_pass.specs.Call.{Wrote}
 use Rattle.hf_pass.specs.laws.Wrote.{listOf, wrote-order, wrote-stretch}
 use Rattle.hf_coeff_walk.specs.Places.{across, down, cellOf}
 use Rattle.hf_coeff_walk.specs.laws.PlaceLaws.{length-places}

@@ -15,9 +15,8 @@ use Rattle.hf_pass_naturals.specs.Naturals.{naturals}
 use Rattle.hf_pass.specs.declared.OrdersAnswer.the-variants as orderAnswer
 use Rattle.hf_pass.specs.Call as order
 use Rattle.hf_pass.specs.laws.Accepts.{orders-unused}
-use Rattle.hf_pass.specs.laws.Stretch.{store-length, stretch-list}
-use Rattle.hf_pass.specs.laws.Fits.{accepted-fits}
-use Rattle.hf_pass.specs.Wrote.{Wrote}
+use Rattle.hf_pass.specs.laws.Stretch.{store-length, stretch-list, accepted-fits}
+use Rattle.hf_pass.specs.Call.{Wrote}
 use Rattle.hf_block_context.specs.Call as context
 use Rattle.one_to_one.specs.Plain.{defaults, store}
 

@@ -14,8 +14,7 @@ use Rattle.dct_select.specs.Transforms.{wide, high, orderOf, turns}
 use Rattle.block_sizes.specs.BlockSizes.{widthOf, heightOf}
 use Rattle.natural_order.specs.Places.{Place, is, tally, count}
 use Rattle.natural_order.specs.laws.Bools.{tally-one}
-use Rattle.natural_order.specs.Sizes.{Size}
-use Rattle.natural_order.specs.Order.{Order}
+use Rattle.natural_order.specs.Order.{Size, Order}
 use Rattle.natural_order.specs.laws.Sizes.{size-of, width-eights, height-by}
 use Rattle.natural_order.specs.laws.Counts.{is-hit}
 use Rattle.natural_order.specs.laws.Listing.{hit-of, listing-length, self, inside-of}

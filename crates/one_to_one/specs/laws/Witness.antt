@@ -11,14 +11,13 @@ use Rattle.bits.specs.Bits.{Value}
 use Rattle.filter_strength.specs.declared.Filter.the-variants.{Off}
 use Rattle.filter_strength.specs.Strength.{zero32}
 use Rattle.hf_metadata.specs.Call.{Inputs, inputs, layoutOf}
-use Rattle.refusal.specs.Answer as answer
 use Rattle.hf_pass_store.specs.Store.{PLACES}
 use Rattle.hf_block_context.specs.Call.{contextsOf}
 use Rattle.hf_coeff.specs.Call.{lengthsFit, readPreset}
-use Rattle.block_check.specs.Calls.{gives}
+use Rattle.refusal.specs.Answer.{gives}
 use Rattle.block_record.specs.Calls.{group, outcome, cutOf}
 use Rattle.block_record.specs.laws.CutSteps.{cut-done}
-use Rattle.accepted_layout.specs.Theorems.{bwOf, bhOf}
+use Rattle.accepted_layout.specs.Outcome.{bwOf, bhOf}
 use Rattle.one_to_one.specs.Filling.{cell, wanted as wantedOf, Fixed, Filling, Fills, Given}
 use Rattle.one_to_one.specs.Sequence.{theSequence}
 use Rattle.one_to_one.specs.laws.Demand3.{one-sequence}
@@ -33,7 +32,7 @@ use Rattle.one_to_one.specs.Witness.{one, wanted, zeros}
 abbrev pub columns : Inputs
 columns = inputs 8 8 (0 ∷ 0 ∷ 0 ∷ []) (0 ∷ []) (0 ∷ []) (0 ∷ []) Off (replicate 8 zero32) 1
 
-layout-accepted : layoutOf columns (0 ∷ []) (0 ∷ []) (0 ∷ []) ≡ record { answer = answer.gives 1; kinds = 2 ∷ []; hfMul = 1 ∷ []; sigma = 0 ∷ [] }
+layout-accepted : layoutOf columns (0 ∷ []) (0 ∷ []) (0 ∷ []) ≡ record { answer = gives 1; kinds = 2 ∷ []; hfMul = 1 ∷ []; sigma = 0 ∷ [] }
 unfolding layout-computes
 layout-accepted = refl
 

@@ -7,10 +7,9 @@ use native.Mathlib.Omega.{arith}
 use lib.ListN.{length, getD, take, drop, take-append-drop, length-drop}
 use lib.Seq.{take-at, length-take-le}
 use Rattle.natural_order.specs.Places.{Place, is, tally, count}
-use Rattle.natural_order.specs.Sizes.{Size}
+use Rattle.natural_order.specs.Order.{Size, Order}
 use Rattle.natural_order.specs.laws.Counts.{count-append}
 use Rattle.natural_order.specs.laws.Listing.{listing-length}
-use Rattle.natural_order.specs.Order.{Order}
 use Rattle.permutation.specs.Digits.{without, chosen, ordered, Below}
 
 module _ {A : Type 0} where
@@ -31,10 +30,10 @@ chosen-count x y (d ∷ ds) rest b =
     omega (arith, without-count x y d rest (b .0), chosen-count x y ds (without d rest) (rw (without-length d rest (b .0)) (b .1)))
 
 -- digits make an order of an order
-pub ordered-order : (bw bh : ℕ) → Size bw bh → (l : List Place) → Order bw bh l → (ds : List ℕ) → Below ds (bw * bh - bw * bh / 64) → Order bw bh (ordered (0, 0) (bw * bh / 64) l ds)
-ordered-order bw bh z l o ds b =
-    let skip = bw * bh / 64 in
-    let n = listing-length bw bh l (o .cells) in
+pub ordered-order : (width height : ℕ) → Size width height → (l : List Place) → Order width height l → (ds : List ℕ) → Below ds (width * height - width * height / 64) → Order width height (ordered (0, 0) (width * height / 64) l ds)
+ordered-order width height z l o ds b =
+    let skip = width * height / 64 in
+    let n = listing-length width height l (o .cells) in
     let b' : Below ds (length (drop skip l)) = rw (length-drop skip l, n) b in
     record {
       cells = λ x y. count-append x y (take skip l) (chosen (0, 0) ds (drop skip l))
@@ -42,5 +41,5 @@ ordered-order bw bh z l o ds b =
           ∙ sym (count-append x y (take skip l) (drop skip l))
           ∙ ap (λ (m : List Place). count x y m) (take-append-drop skip l)
           ∙ o .cells x y;
-      corner = take-at (take skip l) (chosen (0, 0) ds (drop skip l)) skip (length-take-le skip l (omega (arith, div-le-self (bw * bh) 64))) ∙ o .corner;
+      corner = take-at (take skip l) (chosen (0, 0) ds (drop skip l)) skip (length-take-le skip l (omega (arith, div-le-self (width * height) 64))) ∙ o .corner;
     }

@@ -267,28 +267,42 @@ packed-length : (l : List Place) → length (map code l) ≡ length l
 packed-length [] = refl
 packed-length (p ∷ l) = ap suc (packed-length l)
 
-module _ (m size skip : ℕ) (ds l₀ : List ℕ) (n : length l₀ ≡ 2 * size) (h : skip ≤ size) (t : allBelow 256 l₀ ≡ true) (b : Below ds (size - skip)) where
-  pub all-drawn : (l₁ l₂ count l₃ l₄ l₅ : List ℕ) → length l₁ ≡ 2 * size → drop size l₁ ≡ packed (paired l₀) → l₂ ≡ paste l₁ 0 (drop size l₁) skip
-      → Drawn m size skip ds l₂ count l₃ → take (skip + length ds + total count) l₄ ≡ take (skip + length ds) l₃ ++ remaining m count (drop (size + skip) l₃)
-      → l₅ ≡ flat (unpacked (take size l₄)) → l₅ ≡ flat (ordered (0, 0) skip (paired l₀) ds)
-  unfolding packed unpacked
-  all-drawn l₁ l₂ count l₃ l₄ l₅ n₁ e₁ e₂ d e₄ e₅ =
-      let pk = map code (paired l₀) in
-      let lp : length pk ≡ size = packed-length (paired l₀) ∙ paired-length l₀ size n in
-      let y : 0 + skip ≡ skip = omega arith in
-      let t₂ : take skip l₂ ≡ take skip pk =
-      ap (take skip) e₂ ∙ ap (λ (j : ℕ). take j (paste l₁ 0 (drop size l₁) skip)) (sym y) ∙ take-paste l₁ 0 (drop size l₁) skip (omega arith) (omega (arith, length-drop size l₁)) ∙ ap (take skip) e₁ in
-      let d₀ : drop skip l₂ ≡ drop skip l₁ =
-      ap (drop skip) e₂ ∙ ap (λ (j : ℕ). drop j (paste l₁ 0 (drop size l₁) skip)) (sym y) ∙ drop-paste l₁ 0 (drop size l₁) skip (omega arith) (omega (arith, length-drop size l₁)) ∙ ap (λ (j : ℕ). drop j l₁) y in
-      let x : skip + size ≡ size + skip = omega arith in
-      let d₂ : drop (size + skip) l₂ ≡ drop skip pk =
-      ap (λ (j : ℕ). drop j l₂) (sym x) ∙ sym (drop-drop size skip l₂) ∙ ap (drop size) d₀ ∙ drop-drop size skip l₁ ∙ ap (λ (j : ℕ). drop j l₁) x ∙ sym (drop-drop skip size l₁) ∙ ap (drop skip) e₁ in
-      let whole : take size l₄ ≡ take skip pk ++ chosen 0 ds (drop skip pk) =
-      ap (λ (j : ℕ). take j l₄) (sym (d .left)) ∙ e₄ ∙ d .same ∙ ap₂ (λ (u v : List ℕ). u ++ chosen 0 ds v) t₂ d₂ in
-      let back = unpack-pack l₀ size n t in
-      let ld : length (drop skip pk) ≡ size - skip = length-drop skip pk ∙ ap (λ (j : ℕ). j - skip) lp in
-      let f : map decode (take size l₄) ≡ ordered (0, 0) skip (paired l₀) ds =
-      ap (map decode) whole ∙ map-append decode (take skip pk) (chosen 0 ds (drop skip pk))
-      ∙ ap₂ (λ (u v : List Place). u ++ v) (map-take skip pk ∙ ap (take skip) back)
-      (map-chosen decode ds (drop skip pk) (rw ld b) ∙ ap (chosen (0, 0) ds) (map-drop skip pk ∙ ap (drop skip) back)) in
-      e₅ ∙ ap flat f
+-- the places l₀ as numbers: the first `skip` at the front of l, the others behind its middle
+pub record PackedFixed (size skip : ℕ) (l₀ l : List ℕ) : Type 0 where
+  pub long : length l ≡ 2 * size
+  pub fixed : take skip l ≡ take skip (packed (paired l₀))
+  pub others : drop (size + skip) l ≡ drop skip (packed (paired l₀))
+
+pub packed-fixed : (size skip : ℕ) (l₀ l₁ l₂ : List ℕ) → skip ≤ size → length l₁ ≡ 2 * size → drop size l₁ ≡ packed (paired l₀) → l₂ ≡ paste l₁ 0 (drop size l₁) skip → PackedFixed size skip l₀ l₂
+packed-fixed size skip l₀ l₁ l₂ h n₁ e₁ e₂ =
+    let s = drop size l₁ in
+    let y : 0 + skip ≡ skip = omega arith in
+    let x : skip + size ≡ size + skip = omega arith in
+    let f : 0 ≤ length l₁ = omega arith in
+    let g : skip ≤ length s = omega (arith, length-drop size l₁) in
+    let d : drop skip l₂ ≡ drop skip l₁ =
+    ap (drop skip) e₂ ∙ ap (λ (j : ℕ). drop j (paste l₁ 0 s skip)) (sym y) ∙ drop-paste l₁ 0 s skip f g ∙ ap (λ (j : ℕ). drop j l₁) y in
+    record {
+      long = ap length e₂ ∙ length-paste l₁ 0 s skip (omega arith) g ∙ n₁;
+      fixed = ap (take skip) e₂ ∙ ap (λ (j : ℕ). take j (paste l₁ 0 s skip)) (sym y) ∙ take-paste l₁ 0 s skip f g ∙ ap (take skip) e₁;
+      others = ap (λ (j : ℕ). drop j l₂) (sym x) ∙ sym (drop-drop size skip l₂) ∙ ap (drop size) d ∙ drop-drop size skip l₁ ∙ ap (λ (j : ℕ). drop j l₁) x ∙ sym (drop-drop skip size l₁) ∙ ap (drop skip) e₁;
+    }
+
+pub drawn-all : (m size skip : ℕ) (ds l₂ count l₃ l₄ : List ℕ) → Drawn m size skip ds l₂ count l₃ → take (skip + length ds + total count) l₄ ≡ take (skip + length ds) l₃ ++ remaining m count (drop (size + skip) l₃)
+    → take size l₄ ≡ take skip l₂ ++ chosen 0 ds (drop (size + skip) l₂)
+drawn-all m size skip ds l₂ count l₃ l₄ d e = ap (λ (j : ℕ). take j l₄) (sym (d .left)) ∙ e ∙ d .same
+
+pub all-drawn : (size skip : ℕ) (ds l₀ l₂ l₄ l₅ : List ℕ) → length l₀ ≡ 2 * size → allBelow 256 l₀ ≡ true → Below ds (size - skip) → PackedFixed size skip l₀ l₂
+    → take size l₄ ≡ take skip l₂ ++ chosen 0 ds (drop (size + skip) l₂) → l₅ ≡ flat (unpacked (take size l₄)) → l₅ ≡ flat (ordered (0, 0) skip (paired l₀) ds)
+unfolding packed unpacked
+all-drawn size skip ds l₀ l₂ l₄ l₅ n t b p e₄ e₅ =
+    let pk = map code (paired l₀) in
+    let lp : length pk ≡ size = packed-length (paired l₀) ∙ paired-length l₀ size n in
+    let whole : take size l₄ ≡ take skip pk ++ chosen 0 ds (drop skip pk) = e₄ ∙ ap₂ (λ (u v : List ℕ). u ++ chosen 0 ds v) (p .fixed) (p .others) in
+    let back = unpack-pack l₀ size n t in
+    let ld : length (drop skip pk) ≡ size - skip = length-drop skip pk ∙ ap (λ (j : ℕ). j - skip) lp in
+    let f : map decode (take size l₄) ≡ ordered (0, 0) skip (paired l₀) ds =
+    ap (map decode) whole ∙ map-append decode (take skip pk) (chosen 0 ds (drop skip pk))
+    ∙ ap₂ (λ (u v : List Place). u ++ v) (map-take skip pk ∙ ap (take skip) back)
+    (map-chosen decode ds (drop skip pk) (rw ld b) ∙ ap (chosen (0, 0) ds) (map-drop skip pk ∙ ap (drop skip) back)) in
+    e₅ ∙ ap flat f

@@ -1,8 +1,6 @@
-use Prim.Native.Nat.{_/_}
+use Prim.Native.Nat.{_/_, _-_}
 use borrow.Author.Tests.{lt-ltb, le-ltb}
 use native.Mathlib.Omega.{arith}
-use Prim.Native.Nat.{_-_}
-use lib.ListN.{take}
 use Rattle.recorded_words.proofs.count.Statement.{statement}
 use Rattle.recorded_words.proofs.count.Tie as tie
 
@@ -17,4 +15,5 @@ returns-2 c =
     (rw (le-ltb (a .room) (a .bytes / 4) (c .if1 .left)), (omega arith, omega arith))
 
 pub count-spec : {M : Type 1} → statement M
-count-spec = tie.close (tie.spec returns returns-2)
+count-spec =
+    tie.close (tie.spec returns returns-2)

@@ -5,7 +5,7 @@ use Prim.Native.Nat.{ℕ, zero, suc, _+_, _<_, _≤_}
 use native.Mathlib.Nat.{not-suc-le-zero, le-of-suc-le-suc}
 use native.Mathlib.Omega.{arith}
 use native.Mathlib.Numerals.{add-one}
-use lib.ListN.{length, drop, take, set, length-take}
+use lib.ListN.{length, drop, set, length-take}
 use Rattle.io.specs.Counts.{Counts}
 use Rattle.laws.specs.Lists.{tabulate}
 

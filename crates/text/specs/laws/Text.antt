@@ -1,4 +1,4 @@
--- Laws: Text in lent bytes, and numbers in decimal.
+-- Text in lent bytes, and numbers in decimal.
 use mathlib.Core.Path.{_≡_, refl, ap, sym, _∙_}
 use mathlib.Core.List.{List, [], _∷_, _++_}
 use mathlib.Core.Logic.{_⊎_, inl, inr}

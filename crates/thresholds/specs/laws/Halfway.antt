@@ -8,10 +8,9 @@ use lib.Seq.{set-at}
 use Rattle.bits.specs.declared.Place.{Place}
 use Rattle.bits.specs.Bits.{Bytes, Read, Value, Ended, readBits}
 use Rattle.bits.specs.declared.Got.the-variants as got
-use Rattle.bits.specs.Reads.{gotOf, bitsBefore}
+use Rattle.bits.specs.Reads.{gotOf, bitsBefore, placeAt}
 use Rattle.bits.specs.laws.Laws.{was-value, was-end, before-at, value-at}
 use Rattle.bits.specs.laws.Near.{field-lt}
-use Rattle.bits.specs.Reads.{placeAt}
 use Rattle.thresholds.specs.declared.ListStep.the-variants as listStep
 use Rattle.thresholds.specs.Thresholds.{prepend, readValues, readList, pad}
 use Rattle.thresholds.specs.laws.Steps.{thresholdsOf}

@@ -2,13 +2,13 @@
 use mathlib.Core.Path.{_≡_, refl, ap}
 use mathlib.Core.Bool.{Bool}
 use mathlib.Core.List.{List, [], _∷_}
-use Prim.Native.Nat.{ℕ, zero, suc, _+_, _*_, _%_, _^_, _≤_, _<_}
+use Prim.Native.Nat.{ℕ, zero, suc, _+_, _*_, _^_, _≤_, _<_}
 use native.Mathlib.Omega.{arith}
 use lib.Dec.{T}
 use lib.Ieee.Fits.{and-i}
 use lib.ListN.{length}
 use Rattle.laws.specs.Tables.{every}
-use Rattle.bits.specs.Bits.{Bytes, Read, Value, Offset, readBits}
+use Rattle.bits.specs.Bits.{Bytes, Read, Offset, readBits}
 use Rattle.bits.specs.laws.Near.{Near, here-near, then-near, map-near, field-near, offset-near, u32-near}
 use Rattle.coded_numbers.specs.Signed.{unpackSigned}
 use Rattle.thresholds.specs.declared.Kind.{Kind}

@@ -93,8 +93,8 @@ fn tiled(side: usize, transform: impl Fn(usize) -> u8) -> Layout {
         (kinds[cell], hf_mul[cell]) = (kind, 5);
     }
     Layout {
-        wide: side,
-        high: side,
+        bw: side,
+        bh: side,
         kinds,
         hf_mul,
     }
@@ -109,8 +109,8 @@ fn places_inside(store: &Store) -> bool {
         for numbers in lists.chunks_exact(or.len()) {
             or.iter_mut().zip(numbers).for_each(|(or, n)| *or |= n);
         }
-        let (wide, high) = ORDER_SIZES[order];
+        let (width, height) = ORDER_SIZES[order];
         or.chunks_exact(2)
-            .all(|place| usize::from(place[0]) < wide && usize::from(place[1]) < high)
+            .all(|place| usize::from(place[0]) < width && usize::from(place[1]) < height)
     })
 }

@@ -40,22 +40,22 @@ fn sides(call: LfGroupCall, cut_of: CutOf) -> Sides {
 /// orders 0, 1 and 4 permuted.
 fn call(width: u32, height: u32) -> LfGroupCall {
     let mut rng = Rng::new(7);
-    let (wide, high) = (width.div_ceil(8) as usize, height.div_ceil(8) as usize);
-    let filled = fill(&mut rng, wide, high, None);
+    let (bw, bh) = (width.div_ceil(8) as usize, height.div_ceil(8) as usize);
+    let filled = fill(&mut rng, bw, bh, None);
     let contexts = contexts::all_lists();
     let clusters = contexts.count as usize;
     let mut call = LfGroupCall {
         layout: layouts::filtered(make::layout(width, height, &filled.columns)),
         contexts,
         orders: make::orders(0b10011, &digits(&mut rng, &[0, 1, 4])),
-        lf: std::array::from_fn(|_| (0..wide * high).map(|_| lf_number(&mut rng)).collect()),
+        lf: std::array::from_fn(|_| (0..bw * bh).map(|_| lf_number(&mut rng)).collect()),
         cluster_map: rng.bytes(paper::ENTRIES_PER_CLUSTER * clusters),
         symbols: Vec::new(),
     };
     let groups = call.groups();
     let corners = groups.iter().map(|group| {
         let rows = group.rows.clone();
-        rows.flat_map(|row| &filled.layout.kinds[row * wide..][group.columns.clone()])
+        rows.flat_map(|row| &filled.layout.kinds[row * bw..][group.columns.clone()])
     });
     call.symbols = corners.map(|kinds| symbols(&mut rng, kinds)).collect();
     call
@@ -70,8 +70,8 @@ fn lf_number(rng: &mut Rng) -> i32 {
 fn digits(rng: &mut Rng, orders: &[usize]) -> Vec<u32> {
     let mut symbols = Vec::new();
     for list in orders.iter().flat_map(|&order| [order; 3]) {
-        let (wide, high) = ORDER_SIZES[list];
-        let length = wide * high / 2;
+        let (width, height) = ORDER_SIZES[list];
+        let length = width * height / 2;
         symbols.push(length as u32);
         symbols.extend((0..length).map(|_| rng.below(8) as u32));
     }

@@ -17,7 +17,6 @@ mod lf_group;
 mod machine;
 #[cfg(live)]
 mod measure;
-#[cfg(live)]
 mod options;
 #[cfg(live)]
 mod orders;
@@ -34,7 +33,6 @@ mod table;
 #[cfg(live)]
 mod times;
 
-#[cfg(live)]
 fn main() -> std::process::ExitCode {
     match options::Options::read(std::env::args().skip(1)).and_then(run) {
         Ok(()) => 0.into(),
@@ -45,12 +43,16 @@ fn main() -> std::process::ExitCode {
     }
 }
 
-#[cfg(live)]
 fn run(options: options::Options) -> Result<(), String> {
     if options.help {
         print!("{}", options::HELP);
         return Ok(());
     }
+    measure(options)
+}
+
+#[cfg(live)]
+fn measure(options: options::Options) -> Result<(), String> {
     let rows = rows::all(options.growth);
     if let Some(name) = &options.child {
         let row = rows.into_iter().find(|row| row.name == *name);
@@ -69,6 +71,6 @@ fn run(options: options::Options) -> Result<(), String> {
 }
 
 #[cfg(not(live))]
-fn main() {
-    println!("{}", compare::LEFT_OUT);
+fn measure(_: options::Options) -> Result<(), String> {
+    Err(compare::LEFT_OUT.into())
 }

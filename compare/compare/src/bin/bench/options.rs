@@ -12,6 +12,9 @@ row is measured by a process of its own, both sides in turn.
   --child ROW  measures the row of this very name once, in this process, and prints one line:
                nanoseconds of Netbuff and of the Rust, how many units a call handles, their name
   --help       these words
+
+Ends with 2, before anything is measured, when a word is wrong, a row is not there, the chart's file
+cannot be written or the Rust is not at hand.
 ";
 
 /// Enough for a median that one disturbed round does not move.
@@ -50,7 +53,8 @@ impl Options {
                 "--rounds" => options.rounds = number(&value("a number")?)?,
                 "--growth" => options.growth = true,
                 "--svg" => options.svg = Some(value("a file")?),
-                option if option.starts_with("--") => {
+                "" => return Err("an empty name is part of every row's".into()),
+                option if option.starts_with('-') => {
                     return Err(format!("unknown: {option}\n\n{HELP}"))
                 }
                 _ => options.names.push(word),
@@ -104,9 +108,11 @@ mod tests {
             "--rounds 0",
             "--rounds x",
             "--child",
+            "-rounds 3",
         ] {
             assert!(read(line).is_err(), "{line}");
         }
+        assert!(Options::read([String::new()].into_iter()).is_err());
         assert!(read("--help").is_ok_and(|options| options.help));
     }
 }

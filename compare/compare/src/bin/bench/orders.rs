@@ -76,8 +76,8 @@ fn places() -> Sides {
 
 /// One order used, its three lists with all their digits.
 fn permuted(order: usize, digits: &str, symbols: fn(usize) -> Vec<u32>) -> Bench {
-    let (wide, high) = ORDER_SIZES[order];
-    Bench::new(format!("orders, {wide} x {high}, {digits}"), move || {
+    let (width, height) = ORDER_SIZES[order];
+    Bench::new(format!("orders, {width} x {height}, {digits}"), move || {
         Sides {
             units: (3 * free(order), "digit"),
             ..sides(make::orders(1 << order, &symbols(order)))
@@ -112,8 +112,8 @@ fn lists(order: usize, mut digit: impl FnMut(usize) -> usize) -> Vec<u32> {
 
 /// How many numbers of an order's list are not fixed.
 fn free(order: usize) -> usize {
-    let (wide, high) = ORDER_SIZES[order];
-    wide * high - wide * high / 64
+    let (width, height) = ORDER_SIZES[order];
+    width * height - width * height / 64
 }
 
 fn sides(call: OrdersCall) -> Sides {

@@ -37,8 +37,8 @@ fn mixed(sides: &[usize], k: usize) -> Layout {
 fn dct8(side: usize) -> Layout {
     let cells = side * side;
     Layout {
-        wide: side,
-        high: side,
+        bw: side,
+        bh: side,
         kinds: vec![2; cells],
         hf_mul: vec![1; cells],
     }

@@ -149,10 +149,10 @@ fn draw(svg: &mut String, axis: &Axis, top: f64, bar: &Bar) {
     text(svg, (x, base), anchor, &format!("{:.2}", ratio.median));
 }
 
-fn rect(svg: &mut String, (x, y): (f64, f64), (wide, high): (f64, f64), color: &str) {
+fn rect(svg: &mut String, (x, y): (f64, f64), (width, height): (f64, f64), color: &str) {
     writeln!(
         svg,
-        "<rect x=\"{x:.1}\" y=\"{y:.1}\" width=\"{wide:.1}\" height=\"{high}\" fill=\"{color}\"/>"
+        "<rect x=\"{x:.1}\" y=\"{y:.1}\" width=\"{width:.1}\" height=\"{height}\" fill=\"{color}\"/>"
     )
     .expect("a string takes all");
 }

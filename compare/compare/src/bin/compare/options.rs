@@ -1,3 +1,4 @@
+use std::num::NonZeroU32;
 use std::time::Duration;
 
 use compare::driver::Effort;
@@ -26,21 +27,33 @@ impl Options {
             progress: false,
             calls: Vec::new(),
         };
+        let mut each = false;
         while let Some(word) = words.next() {
-            let mut number = || {
-                let value = words.next().and_then(|value| value.parse::<u64>().ok());
-                value.ok_or(format!("{word} wants a number"))
-            };
+            let mut value = || words.next().ok_or(format!("{word} wants a number"));
             match word.as_str() {
-                "--seconds" => options.effort = Effort::Time(Duration::from_secs(number()?)),
-                "--count" => options.effort = Effort::Inputs(number()? as usize),
-                "--total-seconds" => options.total = Some(Duration::from_secs(number()?)),
+                "--seconds" => (options.effort, each) = (Effort::Time(seconds(&value()?)?), true),
+                "--count" => {
+                    let count = positive(&value()?)?.get() as usize;
+                    (options.effort, each) = (Effort::Inputs(count), true);
+                }
+                "--total-seconds" => options.total = Some(seconds(&value()?)?),
                 "--examples" => options.examples_only = true,
                 "--progress" => options.progress = true,
-                "--seed" => options.seed = number()?,
+                "--seed" => {
+                    let seed = value()?;
+                    options.seed = seed.parse().map_err(|_| format!("{seed} is no seed"))?;
+                }
                 call if names.contains(&call) => options.calls.push(word),
-                _ => return Err(format!("unknown: {word}; calls: {}", names.join(" "))),
+                _ => {
+                    let calls = names.join(" ");
+                    return Err(format!(
+                        "unknown: {word}; --help tells the options; calls: {calls}"
+                    ));
+                }
             }
+        }
+        if each && options.total.is_some() {
+            return Err("--total-seconds is for all calls together, and stands alone".into());
         }
         options.progress |= options.planned(names) >= LONG;
         Ok(options)
@@ -61,6 +74,15 @@ impl Options {
     }
 }
 
+fn seconds(word: &str) -> Result<Duration, String> {
+    Ok(Duration::from_secs(positive(word)?.get().into()))
+}
+
+fn positive(word: &str) -> Result<NonZeroU32, String> {
+    word.parse()
+        .map_err(|_| format!("{word} is no number from 1 on"))
+}
+
 #[cfg(test)]
 mod tests {
     use super::*;
@@ -79,8 +101,25 @@ mod tests {
         assert!(options.wants("cut") && !options.wants("layout"));
         assert!(read("--count 9").is_ok_and(|o| matches!(o.effort, Effort::Inputs(9))));
         assert!(read("--examples").is_ok_and(|options| options.examples_only));
-        assert!(read("--seconds").is_err() && read("--total-seconds x").is_err());
-        assert!(read("transform").is_err());
+    }
+
+    #[test]
+    fn wrong_words_are_refused() {
+        for line in [
+            "transform",
+            "--fast",
+            "--seconds",
+            "--seconds 0",
+            "--seconds 1s",
+            "--count -1",
+            "--total-seconds x",
+            "--seed x",
+            "--seed",
+            "--seconds 1 --total-seconds 5",
+            "--total-seconds 5 --count 1",
+        ] {
+            assert!(read(line).is_err(), "{line}");
+        }
     }
 
     #[test]

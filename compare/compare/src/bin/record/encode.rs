@@ -51,19 +51,19 @@ pub fn layout(body: &mut Body, call: &LayoutCall, outcome: &Outcome<usize, Layou
 }
 
 pub fn cut(body: &mut Body, call: &CutCall, outcome: &Outcome<(usize, usize), GroupBuffers>) {
-    body.sizes([call.layout.wide, call.layout.high, call.group]);
+    body.sizes([call.layout.bw, call.layout.bh, call.group]);
     body.sizes([call.kinds.len(), call.hf_mul.len()]);
     layout_lists(body, &call.layout);
     body.answer(&outcome.answer);
-    let (wide, high) = outcome.answer.unwrap_or((0, 0));
-    body.sizes([wide, high]);
+    let (bw, bh) = outcome.answer.unwrap_or((0, 0));
+    body.sizes([bw, bh]);
     body.digest(&outcome.buffers.0);
     body.digest(&outcome.buffers.1);
 }
 
 pub fn alike(body: &mut Body, call: &AlikeCall, outcome: &Outcome<bool, ()>) {
-    body.sizes([call.left.wide, call.left.high]);
-    body.sizes([call.right.wide, call.right.high]);
+    body.sizes([call.left.bw, call.left.bh]);
+    body.sizes([call.right.bw, call.right.bh]);
     layout_lists(body, &call.left);
     layout_lists(body, &call.right);
     body.answer(&outcome.answer);
@@ -114,7 +114,7 @@ pub fn coefficients(
     outcome: &Outcome<usize, CoefficientBuffers>,
 ) {
     let call = &input.call;
-    body.sizes([call.group.wide, call.group.high]);
+    body.sizes([call.group.bw, call.group.bh]);
     body.number(call.contexts.count);
     body.numbers(call.contexts.lengths);
     body.number(u32::from(call.lf.is_some()));

@@ -107,7 +107,7 @@ fn plain_coefficients(input: &mut CoefficientsInput) -> bool {
 
 /// Sides that are numbers of 32 bits.
 fn sides_recorded(layout: &Layout) -> bool {
-    [layout.wide, layout.high]
+    [layout.bw, layout.bh]
         .iter()
         .all(|&side| side <= u32::MAX as usize)
 }

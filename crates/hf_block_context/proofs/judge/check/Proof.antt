@@ -7,51 +7,43 @@ use mathlib.Core.Path.{_∙_, sym}
 use Rattle.hf_block_context.proofs.judge.check.Statement.{statement}
 use Rattle.hf_block_context.proofs.judge.check.Tie as tie
 
-bsize-requires : tie.Need-bsize-requires
-bsize-requires c κs = search needs
-
 returns : tie.Need-returns
-returns c = 
+returns c =
     let a = c .before .before .before .args in
     let e = c .before .bsize .ensures ∙ capped (c .before .before .before .args .lengths) (omega arith) (omega arith) (omega arith) (omega arith) in
     judged-size (a .num-clusters) (a .map .now) (a .lengths) (omega arith)
 
-mul-if2 : tie.Need-mul-if2
-mul-if2 c = search needs
-
 returns-2 : tie.Need-returns-2
-returns-2 c = 
+returns-2 c =
     let a = c .before .before .before .before .args in
     let e = c .before .before .bsize .ensures ∙ capped (c .before .before .before .before .args .lengths) (omega arith) (omega arith) (omega arith) (omega arith) in
     judged-length (a .num-clusters) (a .map .now) (a .lengths) (omega arith) (λ l. omega arith)
 
 returns-3 : tie.Need-returns-3
-returns-3 c = 
+returns-3 c =
     let a = c .before .before .before .before .before .args in
     let e = c .before .before .before .bsize .ensures ∙ capped (c .before .before .before .before .before .args .lengths) (omega arith) (omega arith) (omega arith) (omega arith) in
     judged-none (a .num-clusters) (a .map .now) (a .lengths) (omega arith) (omega arith) (omega arith)
 
 returns-4 : tie.Need-returns-4
-returns-4 c = 
+returns-4 c =
     let a = c .before .before .before .before .before .before .args in
     let e = c .before .before .before .before .bsize .ensures ∙ capped (c .before .before .before .before .before .before .args .lengths) (omega arith) (omega arith) (omega arith) (omega arith) in
     judged-many (a .num-clusters) (a .map .now) (a .lengths) (omega arith) (omega arith) (omega arith) (omega arith)
 
-all-below-requires : tie.Need-all-below-requires
-all-below-requires c κs = search needs
-
 returns-5 : tie.Need-returns-5
-returns-5 c = 
+returns-5 c =
     let a = c .before .before .before .before .before .before .before .before .args in
     let e = c .before .before .before .before .before .before .bsize .ensures ∙ capped (c .before .before .before .before .before .before .before .before .args .lengths) (omega arith) (omega arith) (omega arith) (omega arith) in
     judged-bytes (a .num-clusters) (a .map .now) (a .lengths) (omega arith) (omega arith) (omega arith) (omega arith) (sym (c .before .all-below .ensures) ∙ not-true _ (c .if5 .taken))
 
 returns-6 : tie.Need-returns-6
-returns-6 c = 
+returns-6 c =
     let a = c .before .before .before .before .before .before .before .before .args in
     let e = c .before .before .before .before .before .before .bsize .ensures ∙ capped (c .before .before .before .before .before .before .before .before .args .lengths) (omega arith) (omega arith) (omega arith) (omega arith) in
     judged-fit (a .num-clusters) (a .map .now) (a .lengths) (omega arith) (omega arith) (omega arith) (omega arith) (sym (c .before .all-below .ensures) ∙ not-false _ (c .if5 .left))
 
 pub check-spec : {M : Type 1} → statement M
 check-spec =
-    tie.close (tie.spec bsize-requires returns mul-if2 returns-2 returns-3 returns-4 all-below-requires returns-5 returns-6)
+    tie.close (tie.spec (λ c κs. search needs) returns (λ c. search needs) returns-2 returns-3 returns-4
+    (λ c κs. search needs) returns-5 returns-6)

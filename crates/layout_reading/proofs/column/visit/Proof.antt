@@ -1,9 +1,9 @@
 use Rattle.layout_reading.specs.laws.Places.{byJudged, visit-taken, visit-ends, visit-judged}
 use Rattle.layout_reading.specs.Reading.{jobWith}
-use Rattle.layout_reading.specs.laws.Reading.{stateOf}
+use Rattle.layout_reading.specs.laws.Outcome.{stateOf}
 use Rattle.layout_column.specs.laws.Judged.{asks-most}
 use Rattle.layout_column.specs.Columns.{lowEight, hfMulOf}
-use Rattle.layout_column.specs.laws.Columns.{saidJudged}
+use Rattle.layout_column.specs.laws.Judged.{saidJudged}
 use lib.Arith.{digits-lt}
 use borrow.Author.Needs.{needs}
 use native.Mathlib.Omega.{arith}
@@ -37,27 +37,6 @@ returns-2 c =
     let a = c .before .before .before .before .before .before .before .before .before .args in
     visit-ends (jobWith (a .bw) (a .bh) (a .types .now) (a .muls .now) (a .sharpness .now) (a .filter) (a .lookups .now)) (a .x) (a .y) (stateOf (a .used) (a .kinds .now) (a .hf-mul .now) (a .sigma .now)) (omega arith) (omega arith)
 
-mul-judge : tie.Need-mul-judge
-mul-judge c = search needs
-
-shared-slice-read-judge : tie.Need-shared-slice-read-judge
-shared-slice-read-judge c = search needs
-
-mul-judge-2 : tie.Need-mul-judge-2
-mul-judge-2 c = search needs
-
-shared-slice-read-judge-2 : tie.Need-shared-slice-read-judge-2
-shared-slice-read-judge-2 c = search needs
-
-judge-requires : tie.Need-judge-requires
-judge-requires c κs = search needs
-
-enum-known-judged : tie.Need-enum-known-judged
-enum-known-judged c = search needs
-
-enum-known-judged-2 : tie.Need-enum-known-judged-2
-enum-known-judged-2 c = search needs
-
 place-requires : tie.Need-place-requires
 place-requires c κs =
     let a = c .before .before .before .before .before .before .before .before .before .before .before .before .before .before .before .before .before .before .args in
@@ -69,15 +48,6 @@ returns-3 : tie.Need-returns-3
 returns-3 c =
     let a = c .before .before .before .before .before .before .before .before .before .before .before .before .before .before .before .args in
     sym (ap (byJudged (jobWith (a .bw) (a .bh) (a .types .now) (a .muls .now) (a .sharpness .now) (a .filter) (a .lookups .now)) (a .x) (a .y) (stateOf (a .used) (a .kinds .now) (a .hf-mul .now) (a .sigma .now))) (c .before .judged .given .1)) ∙ visit-judged (jobWith (a .bw) (a .bh) (a .types .now) (a .muls .now) (a .sharpness .now) (a .filter) (a .lookups .now)) (a .x) (a .y) (stateOf (a .used) (a .kinds .now) (a .hf-mul .now) (a .sigma .now)) (omega arith) (c .before .before .before .judge .result) (omega arith) (c .before .before .before .judge .ensures)
-
-same-length : tie.Need-same-length
-same-length c = search needs
-
-same-length-2 : tie.Need-same-length-2
-same-length-2 c = search needs
-
-same-length-3 : tie.Need-same-length-3
-same-length-3 c = search needs
 
 returns-4 : tie.Need-returns-4
 returns-4 c =
@@ -93,16 +63,16 @@ visit-spec =
     slice-read-if1
     returns
     returns-2
-    mul-judge
-    shared-slice-read-judge
-    mul-judge-2
-    shared-slice-read-judge-2
-    judge-requires
-    enum-known-judged
-    enum-known-judged-2
+    (λ c. search needs)
+    (λ c. search needs)
+    (λ c. search needs)
+    (λ c. search needs)
+    (λ c κs. search needs)
+    (λ c. search needs)
+    (λ c. search needs)
     place-requires
     returns-3
-    same-length
-    same-length-2
-    same-length-3
+    (λ c. search needs)
+    (λ c. search needs)
+    (λ c. search needs)
     returns-4)

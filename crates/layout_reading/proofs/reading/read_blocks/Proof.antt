@@ -1,6 +1,6 @@
 use Rattle.layout_reading.specs.laws.Places.{stop-stays}
 use Rattle.layout_reading.specs.Reading.{jobWith}
-use Rattle.layout_reading.specs.laws.Reading.{stateOf, stepped}
+use Rattle.layout_reading.specs.laws.Outcome.{stateOf, stepped}
 use Rattle.layout.specs.laws.Loops.{rowsLeft, cellsLeft, loop-start, loop-enter, loop-next, loop-stop, loop-leave, loop-finish}
 use Rattle.layout_reading.specs.Reading.{Going, visit}
 use Rattle.layout_reading.specs.declared.column.Step.{Step}
@@ -25,9 +25,6 @@ Inv-loop kinds₀ hf-mul₀ sigma₀ types muls sharpness lookups filter bw bh u
 abbrev μ-loop : tie.MeasureT-loop
 μ-loop kinds₀ hf-mul₀ sigma₀ types muls sharpness lookups filter bw bh used₀ y₀ kinds hf-mul sigma used y = bh - y
 
-loop-holds : tie.Need-loop-holds Inv-loop2 μ-loop2 Inv-loop μ-loop
-loop-holds c = (omega arith, omega arith, omega arith, omega arith, refl)
-
 loop2-holds : tie.Need-loop2-holds Inv-loop2 μ-loop2 Inv-loop μ-loop
 loop2-holds c =
     let o = c .before .loop in
@@ -39,20 +36,8 @@ visit-requires c κs =
     let h = c .before .before .before .before .before .before .before .before .before .before .before .before .before .pre in
     (l .inv .1, l .inv .2, l .inv .3, h .3, h .4, h .5, h .6, omega arith, omega arith, h .7)
 
-enum-known-step : tie.Need-enum-known-step Inv-loop2 μ-loop2 Inv-loop μ-loop
-enum-known-step c = search needs
-
 enum-told : tie.Need-enum-told Inv-loop2 μ-loop2 Inv-loop μ-loop
 enum-told c = search needs
-
-same-length : tie.Need-same-length Inv-loop2 μ-loop2 Inv-loop μ-loop
-same-length c = search needs
-
-same-length-2 : tie.Need-same-length-2 Inv-loop2 μ-loop2 Inv-loop μ-loop
-same-length-2 c = search needs
-
-same-length-3 : tie.Need-same-length-3 Inv-loop2 μ-loop2 Inv-loop μ-loop
-same-length-3 c = search needs
 
 returns : tie.Need-returns Inv-loop2 μ-loop2 Inv-loop μ-loop
 returns c =
@@ -60,13 +45,7 @@ returns c =
     let o = c .before .before .before .before .before .before .before .before .before .before .before .before .before .before .before .loop in
     let l = c .before .before .before .before .before .before .before .before .before .before .before .before .before .loop2 in
     let v = c .before .before .before .before .before .before .before .before .visit in
-    sym (loop-start (visit (jobWith (a .bw) (a .bh) (a .types .now) (a .muls .now) (a .sharpness .now) (a .filter) (a .lookups .now))) (a .bw) (a .bh) (Going (stateOf 0 (a .kinds .now) (a .hf-mul .now) (a .sigma .now))) ∙ o .inv .4 ∙ loop-enter (visit (jobWith (a .bw) (a .bh) (a .types .now) (a .muls .now) (a .sharpness .now) (a .filter) (a .lookups .now))) (a .bw) (a .bh) (o .y) (Going (stateOf (o .used) (o .kinds) (o .hf-mul) (o .sigma))) (omega arith) ∙ l .inv .4 ∙ loop-stop (visit (jobWith (a .bw) (a .bh) (a .types .now) (a .muls .now) (a .sharpness .now) (a .filter) (a .lookups .now))) (a .bw) (a .bh) (o .y) (l .x) (Going (stateOf (l .used) (l .kinds) (l .hf-mul) (l .sigma))) (stepped (v .result) (v .last .0) (v .last .1 .0) (v .last .1 .1 .0)) (stop-stays (jobWith (a .bw) (a .bh) (a .types .now) (a .muls .now) (a .sharpness .now) (a .filter) (a .lookups .now)) (v .result) _ (v .last .0) (v .last .1 .0) (v .last .1 .1 .0) (c .enum-told .given .1)) (omega arith) (v .ensures))
-
-add-x : tie.Need-add-x Inv-loop2 μ-loop2 Inv-loop μ-loop
-add-x c = search needs
-
-loop2-less : tie.Need-loop2-less Inv-loop2 μ-loop2 Inv-loop μ-loop
-loop2-less c = search needs
+    sym (loop-start (visit (jobWith (a .bw) (a .bh) (a .types .now) (a .muls .now) (a .sharpness .now) (a .filter) (a .lookups .now))) (a .bw) (a .bh) (Going (stateOf 0 (a .kinds .now) (a .hf-mul .now) (a .sigma .now))) ∙ o .inv .4 ∙ loop-enter (visit (jobWith (a .bw) (a .bh) (a .types .now) (a .muls .now) (a .sharpness .now) (a .filter) (a .lookups .now))) (a .bw) (a .bh) (o .y) (Going (stateOf (o .used) (o .kinds) (o .hf-mul) (o .sigma))) (omega arith) ∙ l .inv .4 ∙ loop-stop (visit (jobWith (a .bw) (a .bh) (a .types .now) (a .muls .now) (a .sharpness .now) (a .filter) (a .lookups .now))) (a .bw) (a .bh) (o .y) (l .x) (Going (stateOf (l .used) (l .kinds) (l .hf-mul) (l .sigma))) (stepped (v .result) (v .last .0) (v .last .1 .0) (v .last .1 .1 .0)) (stop-stays (jobWith (a .bw) (a .bh) (a .types .now) (a .muls .now) (a .sharpness .now) (a .filter) (a .lookups .now)) (v .result) _ _ (v .last .0) (v .last .1 .0) (v .last .1 .1 .0) (c .enum-told .given .1)) (omega arith) (v .ensures))
 
 loop2-again : tie.Need-loop2-again Inv-loop2 μ-loop2 Inv-loop μ-loop
 loop2-again c =
@@ -77,27 +56,12 @@ loop2-again c =
     let e = sym (ap (λ (z : Step). stepped z (v .last .0) (v .last .1 .0) (v .last .1 .1 .0)) (c .before .step .given .1)) ∙ v .ensures in
     (omega arith, omega arith, omega arith, omega arith, l .inv .4 ∙ loop-next (visit (jobWith (a .bw) (a .bh) (a .types .now) (a .muls .now) (a .sharpness .now) (a .filter) (a .lookups .now))) (a .bw) (a .bh) (o .y) (l .x) (Going (stateOf (l .used) (l .kinds) (l .hf-mul) (l .sigma))) _ (omega arith) e)
 
-add-y : tie.Need-add-y Inv-loop2 μ-loop2 Inv-loop μ-loop
-add-y c = search needs
-
-loop-less : tie.Need-loop-less Inv-loop2 μ-loop2 Inv-loop μ-loop
-loop-less c = search needs
-
 loop-again : tie.Need-loop-again Inv-loop2 μ-loop2 Inv-loop μ-loop
 loop-again c =
     let a = c .before .before .before .before .before .before .before .before .before .before .args in
     let o = c .before .before .before .loop in
     let l = c .before .loop2 in
     (omega arith, l .inv .1, l .inv .2, l .inv .3, o .inv .4 ∙ loop-enter (visit (jobWith (a .bw) (a .bh) (a .types .now) (a .muls .now) (a .sharpness .now) (a .filter) (a .lookups .now))) (a .bw) (a .bh) (o .y) (Going (stateOf (o .used) (o .kinds) (o .hf-mul) (o .sigma))) (omega arith) ∙ l .inv .4 ∙ loop-leave (visit (jobWith (a .bw) (a .bh) (a .types .now) (a .muls .now) (a .sharpness .now) (a .filter) (a .lookups .now))) (a .bw) (a .bh) (o .y) (l .x) (Going (stateOf (l .used) (l .kinds) (l .hf-mul) (l .sigma))) (omega arith))
-
-same-length-4 : tie.Need-same-length-4 Inv-loop2 μ-loop2 Inv-loop μ-loop
-same-length-4 c = search needs
-
-same-length-5 : tie.Need-same-length-5 Inv-loop2 μ-loop2 Inv-loop μ-loop
-same-length-5 c = search needs
-
-same-length-6 : tie.Need-same-length-6 Inv-loop2 μ-loop2 Inv-loop μ-loop
-same-length-6 c = search needs
 
 returns-2 : tie.Need-returns-2 Inv-loop2 μ-loop2 Inv-loop μ-loop
 returns-2 c =
@@ -113,22 +77,22 @@ read-blocks-spec =
     μ-loop2
     Inv-loop
     μ-loop
-    loop-holds
+    (λ c. (omega arith, omega arith, omega arith, omega arith, refl))
     loop2-holds
     visit-requires
-    enum-known-step
+    (λ c. search needs)
     enum-told
-    same-length
-    same-length-2
-    same-length-3
+    (λ c. search needs)
+    (λ c. search needs)
+    (λ c. search needs)
     returns
-    add-x
-    loop2-less
+    (λ c. search needs)
+    (λ c. search needs)
     loop2-again
-    add-y
-    loop-less
+    (λ c. search needs)
+    (λ c. search needs)
     loop-again
-    same-length-4
-    same-length-5
-    same-length-6
+    (λ c. search needs)
+    (λ c. search needs)
+    (λ c. search needs)
     returns-2)

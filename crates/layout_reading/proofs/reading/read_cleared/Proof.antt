@@ -7,34 +7,13 @@ use Prim.Native.Nat.{ℕ}
 use Rattle.layout_reading.proofs.reading.read_cleared.Statement.{statement}
 use Rattle.layout_reading.proofs.reading.read_cleared.Tie as tie
 
-clear-u8-requires : tie.Need-clear-u8-requires
-clear-u8-requires c κs = search needs
-
-clear-u32-requires : tie.Need-clear-u32-requires
-clear-u32-requires c κs = search needs
-
-clear-u32-requires-2 : tie.Need-clear-u32-requires-2
-clear-u32-requires-2 c κs = search needs
-
 read-blocks-requires : tie.Need-read-blocks-requires
 read-blocks-requires c κs =
     let h = c .before .before .before .before .before .before .before .before .before .before .before .before .before .before .before .before .before .before .before .before .before .pre in
     (search needs, search needs, search needs, h .3, h .4, h .5, h .6, h .7)
 
-enum-known-step : tie.Need-enum-known-step
-enum-known-step c = search needs
-
 enum-told : tie.Need-enum-told
 enum-told c = search needs
-
-same-length : tie.Need-same-length
-same-length c = search needs
-
-same-length-2 : tie.Need-same-length-2
-same-length-2 c = search needs
-
-same-length-3 : tie.Need-same-length-3
-same-length-3 c = search needs
 
 returns : tie.Need-returns
 returns c =
@@ -45,24 +24,6 @@ returns c =
     let em = h .1 in
     let es = h .2 in
     read-accepts (jobWith (a .bw) (a .bh) (a .types .now) (a .muls .now) (a .sharpness .now) (a .filter) (a .lookups .now)) (v .result) _ _ (v .last .0) (v .last .1 .0) _ (v .last .1 .1 .0) (c .before .before .before .before .before .before .before .before .before .before .before .before .before .before .before .before .before .before .before .before .before .before .clear-u8 .ensures ∙ ap (λ (n : ℕ). replicate {A = ℕ} n 0) (ek)) (c .before .before .before .before .before .before .before .before .before .before .before .before .before .before .before .before .before .before .clear-u32 .ensures ∙ ap (λ (n : ℕ). replicate {A = ℕ} n 0) (em)) (c .before .before .before .before .before .before .before .before .before .before .before .before .before .before .clear-u322 .ensures ∙ ap (λ (n : ℕ). replicate {A = ℕ} n 0) (es)) (v .ensures) _ (c .enum-told .given .1)
-
-clear-u8-requires-2 : tie.Need-clear-u8-requires-2
-clear-u8-requires-2 c κs = search needs
-
-clear-u32-requires-3 : tie.Need-clear-u32-requires-3
-clear-u32-requires-3 c κs = search needs
-
-clear-u32-requires-4 : tie.Need-clear-u32-requires-4
-clear-u32-requires-4 c κs = search needs
-
-same-length-4 : tie.Need-same-length-4
-same-length-4 c = search needs
-
-same-length-5 : tie.Need-same-length-5
-same-length-5 c = search needs
-
-same-length-6 : tie.Need-same-length-6
-same-length-6 c = search needs
 
 returns-2 : tie.Need-returns-2
 returns-2 c =
@@ -75,26 +36,26 @@ returns-2 c =
     let fk = c .before .before .before .before .before .before .before .before .before .before .before .before .before .before .before .before .before .before .before .before .kinds2 .given ∙ c .before .before .before .before .before .before .before .before .before .before .before .before .before .before .before .before .before .before .before .before .before .before .before .before .before .before .before .before .before .before .before .before .before .before .kinds .given ∙ ek in
     let fm = c .before .before .before .before .before .before .before .before .before .before .before .before .before .before .before .before .before .before .hf-mul2 .given ∙ c .before .before .before .before .before .before .before .before .before .before .before .before .before .before .before .before .before .before .before .before .before .before .before .before .before .before .before .before .before .before .hf-mul .given ∙ em in
     let fs = c .before .before .before .before .before .before .before .before .before .before .before .before .before .before .before .before .sigma2 .given ∙ c .before .before .before .before .before .before .before .before .before .before .before .before .before .before .before .before .before .before .before .before .before .before .before .before .before .before .sigma .given ∙ es in
-    read-refuses (jobWith (a .bw) (a .bh) (a .types .now) (a .muls .now) (a .sharpness .now) (a .filter) (a .lookups .now)) (v .result) _ _ (v .last .0) (v .last .1 .0) _ (v .last .1 .1 .0) (c .before .before .before .before .before .before .before .before .before .before .before .before .before .before .before .before .before .before .before .before .before .before .before .before .before .before .before .before .before .before .before .before .before .before .before .clear-u8 .ensures ∙ ap (λ (n : ℕ). replicate {A = ℕ} n 0) (ek)) (c .before .before .before .before .before .before .before .before .before .before .before .before .before .before .before .before .before .before .before .before .before .before .before .before .before .before .before .before .before .before .before .clear-u32 .ensures ∙ ap (λ (n : ℕ). replicate {A = ℕ} n 0) (em)) (c .before .before .before .before .before .before .before .before .before .before .before .before .before .before .before .before .before .before .before .before .before .before .before .before .before .before .before .clear-u322 .ensures ∙ ap (λ (n : ℕ). replicate {A = ℕ} n 0) (es)) (v .ensures) _ _ _ _ (c .before .before .before .before .before .before .before .before .before .before .before .before .before .step .given .1) (c .before .before .before .before .before .before .before .before .before .before .clear-u82 .ensures ∙ ap (λ (n : ℕ). replicate {A = ℕ} n 0) (fk)) (c .before .before .before .before .before .before .clear-u323 .ensures ∙ ap (λ (n : ℕ). replicate {A = ℕ} n 0) (fm)) (c .before .before .clear-u324 .ensures ∙ ap (λ (n : ℕ). replicate {A = ℕ} n 0) (fs))
+    read-refuses (jobWith (a .bw) (a .bh) (a .types .now) (a .muls .now) (a .sharpness .now) (a .filter) (a .lookups .now)) (v .result) _ _ (v .last .0) (v .last .1 .0) _ (v .last .1 .1 .0) (c .before .before .before .before .before .before .before .before .before .before .before .before .before .before .before .before .before .before .before .before .before .before .before .before .before .before .before .before .before .before .before .before .before .before .before .clear-u8 .ensures ∙ ap (λ (n : ℕ). replicate {A = ℕ} n 0) (ek)) (c .before .before .before .before .before .before .before .before .before .before .before .before .before .before .before .before .before .before .before .before .before .before .before .before .before .before .before .before .before .before .before .clear-u32 .ensures ∙ ap (λ (n : ℕ). replicate {A = ℕ} n 0) (em)) (c .before .before .before .before .before .before .before .before .before .before .before .before .before .before .before .before .before .before .before .before .before .before .before .before .before .before .before .clear-u322 .ensures ∙ ap (λ (n : ℕ). replicate {A = ℕ} n 0) (es)) (v .ensures) _ _ _ _ _ (c .before .before .before .before .before .before .before .before .before .before .before .before .before .step .given .1) (c .before .before .before .before .before .before .before .before .before .before .clear-u82 .ensures ∙ ap (λ (n : ℕ). replicate {A = ℕ} n 0) (fk)) (c .before .before .before .before .before .before .clear-u323 .ensures ∙ ap (λ (n : ℕ). replicate {A = ℕ} n 0) (fm)) (c .before .before .clear-u324 .ensures ∙ ap (λ (n : ℕ). replicate {A = ℕ} n 0) (fs))
 
 pub read-cleared-spec : {M : Type 1} → statement M
 read-cleared-spec =
     tie.close
     (tie.spec
-    clear-u8-requires
-    clear-u32-requires
-    clear-u32-requires-2
+    (λ c κs. search needs)
+    (λ c κs. search needs)
+    (λ c κs. search needs)
     read-blocks-requires
-    enum-known-step
+    (λ c. search needs)
     enum-told
-    same-length
-    same-length-2
-    same-length-3
+    (λ c. search needs)
+    (λ c. search needs)
+    (λ c. search needs)
     returns
-    clear-u8-requires-2
-    clear-u32-requires-3
-    clear-u32-requires-4
-    same-length-4
-    same-length-5
-    same-length-6
+    (λ c κs. search needs)
+    (λ c κs. search needs)
+    (λ c κs. search needs)
+    (λ c. search needs)
+    (λ c. search needs)
+    (λ c. search needs)
     returns-2)

@@ -27,9 +27,6 @@ returns c =
     let a = c .before .before .before .before .before .args in
     rw (lt-leb 2 (at (a .kinds .now) (a .bw) (a .x) (a .y)) (c .if1 .taken)) (puts-none (a .out .now) (a .at) (omega arith))
 
-number-of-requires : tie.Need-number-of-requires
-number-of-requires c κs = search needs
-
 mul-put-varblock : tie.Need-mul-put-varblock
 mul-put-varblock c =
     let a = c .before .before .before .before .before .before .before .args in
@@ -39,12 +36,6 @@ shared-slice-read-put-varblock : tie.Need-shared-slice-read-put-varblock
 shared-slice-read-put-varblock c =
     let a = c .before .before .before .before .before .before .before .before .args in
     omega (arith, digits-lt {q = a .y} {m = a .bh} {r = a .x} {c = a .bw} (omega arith) (omega arith))
-
-put-varblock-requires : tie.Need-put-varblock-requires
-put-varblock-requires c κs = search needs
-
-same-length : tie.Need-same-length
-same-length c = search needs
 
 returns-2 : tie.Need-returns-2
 returns-2 c =
@@ -59,9 +50,9 @@ put-block-spec =
     add-i
     shared-slice-read-kind
     returns
-    number-of-requires
+    (λ c κs. search needs)
     mul-put-varblock
     shared-slice-read-put-varblock
-    put-varblock-requires
-    same-length
+    (λ c κs. search needs)
+    (λ c. search needs)
     returns-2)

@@ -36,15 +36,6 @@ loop2-holds c =
     let o = c .before .loop in
     (omega arith, o .inv .1, omega arith, goes-start (o .out) (linesLeft (a .bw) (a .kinds .now) (a .hf-mul .now) (a .bh) 0 (o .y)) (o .to))
 
-put-block-requires : tie.Need-put-block-requires Inv-loop2 μ-loop2 Inv-loop μ-loop
-put-block-requires c κs = search needs
-
-add-x : tie.Need-add-x Inv-loop2 μ-loop2 Inv-loop μ-loop
-add-x c = search needs
-
-loop2-less : tie.Need-loop2-less Inv-loop2 μ-loop2 Inv-loop μ-loop
-loop2-less c = search needs
-
 loop2-again : tie.Need-loop2-again Inv-loop2 μ-loop2 Inv-loop μ-loop
 loop2-again c =
     let a = c .before .before .before .before .before .before .before .before .before .before .before .args in
@@ -55,12 +46,6 @@ loop2-again c =
     let s = goes-same (o .out) (linesLeft (a .bw) (a .kinds .now) (a .hf-mul .now) (a .bh) 0 (o .y)) (l .out) (linesLeft (a .bw) (a .kinds .now) (a .hf-mul .now) (a .bh) (l .x) (o .y)) (lineAt (a .bw) (a .kinds .now) (a .hf-mul .now) (l .x) (o .y) ++ linesLeft (a .bw) (a .kinds .now) (a .hf-mul .now) (a .bh) (l .x + 1) (o .y)) (o .to) (l .to) e (l .inv .3) in
     (omega arith, omega (arith, b .ensures .place, c .before .out .given), omega (arith, c .before .out .given), goes-on (o .out) (linesLeft (a .bw) (a .kinds .now) (a .hf-mul .now) (a .bh) 0 (o .y)) (l .out) (b .last .0) (lineAt (a .bw) (a .kinds .now) (a .hf-mul .now) (l .x) (o .y)) (linesLeft (a .bw) (a .kinds .now) (a .hf-mul .now) (a .bh) (l .x + 1) (o .y)) (o .to) (l .to) (b .result) s (b .ensures))
 
-add-y : tie.Need-add-y Inv-loop2 μ-loop2 Inv-loop μ-loop
-add-y c = search needs
-
-loop-less : tie.Need-loop-less Inv-loop2 μ-loop2 Inv-loop μ-loop
-loop-less c = search needs
-
 loop-again : tie.Need-loop-again Inv-loop2 μ-loop2 Inv-loop μ-loop
 loop-again c =
     let a = c .before .before .before .before .before .before .before .args in
@@ -70,9 +55,6 @@ loop-again c =
     let e = ap (λ (z : ℕ). linesLeft (a .bw) (a .kinds .now) (a .hf-mul .now) (a .bh) z (o .y)) x ∙ lines-turn (a .bw) (a .kinds .now) (a .hf-mul .now) (a .bh) (o .y) (omega arith) in
     let f = goes-far (a .out .now) (linesLeft (a .bw) (a .kinds .now) (a .hf-mul .now) (a .bh) 0 0) (o .out) (linesLeft (a .bw) (a .kinds .now) (a .hf-mul .now) (a .bh) 0 (o .y)) (l .out) (linesLeft (a .bw) (a .kinds .now) (a .hf-mul .now) (a .bh) (l .x) (o .y)) (a .at) (o .to) (l .to) (o .inv .3) (l .inv .3) in
     (omega arith, l .inv .1, omega arith, goes-same (a .out .now) (linesLeft (a .bw) (a .kinds .now) (a .hf-mul .now) (a .bh) 0 0) (l .out) (linesLeft (a .bw) (a .kinds .now) (a .hf-mul .now) (a .bh) (l .x) (o .y)) (linesLeft (a .bw) (a .kinds .now) (a .hf-mul .now) (a .bh) 0 (o .y + 1)) (a .at) (l .to) e f)
-
-same-length : tie.Need-same-length Inv-loop2 μ-loop2 Inv-loop μ-loop
-same-length c = search needs
 
 returns : tie.Need-returns Inv-loop2 μ-loop2 Inv-loop μ-loop
 returns c =
@@ -93,12 +75,12 @@ put-varblocks-spec =
     μ-loop
     loop-holds
     loop2-holds
-    put-block-requires
-    add-x
-    loop2-less
+    (λ c κs. search needs)
+    (λ c. search needs)
+    (λ c. search needs)
     loop2-again
-    add-y
-    loop-less
+    (λ c. search needs)
+    (λ c. search needs)
     loop-again
-    same-length
+    (λ c. search needs)
     returns)

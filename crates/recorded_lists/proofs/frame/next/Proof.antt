@@ -9,17 +9,11 @@ use Rattle.recorded_lists.proofs.frame.next.Statement.{statement}
 use Rattle.recorded_lists.proofs.frame.next.Tie as tie
 use Rattle.recorded_lists.proofs.list.has_room.Reads as has-room-reads
 use Rattle.recorded_lists.proofs.list.second.Reads as second-reads
-use Rattle.recorded_lists.proofs.wide.Reads as wide-reads
+use Rattle.recorded_lists.proofs.to_usize.Reads as to-usize-reads
 
 returns : tie.Need-returns
 unfolding frameOf
 returns c = let a = c .before .before .args in rw (eq-eqb (a .at) (length (a .words .now)) (c .if1 .taken))
-
-second-requires : tie.Need-second-requires
-second-requires c κs = search needs
-
-has-room-requires : tie.Need-has-room-requires
-has-room-requires c κs = search needs
 
 returns-2 : tie.Need-returns-2
 unfolding frameOf
@@ -51,11 +45,8 @@ mul-t5 c =
 shared-slice-read-t9 : tie.Need-shared-slice-read-t9
 shared-slice-read-t9 c = omega (arith, ends (c .before))
 
-wide-requires : tie.Need-wide-requires
-wide-requires c κs = search needs
-
 add-t11 : tie.Need-add-t11
-add-t11 c = omega (arith, ends (c .before .before), c .wide .ensures .0, c .before .before .before .before .second .ensures)
+add-t11 c = omega (arith, ends (c .before .before), c .to-usize .ensures .0, c .before .before .before .before .second .ensures)
 
 returns-3 : tie.Need-returns-3
 unfolding frameOf
@@ -63,7 +54,7 @@ returns-3 c =
     let a = c .before .before .before .before .before .before .before .args in
     let w = a .words .now in
     rw (
-      c .wide .ensures .0,
+      c .to-usize .ensures .0,
       c .before .before .before .before .second .ensures,
       ne-eqb (a .at) (length w) (c .before .before .before .before .before .if1 .left),
       le-leb (a .at + 2 + getD w (a .at + 1) 0) (length w) (ends (c .before .before)),
@@ -71,15 +62,5 @@ returns-3 c =
 
 pub next-spec : {M : Type 1} → statement M
 next-spec =
-    tie.close
-    (tie.spec
-    returns
-    second-requires
-    has-room-requires
-    returns-2
-    add-start
-    mul-t5
-    shared-slice-read-t9
-    wide-requires
-    add-t11
-    returns-3)
+    tie.close (tie.spec returns (λ c κs. search needs) (λ c κs. search needs) returns-2 add-start mul-t5
+    shared-slice-read-t9 (λ c κs. search needs) add-t11 returns-3)

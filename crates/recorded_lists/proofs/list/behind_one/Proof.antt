@@ -2,20 +2,13 @@ use Rattle.recorded_lists.specs.laws.ListsLaws.{in-room, no-room}
 use borrow.Author.Tests.{le-leb}
 use borrow.Author.Needs.{needs}
 use native.Mathlib.Omega.{arith}
-use mathlib.Core.Path.{_∙_}
 use Prim.Native.Nat.{_+_, _≤_}
 use lib.ListN.{length, getD}
 use Rattle.recorded_lists.proofs.list.behind_one.Statement.{statement}
 use Rattle.recorded_lists.proofs.list.behind_one.Tie as tie
 use Rattle.recorded_lists.proofs.list.has_room.Reads as has-room-reads
 use Rattle.recorded_lists.proofs.list.number.Reads as number-reads
-use Rattle.recorded_lists.proofs.wide.Reads as wide-reads
-
-number-requires : tie.Need-number-requires
-number-requires c κs = search needs
-
-has-room-requires : tie.Need-has-room-requires
-has-room-requires c κs = search needs
+use Rattle.recorded_lists.proofs.to_usize.Reads as to-usize-reads
 
 returns : tie.Need-returns
 returns c =
@@ -37,26 +30,16 @@ ends c =
 add-result : tie.Need-add-result
 add-result c = omega (arith, ends c)
 
-wide-requires : tie.Need-wide-requires
-wide-requires c κs = search needs
-
 add-result-2 : tie.Need-add-result-2
-add-result-2 c = omega (arith, ends (c .before), c .wide .ensures .0, c .before .before .before .number .ensures)
+add-result-2 c = omega (arith, ends (c .before), c .to-usize .ensures .0, c .before .before .before .number .ensures)
 
 returns-2 : tie.Need-returns-2
 returns-2 c =
     let a = c .before .before .before .before .before .args in
     let w = a .words .now in
-    rw (c .wide .ensures .0, c .before .before .before .number .ensures, le-leb (a .at + 2 + getD w (a .at) 0) (length w) (ends (c .before)))
+    rw (c .to-usize .ensures .0, c .before .before .before .number .ensures, le-leb (a .at + 2 + getD w (a .at) 0) (length w) (ends (c .before)))
 
 pub behind-one-spec : {M : Type 1} → statement M
 behind-one-spec =
-    tie.close
-    (tie.spec
-    number-requires
-    has-room-requires
-    returns
-    add-result
-    wide-requires
-    add-result-2
+    tie.close (tie.spec (λ c κs. search needs) (λ c κs. search needs) returns add-result (λ c κs. search needs) add-result-2
     returns-2)

@@ -9,10 +9,7 @@ use Rattle.recorded_lists.proofs.list.byte_span.Statement.{statement}
 use Rattle.recorded_lists.proofs.list.byte_span.Tie as tie
 use Rattle.recorded_lists.proofs.list.has_room.Reads as has-room-reads
 use Rattle.recorded_lists.proofs.list.second.Reads as second-reads
-use Rattle.recorded_lists.proofs.wide.Reads as wide-reads
-
-has-room-requires : tie.Need-has-room-requires
-has-room-requires c κs = search needs
+use Rattle.recorded_lists.proofs.to_usize.Reads as to-usize-reads
 
 returns : tie.Need-returns
 returns c =
@@ -29,12 +26,6 @@ head c =
     let l = in-room (f .result) (a .at) 0 0 (a .bytes / 4) (f .ensures) refl (c .if1 .left) in
     omega (arith, l)
 
-second-requires : tie.Need-second-requires
-second-requires c κs = search needs
-
-wide-requires : tie.Need-wide-requires
-wide-requires c κs = search needs
-
 add-start : tie.Need-add-start
 add-start c = omega (arith, head (c .before .before))
 
@@ -48,7 +39,7 @@ returns-2 : tie.Need-returns-2
 returns-2 c =
     let a = c .before .before .before .before .before .before .args in
     let n = getD (a .words .now) (a .at + 1) 0 in
-    (rw (lt-leb (4 * (a .at + 2) + n) (a .bytes) (omega (arith, head (c .before .before .before), c .before .wide .ensures .0, c .before .before .second .ensures))), (omega arith, omega arith))
+    (rw (lt-leb (4 * (a .at + 2) + n) (a .bytes) (omega (arith, head (c .before .before .before), c .before .to-usize .ensures .0, c .before .before .second .ensures))), (omega arith, omega arith))
 
 add-t7 : tie.Need-add-t7
 add-t7 c = omega (arith, head (c .before .before .before))
@@ -57,19 +48,9 @@ returns-3 : tie.Need-returns-3
 returns-3 c =
     let a = c .before .before .before .before .before .before .args in
     let n = getD (a .words .now) (a .at + 1) 0 in
-    (rw (c .before .wide .ensures .0, c .before .before .second .ensures, le-leb (4 * (a .at + 2) + n) (a .bytes) (omega (arith, head (c .before .before .before), c .before .wide .ensures .0, c .before .before .second .ensures))), (omega arith, omega (arith, head (c .before .before .before))))
+    (rw (c .before .to-usize .ensures .0, c .before .before .second .ensures, le-leb (4 * (a .at + 2) + n) (a .bytes) (omega (arith, head (c .before .before .before), c .before .to-usize .ensures .0, c .before .before .second .ensures))), (omega arith, omega (arith, head (c .before .before .before))))
 
 pub byte-span-spec : {M : Type 1} → statement M
 byte-span-spec =
-    tie.close
-    (tie.spec
-    has-room-requires
-    returns
-    second-requires
-    wide-requires
-    add-start
-    mul-start
-    sub-if2
-    returns-2
-    add-t7
-    returns-3)
+    tie.close (tie.spec (λ c κs. search needs) returns (λ c κs. search needs) (λ c κs. search needs) add-start mul-start
+    sub-if2 returns-2 add-t7 returns-3)

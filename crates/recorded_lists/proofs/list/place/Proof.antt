@@ -20,15 +20,6 @@ loop-holds c =
     let e : a .k - 0 ≡ a .k = omega arith in
     (omega arith, rw e)
 
-behind-one-requires : tie.Need-behind-one-requires Inv-loop μ-loop
-behind-one-requires c κs = search needs
-
-add-i : tie.Need-add-i Inv-loop μ-loop
-add-i c = search needs
-
-loop-less : tie.Need-loop-less Inv-loop μ-loop
-loop-less c = search needs
-
 loop-again : tie.Need-loop-again Inv-loop μ-loop
 loop-again c =
     let at = c .before .before in
@@ -43,5 +34,5 @@ returns c =
 
 pub place-spec : {M : Type 1} → statement M
 place-spec =
-    tie.close
-    (tie.spec Inv-loop μ-loop loop-holds behind-one-requires add-i loop-less loop-again returns)
+    tie.close (tie.spec Inv-loop μ-loop loop-holds (λ c κs. search needs) (λ c. search needs) (λ c. search needs) loop-again
+    returns)

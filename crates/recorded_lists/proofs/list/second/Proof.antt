@@ -1,7 +1,7 @@
 use borrow.Author.Needs.{needs}
 use native.Mathlib.Omega.{arith}
 use Prim.Native.Nat.{_+_, _≤_}
-use lib.ListN.{length, getD, List·getD-eq-default}
+use lib.ListN.{length, List·getD-eq-default}
 use Rattle.recorded_lists.proofs.list.second.Statement.{statement}
 use Rattle.recorded_lists.proofs.list.second.Tie as tie
 use Rattle.recorded_lists.proofs.list.number.Reads as number-reads
@@ -12,14 +12,6 @@ returns c =
     let h : length (a .words .now) ≤ a .at + 1 = omega arith in
     rw (List·getD-eq-default (a .words .now) 0 h)
 
-add-number : tie.Need-add-number
-add-number c = search needs
-
-number-requires : tie.Need-number-requires
-number-requires c κs = search needs
-
-returns-2 : tie.Need-returns-2
-returns-2 c = search needs
-
 pub second-spec : {M : Type 1} → statement M
-second-spec = tie.close (tie.spec returns add-number number-requires returns-2)
+second-spec =
+    tie.close (tie.spec returns (λ c. search needs) (λ c κs. search needs) (λ c. search needs))

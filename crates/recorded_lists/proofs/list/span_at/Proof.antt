@@ -2,20 +2,13 @@ use Rattle.recorded_lists.specs.laws.ListsLaws.{in-room, no-room}
 use borrow.Author.Tests.{le-leb}
 use borrow.Author.Needs.{needs}
 use native.Mathlib.Omega.{arith}
-use mathlib.Core.Path.{_∙_}
 use Prim.Native.Nat.{_+_, _≤_}
 use lib.ListN.{length, getD}
 use Rattle.recorded_lists.proofs.list.span_at.Statement.{statement}
 use Rattle.recorded_lists.proofs.list.span_at.Tie as tie
 use Rattle.recorded_lists.proofs.list.has_room.Reads as has-room-reads
 use Rattle.recorded_lists.proofs.list.second.Reads as second-reads
-use Rattle.recorded_lists.proofs.wide.Reads as wide-reads
-
-second-requires : tie.Need-second-requires
-second-requires c κs = search needs
-
-has-room-requires : tie.Need-has-room-requires
-has-room-requires c κs = search needs
+use Rattle.recorded_lists.proofs.to_usize.Reads as to-usize-reads
 
 returns : tie.Need-returns
 returns c =
@@ -37,26 +30,16 @@ ends c =
 add-start : tie.Need-add-start
 add-start c = omega (arith, ends c)
 
-wide-requires : tie.Need-wide-requires
-wide-requires c κs = search needs
-
 add-t8 : tie.Need-add-t8
-add-t8 c = omega (arith, ends (c .before), c .wide .ensures .0, c .before .before .before .second .ensures)
+add-t8 c = omega (arith, ends (c .before), c .to-usize .ensures .0, c .before .before .before .second .ensures)
 
 returns-2 : tie.Need-returns-2
 returns-2 c =
     let a = c .before .before .before .before .before .args in
     let w = a .words .now in
-    (rw (c .wide .ensures .0, c .before .before .before .second .ensures, le-leb (a .at + 2 + getD w (a .at + 1) 0) (length w) (ends (c .before))), (omega arith, omega (arith, ends (c .before), c .wide .ensures .0, c .before .before .before .second .ensures)))
+    (rw (c .to-usize .ensures .0, c .before .before .before .second .ensures, le-leb (a .at + 2 + getD w (a .at + 1) 0) (length w) (ends (c .before))), (omega arith, omega (arith, ends (c .before), c .to-usize .ensures .0, c .before .before .before .second .ensures)))
 
 pub span-at-spec : {M : Type 1} → statement M
 span-at-spec =
-    tie.close
-    (tie.spec
-    second-requires
-    has-room-requires
-    returns
-    add-start
-    wide-requires
-    add-t8
+    tie.close (tie.spec (λ c κs. search needs) (λ c κs. search needs) returns add-start (λ c κs. search needs) add-t8
     returns-2)

@@ -10,4 +10,5 @@ returns-2 : tie.Need-returns-2
 returns-2 c = (omega arith, simp length-take (omega arith))
 
 pub fit-bytes-spec : {M : Type 1} → statement M
-fit-bytes-spec = tie.close (tie.spec returns returns-2)
+fit-bytes-spec =
+    tie.close (tie.spec returns returns-2)

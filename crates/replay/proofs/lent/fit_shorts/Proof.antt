@@ -10,4 +10,5 @@ returns-2 : tie.Need-returns-2
 returns-2 c = (omega arith, simp length-take (omega arith))
 
 pub fit-shorts-spec : {M : Type 1} → statement M
-fit-shorts-spec = tie.close (tie.spec returns returns-2)
+fit-shorts-spec =
+    tie.close (tie.spec returns returns-2)

@@ -10,4 +10,5 @@ returns-2 : tie.Need-returns-2
 returns-2 c = (omega arith, simp length-take (omega arith))
 
 pub fit-words-spec : {M : Type 1} → statement M
-fit-words-spec = tie.close (tie.spec returns returns-2)
+fit-words-spec =
+    tie.close (tie.spec returns returns-2)

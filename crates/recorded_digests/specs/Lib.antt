@@ -1,3 +1,0 @@
--- digests of lists
-pub mod Digest
-pub mod laws
