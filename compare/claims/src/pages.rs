@@ -3,7 +3,7 @@
 use std::path::Path;
 
 /// Folders of the repository that a document may name a file of.
-const FOLDERS: [&str; 8] = [
+const FOLDERS: [&str; 13] = [
     "crates/",
     "compare/",
     "docs/",
@@ -11,6 +11,11 @@ const FOLDERS: [&str; 8] = [
     "bindings/",
     "include/",
     "examples/",
+    "c/",
+    "man/",
+    "packaging/",
+    "tests/",
+    "tools/",
     ".ci/",
 ];
 

@@ -12,3 +12,5 @@ pub mod Step
 pub mod Due
 pub mod WorkLaws
 pub mod Symbols
+pub mod Cells
+pub mod Reads

@@ -8,3 +8,4 @@ pub mod Lent
 pub mod Items
 pub mod Kept
 pub mod Contexts
+pub mod Walks

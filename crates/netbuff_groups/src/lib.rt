@@ -4,9 +4,10 @@ use likeness::LikeAnswer;
 ghost use mathlib.Core.Path.{_≡_};
 ghost use Rattle.layout.specs.Like.{lent};
 ghost use Rattle.refusal.specs.Said.{at};
+ghost use Rattle.refusal.specs.Handed.{with, handed};
 ghost use Rattle.block_record.specs.Calls.{group, cutOf};
 ghost use Rattle.likeness.specs.Calls.{likeOf};
-ghost use Rattle.netbuff_groups.specs.Record.{withSides, CutLeaves, withAlike, handedLike};
+ghost use Rattle.netbuff_groups.specs.Record.{CutLeaves};
 
 // Beside a refusal the sides stay as they were.
 #[no_mangle]
@@ -23,7 +24,7 @@ pub extern "C" fn netbuff_cut(
     x: &mut usize,
     y: &mut usize,
 ) -> u32
-    ensures { λ r. ⌜ CutLeaves (withSides (at r (now (x .exit)) (now (y .exit))) (group (now (wide .exit)) (now (high .exit)))) (now («out_kinds» .exit)) (now («out_hf_mul» .exit)) (group (now (wide .entry)) (now (high .entry)))
+    ensures { λ r. ⌜ CutLeaves (with (at r (now (x .exit)) (now (y .exit))) (group (now (wide .exit)) (now (high .exit)))) (now («out_kinds» .exit)) (now («out_hf_mul» .exit)) (group (now (wide .entry)) (now (high .entry)))
         (cutOf bw bh (now (kinds .entry)) (now («hf_mul» .entry)) index (now («out_kinds» .entry)) (now («out_hf_mul» .entry))) ⌝ }
 {
     let answer = block_record::cut::cut(bw, bh, kinds, hf_mul, index, out_kinds, out_hf_mul);
@@ -59,8 +60,8 @@ pub extern "C" fn netbuff_alike(
     x: &mut usize,
     y: &mut usize,
 ) -> u32
-    ensures { λ r. ⌜ withAlike (at r (now (x .exit)) (now (y .exit))) (now (alike .exit))
-        ≡ handedLike (likeOf (lent bw bh (now (kinds .entry)) (now («hf_mul» .entry))) (lent bw2 bh2 (now (kinds2 .entry)) (now («hf_mul2» .entry)))) (now (alike .entry)) ⌝ }
+    ensures { λ r. ⌜ with (at r (now (x .exit)) (now (y .exit))) (now (alike .exit))
+        ≡ handed (likeOf (lent bw bh (now (kinds .entry)) (now («hf_mul» .entry))) (lent bw2 bh2 (now (kinds2 .entry)) (now («hf_mul2» .entry)))) (now (alike .entry)) ⌝ }
 {
     let answer = likeness::alike(bw, bh, kinds, hf_mul, bw2, bh2, kinds2, hf_mul2);
     match answer {

@@ -7,11 +7,7 @@ pub mod SymbolsRead
 pub mod Surplus
 pub mod Witness
 pub mod FullWitness
-pub mod LeftOver
 pub mod NeverOutside
-pub mod Walks
-pub mod Cells
-pub mod Reads
 pub mod OneToOne
 pub mod Spread
 pub mod Items

@@ -10,7 +10,8 @@ use Rattle.refusal.specs.Answer.{gives}
 use Rattle.block_check.specs.Calls.{checkOf}
 use Rattle.block_sides.specs.Limits.{inLimits, lengthsFit, Sided}
 use Rattle.block_sides.specs.laws.Limits.{in-limits, limits-in, lengths-fit, fit-lengths}
-use Rattle.block_check.specs.laws.Laws.{pass, check-fine}
+use Rattle.refusal.specs.laws.Answer.{pass}
+use Rattle.block_check.specs.laws.Laws.{check-fine}
 
 -- The check passes layouts with sides in the limits, and no other lent record.
 module _ (limit w h : ℕ) (kinds hfMul : List ℕ) where

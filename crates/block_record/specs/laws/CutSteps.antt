@@ -18,7 +18,7 @@ use Rattle.refusal.specs.Answer.{gives, refuses}
 use Rattle.block_sides.specs.Limits.{inLimits, lengthsFit}
 use Rattle.block_sides.specs.laws.Limits.{in-limits, lengths-fit}
 use Rattle.block_record.specs.Calls.{group, outcome, cutCheck, cutOf}
-use Rattle.block_check.specs.laws.Laws.{pass}
+use Rattle.refusal.specs.laws.Answer.{pass}
 use Rattle.block_check.specs.declared.Group.{Group}
 
 module _ (bw bh : ℕ) (kinds hfMul : List ℕ) (g ok om : ℕ) where

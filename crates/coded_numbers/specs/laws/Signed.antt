@@ -55,7 +55,7 @@ pack-zero : pack 0 ≡ 0
 unfolding pack
 pack-zero = refl
 
-unpack-zero : unpackSigned 0 ≡ 0
+pub unpack-zero : unpackSigned 0 ≡ 0
 unfolding unpackSigned
 unpack-zero = refl
 

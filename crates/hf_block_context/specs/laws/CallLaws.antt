@@ -1,6 +1,6 @@
 -- The ways out of the context call.
 use mathlib.Core.Path.{_≡_, refl, ap, sym, _∙_}
-use mathlib.Core.Bool.{Bool, true, false}
+use mathlib.Core.Bool.{true, false}
 use mathlib.Core.List.{List, [], _∷_, _++_}
 use Prim.Native.Nat.{ℕ, _+_, _-_, _*_, _≤_, _<_}
 use native.Mathlib.Omega.{arith}
@@ -18,11 +18,13 @@ use Rattle.bits.specs.laws.Laws.{before-at}
 use Rattle.bits.specs.laws.Near.{Near}
 use Rattle.block_context.specs.Record.{bsizeOf}
 use Rattle.bytes_below.specs.Below.{bytesBelow}
+use Rattle.laws.specs.Tables.{every}
+use Rattle.thresholds.specs.declared.Kind.{Kind}
 use Rattle.thresholds.specs.declared.ListStep.the-variants as listStep
 use Rattle.thresholds.specs.declared.Thresholds.{Thresholds}
 use Rattle.thresholds.specs.Thresholds.{listsOf, lfValue, qfValue, readList, readLists, pad}
-use Rattle.thresholds.specs.laws.Steps.{thresholdsOf}
-use Rattle.thresholds.specs.laws.Lists.{list-near}
+use Rattle.thresholds.specs.laws.Steps.{readValue, thresholdsOf}
+use Rattle.thresholds.specs.laws.Lists.{value-near, list-near}
 use Rattle.hf_block_context.specs.Call.{Outcome, recordOf, contextsOf, accepted, refused, judged, judgedAs, judgedLists, orEnded, noLists, DEFAULT-MAP, parsed}
 
 -- The tests behind the bits.
@@ -70,54 +72,63 @@ module _ (count : ℕ) (map lengths : List ℕ) where
 -- What a list's thresholds say of the reading.
 pub record WasList (s : List ℕ) (value : ℕ → Read ℕ) (p : ℕ) (t : Thresholds) (n : ℕ) (q : Place) : Type 0 where
   pub vs : List ℕ
-  pub at : ℕ
-  pub is : readList s value p ≡ Value vs at
+  pub is : readList s value p ≡ Value vs (bitsBefore q)
   pub count : length vs ≡ n
   pub values : t .values ≡ pad 15 vs
-  pub place : bitsBefore q ≡ at
   pub few : n ≤ 15
-  pub near : at ≤ p + 514
+  pub near : bitsBefore q ≤ p + 514
 
 -- What an end of the bits in a list says.
 pub record WasShort (s : List ℕ) (value : ℕ → Read ℕ) (p k : ℕ) : Type 0 where
   pub is : readList s value p ≡ Ended (p + k)
   pub near : k ≤ 516
 
-module _ (s : List ℕ) (value : ℕ → Read ℕ) (rule : ℕ → Bool) (near : (p : ℕ) → Near (λ (v : ℕ). T (rule v)) (value p) p 34 2) (h : Bytes s) (p : ℕ) (t : Thresholds) (e : t ≡ thresholdsOf p (readList s value p)) where
-  step-is : (r : Read (List ℕ)) → readList s value p ≡ r → t .step ≡ thresholdsOf p r .step
-  step-is r i = ap (λ (x : Thresholds). x .step) e ∙ ap (λ (r : Read (List ℕ)). thresholdsOf p r .step) i
+module _ (s : List ℕ) (value : ℕ → Read ℕ) (near : (p : ℕ) → Near (λ (v : ℕ). Unit) (value p) p 34 2) (h : Bytes s) (p : ℕ) (t : Thresholds) (e : t ≡ thresholdsOf p (readList s value p)) where
+  goes : Near (λ (vs : List ℕ). (length vs ≤ 15) × T (every (λ (v : ℕ). true) vs)) (readList s value p) p 514 516
+  goes = list-near value (λ (v : ℕ). true) near s h p
 
-  pub was-list : (n : ℕ) (q : Place) → t .step ≡ listStep.Listed n q → WasList s value p t n q
+  says : (r : Read (List ℕ)) → readList s value p ≡ r → t ≡ thresholdsOf p r
+  says r i = e ∙ ap (thresholdsOf p) i
+
+  was-list : (n : ℕ) (q : Place) → t .step ≡ listStep.Listed n q → WasList s value p t n q
   was-list n q f = go (readList s value p) refl
     where
       go : (r : Read (List ℕ)) → readList s value p ≡ r → WasList s value p t n q
-      go (Ended at) i = absurd (let z : _≡_ {A = ℕ} 0 1 = cc (step-is (Ended at) i) in omega arith)
+      go (Ended at) i = absurd (let z : _≡_ {A = ℕ} 0 1 = cc (says (Ended at) i) in omega arith)
       go (Value vs at) i =
-          let g : listStep.Listed (length vs) (placeAt at) ≡ listStep.Listed n q = sym (step-is (Value vs at) i) ∙ f in
+          let g : listStep.Listed (length vs) (placeAt at) ≡ listStep.Listed n q = sym (ap (λ (x : Thresholds). x .step) (says (Value vs at) i)) ∙ f in
           let a : length vs ≡ n = cc in
           let b : placeAt at ≡ q = cc in
-          let k = list-near value rule near s h p .value vs at i in
+          let c : at ≡ bitsBefore q = sym (before-at at) ∙ ap bitsBefore b in
+          let k = goes .value vs at i in
           record {
             vs = vs;
-            at = at;
-            is = i;
+            is = i ∙ ap (λ (x : ℕ). Value vs x) c;
             count = a;
-            values = ap (λ (x : Thresholds). x .values) e ∙ ap (λ (r : Read (List ℕ)). thresholdsOf p r .values) i;
-            place = ap bitsBefore (sym b) ∙ before-at at;
+            values = ap (λ (x : Thresholds). x .values) (says (Value vs at) i);
             few = omega (arith, k .0 .0);
-            near = k .2;
+            near = omega (arith, k .2);
           }
 
-  pub was-short : (k : ℕ) → t .step ≡ listStep.End k → WasShort s value p k
+  was-short : (k : ℕ) → t .step ≡ listStep.End k → WasShort s value p k
   was-short k f = go (readList s value p) refl
     where
       go : (r : Read (List ℕ)) → readList s value p ≡ r → WasShort s value p k
-      go (Value vs q) i = absurd (let z : _≡_ {A = ℕ} 0 1 = cc (step-is (Value vs q) i) in omega arith)
+      go (Value vs q) i = absurd (let z : _≡_ {A = ℕ} 0 1 = cc (says (Value vs q) i) in omega arith)
       go (Ended q) i =
-          let a : q - p ≡ k = cc (step-is (Ended q) i) in
-          let l = list-near value rule near s h p .end q i in
+          let g : listStep.End (q - p) ≡ listStep.End k = sym (ap (λ (x : Thresholds). x .step) (says (Ended q) i)) ∙ f in
+          let a : q - p ≡ k = cc in
+          let l = goes .end q i in
           let b : q ≡ p + k = omega arith in
           record { is = i ∙ ap (λ (x : ℕ). Ended x) b; near = omega arith }
+
+-- of a list of either kind, as the code reads it
+module _ (s : List ℕ) (h : Bytes s) (kind : Kind) (p : Place) (t : Thresholds) (e : t ≡ thresholdsOf (bitsBefore p) (readList s (readValue kind s) (bitsBefore p))) where
+  pub list-was : (n : ℕ) (q : Place) → t .step ≡ listStep.Listed n q → WasList s (readValue kind s) (bitsBefore p) t n q
+  list-was = was-list s (readValue kind s) (value-near s h kind) h (bitsBefore p) t e
+
+  pub list-ended : (k : ℕ) → t .step ≡ listStep.End k → WasShort s (readValue kind s) (bitsBefore p) k
+  list-ended = was-short s (readValue kind s) (value-near s h kind) h (bitsBefore p) t e
 
 -- The four lists one after the other.
 module _ (s : List ℕ) (p : ℕ) where

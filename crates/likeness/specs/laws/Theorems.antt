@@ -11,7 +11,7 @@ use Rattle.layout.specs.laws.LikeLaws.{alike-iff, not-wider, same-itself, same-
 use Rattle.layout.specs.laws.Theorems.{layout-iff}
 use Rattle.refusal.specs.Answer.{gives}
 use Rattle.likeness.specs.Calls.{sided, filled, holdsLayout, likeOf}
-use Rattle.block_check.specs.laws.Laws.{pass}
+use Rattle.refusal.specs.laws.Answer.{pass}
 use Rattle.block_sides.specs.laws.Limits.{in-limits, lengths-fit, fit-lengths, limits-in}
 use Rattle.likeness.specs.laws.LikeSteps.{like-says}
 use Rattle.likeness.specs.Theorems.{Sound}

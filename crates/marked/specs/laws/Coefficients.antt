@@ -12,21 +12,15 @@ use Rattle.refusal.specs.Said as refusals
 use Rattle.refusal.specs.Said.{said}
 use Rattle.bits.specs.Bits.{Value, readBits, bitsOf, valueOf}
 use Rattle.coded_numbers.specs.Exponent.{exponent, exponentFrom}
-use Rattle.coded_numbers.specs.Signed.{unpackSigned}
-use Rattle.dct_select.specs.Transforms.{TRANSFORMS, wide, high, orderOf, turns}
-use Rattle.natural_order.specs.Natural.{natural}
+use Rattle.dct_select.specs.Transforms.{TRANSFORMS, wide, high}
 use Rattle.layout.specs.Walk.{cells, rows}
 use Rattle.layout.specs.Grid.{fillFrom}
 use Rattle.layout.specs.Check.{clear, fitting, visitCell, checkRun}
 use Rattle.layout.specs.Varblocks.{cornersRow, cornersFrom}
 use Rattle.block_sides.specs.Limits.{inLimits}
 use Rattle.block_context.specs.Record.{fit, fitOf, bsizeOf}
-use Rattle.block_context_index.specs.Contexts.{sizeOf, above, lfIndexIn, placeOf}
 use Rattle.hf_block_context.specs.Call.{contextsOf}
 use Rattle.hf_pass_store.specs.Store.{PLACES}
-use Rattle.hf_coeff_walk.specs.Walk.{walk, coeffContext, FREQ, NUM-NONZERO}
-use Rattle.natural_order.specs.Places.{paired}
-use Rattle.hf_coeff_walk.specs.Places.{placesOf}
 use Rattle.hf_coeff_walk.specs.Item.{counted}
 use Rattle.refusal.specs.Answer.{gives, refuses}
 use Rattle.hf_coeff_group.specs.Group.{Reading, going, item, read, zeroRows}
@@ -37,6 +31,7 @@ use Rattle.hf_coeff.specs.Call.{Outcome, leaves, lengthsFit, presetMap, reading
 use Rattle.hf_coeff.specs.laws.CallLaws.{checks-pass, call-preset, call-reads}
 use Rattle.hf_coeff.specs.declared.CoeffAnswer.the-variants.{Accepted}
 use Rattle.one_to_one.specs.Plain.{store, plain}
+use Rattle.one_to_one.specs.laws.Computes.{reading-computes}
 use Rattle.one_to_one.specs.laws.Plain.{store-long, store-fits, order-0, order-2}
 use Rattle.marked.specs.Coefficients.{Room, dct16, dct8, gains}
 
@@ -97,7 +92,7 @@ no-bits bytes = rw (le-leb 0 (length (bitsOf bytes)) (omega arith))
 count-252 : (stretch log g0 g1 g2 : List ℕ)
     → outcome (read 0 15 stretch (itemsOf square (varblocks square))
     (going (252 ∷ (replicate 252 2 ++ (0 ∷ 0 ∷ []))) 0 log (g0 ∷ g1 ∷ g2 ∷ []) zeroRows 0)) .answer ≡ gives 255
-unfolding itemsOf itemOf placesOf paired natural cornersRow cornersFrom orderOf turns wide high TRANSFORMS read item counted walk coeffContext FREQ NUM-NONZERO unpackSigned contextsOf sizeOf above lfIndexIn placeOf
+unfolding reading-computes
 count-252 stretch log g0 g1 g2 = rw (order-2 0 (omega arith), order-2 1 (omega arith), order-2 2 (omega arith))
 
 count-253 : (stretch us log g0 g1 g2 : List ℕ)
@@ -115,7 +110,7 @@ clusters stretch =
 dct8-reads : (stretch log g0 g1 g2 : List ℕ)
     → outcome (read 0 15 stretch (itemsOf block (varblocks block)) (going (2 ∷ 3 ∷ 0 ∷ 4 ∷ 0 ∷ 0 ∷ []) 0 log (g0 ∷ g1 ∷ g2 ∷ []) zeroRows 0))
     ≡ leaves (Accepted 6) (sets log 0 (clusters stretch)) g0 (gains (gains g1 8 (2 ^ 32 - 2)) 2 2) g2
-unfolding itemsOf itemOf placesOf paired natural cornersRow cornersFrom orderOf turns wide high TRANSFORMS read item counted walk coeffContext FREQ NUM-NONZERO unpackSigned contextsOf sizeOf above lfIndexIn placeOf
+unfolding reading-computes
 dct8-reads stretch log g0 g1 g2 = rw (order-0 0 (omega arith), order-0 1 (omega arith), order-0 2 (omega arith))
 
 part-at : (map : List ℕ) (k : ℕ) → k < 458 → getD (take 458 (drop 555 map)) k 0 ≡ getD map (555 + k) 0

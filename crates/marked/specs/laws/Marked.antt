@@ -1,18 +1,10 @@
 -- Laws: Document 01's marked examples, as rows of one list under one theorem.
 use mathlib.Core.Path.{refl}
 use Prim.Native.Nat.{_-_}
-use lib.Ieee.{le, lt, eq, mul, div, ofInt, toBits, round, size, span, climb, units, odd}
+use lib.Ieee.{mul, div, ofInt, toBits, round, size, span, climb, units, odd}
 use lib.Count.{trailingZeros}
-use Rattle.dct_select.specs.Transforms.{TRANSFORMS, wide, high}
-use Rattle.layout.specs.Walk.{cells, rows}
-use Rattle.lf_group.specs.Blocks.{bwIn, bhIn}
-use Rattle.filter_strength.specs.Strength.{scaledBy, dividedBy}
 use Rattle.filter_strength.specs.laws.Strength.{m8}
-use Rattle.filter_strength.specs.Limits.{inLimits}
-use Rattle.layout_reading.specs.Scan.{takeCell, scan}
-use Rattle.layout_reading.specs.Reading.{place, column, reading}
-use Rattle.hf_metadata.specs.Call.{layoutOf}
-use Rattle.accepted_layout.specs.laws.Marked.{m4, m4-varblocks, m4-area, m5, m5-refused, m6, m6-refused}
+use Rattle.accepted_layout.specs.laws.Marked.{layout-computes, m4, m4-varblocks, m4-area, m5, m5-refused, m6, m6-refused}
 use Rattle.hf_pass.specs.laws.Marked.{m1, m2}
 use Rattle.marked.specs.laws.Lines.{five-lines}
 use Rattle.marked.specs.laws.Orders.{one-digit}
@@ -38,11 +30,11 @@ row6 : M6
 row6 = (m6, m6-refused)
 
 row7 : M7
-unfolding layoutOf bwIn bhIn inLimits le lt eq reading column place scan takeCell rows cells wide high TRANSFORMS scaledBy dividedBy mul div ofInt toBits round size span climb units odd trailingZeros
+unfolding layout-computes mul div ofInt toBits round size span climb units odd trailingZeros
 row7 = refl
 
 row8 : M8
-unfolding layoutOf bwIn bhIn inLimits le lt eq reading column place scan takeCell rows cells wide high TRANSFORMS scaledBy dividedBy mul div ofInt toBits round size span climb units odd trailingZeros
+unfolding layout-computes mul div ofInt toBits round size span climb units odd trailingZeros
 row8 = (m8, refl, refl)
 
 row9 : M9

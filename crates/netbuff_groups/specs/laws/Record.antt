@@ -1,26 +1,26 @@
--- Laws: What the exported cut and likeness hand out (document 01, Layout, "Added by us", and Refused).
+-- Laws: what the exported cut and likeness hand out (document 01, Layout, "Added by us", and Refused).
 use mathlib.Core.Path.{_≡_, ap, _∙_}
 use mathlib.Core.Bool.{Bool}
 use mathlib.Core.List.{List}
 use Prim.Native.Nat.{ℕ}
-use Rattle.block_check.specs.declared.Group.{Group}
 use Rattle.refusal.specs.Answer.{Answer}
+use Rattle.refusal.specs.Handed.{Handed, handed}
+use Rattle.block_check.specs.declared.Group.{Group}
 use Rattle.block_record.specs.declared.cut.CutAnswer.{CutAnswer}
 use Rattle.block_record.specs.Calls.{Outcome, outcome, saidCut}
 use Rattle.likeness.specs.declared.LikeAnswer.{LikeAnswer}
 use Rattle.likeness.specs.Calls.{saidLike}
-use Rattle.netbuff_groups.specs.Record.{AlikeHanded, CutLeaves, SidesHanded, handedCut, handedLike}
+use Rattle.netbuff_groups.specs.Record.{CutLeaves}
 
 -- the call's own answer, handed on
-pub cut-leaves : (h : SidesHanded) (a : CutAnswer) (k m : List ℕ) (kept : Group) (o : Outcome) → outcome (saidCut a) k m ≡ o → h ≡ handedCut (saidCut a) kept
+pub cut-leaves : (h : Handed Group) (a : CutAnswer) (k m : List ℕ) (kept : Group) (o : Outcome) → outcome (saidCut a) k m ≡ o → h ≡ handed (saidCut a) kept
     → CutLeaves h k m kept o
 cut-leaves h a k m kept o e f =
     record {
-      handedIs = f ∙ ap (λ (z : Outcome). handedCut (z .answer) kept) e;
+      handedIs = f ∙ ap (λ (z : Outcome). handed (z .answer) kept) e;
       kindsAre = ap (λ (z : Outcome). z .kinds) e;
       hfMulIs = ap (λ (z : Outcome). z .hfMul) e;
     }
 
--- the call's own answer, handed on
-pub like-handed : (h : AlikeHanded) (a : LikeAnswer) (kept : Bool) (l : Answer Bool) → saidLike a ≡ l → h ≡ handedLike (saidLike a) kept → h ≡ handedLike l kept
-like-handed h a kept l e f = f ∙ ap (λ (z : Answer Bool). handedLike z kept) e
+pub like-handed : (h : Handed Bool) (a : LikeAnswer) (kept : Bool) (l : Answer Bool) → saidLike a ≡ l → h ≡ handed (saidLike a) kept → h ≡ handed l kept
+like-handed h a kept l e f = f ∙ ap (λ (z : Answer Bool). handed z kept) e

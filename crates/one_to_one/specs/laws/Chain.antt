@@ -15,9 +15,10 @@ use Rattle.accepted_layout.specs.Outcome.{bwOf, bhOf}
 use Rattle.hf_block_context.specs.laws.Accepted.{accepted-fit}
 use Rattle.hf_coeff_group.specs.Group.{Grids}
 use Rattle.hf_coeff.specs.Call.{Lent}
-use Rattle.one_to_one.specs.Filling.{Fixed, Given, Filling, Fills, Fails, Words}
-use Rattle.one_to_one.specs.Sequence.{theSequence}
+use Rattle.one_to_one.specs.Filling.{Fixed, Given, Filling, Fills, Fails}
 use Rattle.one_to_one.specs.laws.Demand3.{one-sequence, every-other}
+use Rattle.hf_coeff_walk.specs.Sent.{Words}
+use Rattle.hf_coeff_group.specs.Sequence.{theSequence}
 
 module _ (L : Lent) (given : Given L) where
   -- a group that an accepted cut call wrote is one that 18 lets pass, 1 to 32 blocks each way

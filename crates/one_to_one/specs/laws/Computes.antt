@@ -1,11 +1,10 @@
--- What examples open to be computed: a proof that says `unfolding layout-computes` opens all that its line names.
+-- What examples open to be computed: a proof that says `unfolding items-compute` opens all that its line names.
 use mathlib.Core.Bool.{Bool, true}
 use mathlib.Core.List.{List, [], _∷_}
 use Prim.Native.Nat.{ℕ, zero, suc, _^_, _<_}
 use native.Mathlib.Omega.{arith}
 use lib.Dec.{T, ltb, ltb→lt}
 use lib.ListN.{getD}
-use lib.Ieee.{le, lt, eq}
 use lib.Ieee.Fits.{and-l, and-r}
 use Rattle.laws.specs.Tables.{every}
 use Rattle.bits.specs.Bits.{readBits, readU32, bitsOf, valueOf}
@@ -20,12 +19,7 @@ use Rattle.layout.specs.Grid.{rowOf, gridFrom, fillFrom}
 use Rattle.layout.specs.Cut.{cut, groupX, groupY}
 use Rattle.layout.specs.Check.{clear, fitting, visitCell, checkRun}
 use Rattle.lf_group.specs.Blocks.{bwIn, bhIn}
-use Rattle.filter_strength.specs.Strength.{scaledBy, dividedBy}
-use Rattle.filter_strength.specs.Limits.{inLimits}
-use Rattle.layout_reading.specs.Scan.{takeCell, scan}
-use Rattle.layout_reading.specs.Reading.{place, column, reading}
-use Rattle.hf_metadata.specs.Call.{layoutOf}
-use Rattle.block_sides.specs.Limits.{inLimits as inLimits32, lengthsFit as lengthsFit2}
+use Rattle.block_sides.specs.Limits.{inLimits, lengthsFit}
 use Rattle.block_record.specs.Calls.{cutCheck}
 use Rattle.block_context_index.specs.Contexts.{sizeOf, above, lfIndexIn, placeOf}
 use Rattle.hf_block_context.specs.Call.{contextsOf}
@@ -34,15 +28,12 @@ use Rattle.hf_coeff_walk.specs.Places.{placesOf}
 use Rattle.hf_coeff_walk.specs.Item.{counted}
 use Rattle.hf_coeff_group.specs.Group.{Grids, item, read}
 use Rattle.hf_coeff_group.specs.Pass.{itemOf, itemsOf}
-use Rattle.one_to_one.specs.Filling.{cell, isLow, wanted}
-use Rattle.one_to_one.specs.Sequence.{nonZeros, upTo, sent, theSequence}
-
-unfoldable pub layout-computes : Bool
-unfolding layoutOf bwIn bhIn inLimits le lt eq reading column place scan takeCell rows cells wide high TRANSFORMS scaledBy dividedBy
-layout-computes = true
+use Rattle.one_to_one.specs.Filling.{isLow, wanted}
+use Rattle.hf_coeff_group.specs.Sequence.{cell, sent, theSequence}
+use Rattle.hf_coeff_walk.specs.Sent.{nonZeros, upTo}
 
 unfoldable pub cut-computes : Bool
-unfolding cutCheck inLimits32 lengthsFit2 bwIn bhIn groupX groupY checkRun rows cells visitCell fitting clear wide high TRANSFORMS fillFrom cut gridFrom rowOf
+unfolding cutCheck inLimits lengthsFit bwIn bhIn groupX groupY checkRun rows cells visitCell fitting clear wide high TRANSFORMS fillFrom cut gridFrom rowOf
 cut-computes = true
 
 unfoldable pub bits-compute : Bool

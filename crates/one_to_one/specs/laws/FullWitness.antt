@@ -29,13 +29,14 @@ use Rattle.refusal.specs.Answer.{gives}
 use Rattle.block_record.specs.Calls.{group, outcome, cutOf}
 use Rattle.block_record.specs.laws.CutSteps.{cut-done}
 use Rattle.accepted_layout.specs.Outcome.{bwOf, bhOf}
-use Rattle.one_to_one.specs.Filling.{cell, wanted, Fixed, Filling, Fills, Given}
-use Rattle.one_to_one.specs.Sequence.{theSequence}
+use Rattle.accepted_layout.specs.laws.Marked.{layout-computes}
+use Rattle.one_to_one.specs.Filling.{wanted, Fixed, Filling, Fills, Given}
 use Rattle.one_to_one.specs.laws.Demand3.{one-sequence}
 use Rattle.one_to_one.specs.laws.Wanted.{wanted-filling}
 use Rattle.one_to_one.specs.laws.Chain.{fixed-by-calls}
-use Rattle.one_to_one.specs.laws.Computes.{layout-computes, cut-computes, bits-compute, sequence-computes, wanted-computes, below, cells-below}
+use Rattle.one_to_one.specs.laws.Computes.{cut-computes, bits-compute, sequence-computes, wanted-computes, below, cells-below}
 use Rattle.one_to_one.specs.FullWitness.{changed, contexts, full, kinds, lists, map, muls, pairs, start, store}
+use Rattle.hf_coeff_group.specs.Sequence.{cell, theSequence}
 
 abbrev digitSymbols : List ℕ
 digitSymbols = 1 ∷ 1 ∷ 2 ∷ 2 ∷ 0 ∷ 0 ∷ []

@@ -15,9 +15,8 @@ use Rattle.hf_coeff_walk.specs.laws.Kept.{length-gain}
 use Rattle.hf_coeff_walk.specs.laws.Counts.{count-over}
 use Rattle.hf_coeff_walk.specs.Item.{Item, predicted, countIndex, countOver, rowOf, newRow, countCluster, coeffPart, counted}
 use Rattle.hf_coeff_group.specs.Group.{Grids, Reading, going, refused, after, item}
-use Rattle.one_to_one.specs.LowCells.{In}
-use Rattle.one_to_one.specs.laws.Walks.{End, ends, stops, walkedBy, gains, length-gains, run}
-use Rattle.one_to_one.specs.laws.Cells.{set-below, put-all}
+use Rattle.hf_coeff_walk.specs.laws.Walks.{End, ends, stops, walkedBy, gains, length-gains, run}
+use Rattle.hf_coeff_group.specs.laws.Cells.{set-below, put-all, In}
 use Rattle.hf_coeff_group.specs.laws.Symbols.{symbolsIn}
 use Rattle.one_to_one.specs.Inside.{WalkInside, countEntry, CountInside, ItemInside, ReadInside}
 

@@ -30,10 +30,10 @@ use Rattle.hf_coeff_walk.specs.Item.{Item}
 use Rattle.hf_coeff_group.specs.Group.{Grids}
 use Rattle.hf_coeff_group.specs.Pass.{Pass, varblocks, blocksOf, placesAt, itemOf, itemsOf}
 use Rattle.hf_coeff_group.specs.laws.Sizes.{order-lt}
-use Rattle.one_to_one.specs.Filling.{cell, LaidOut, Sized, Low, LowKept}
-use Rattle.one_to_one.specs.LowCells.{Cell, In, cellsOf, Place as PlaceOf}
-use Rattle.one_to_one.specs.laws.Cells.{Distinct, distinct-both, distinct-map, Fit}
+use Rattle.one_to_one.specs.Filling.{many, Place as PlaceOf, LaidOut, Sized, Low, LowKept}
+use Rattle.hf_coeff_group.specs.laws.Cells.{Distinct, distinct-both, distinct-map, Fit, In}
 use Rattle.one_to_one.specs.laws.Spread.{Spread, spread-of, place-in, in-place, cell-row, cell-column, distinct-places}
+use Rattle.hf_coeff_group.specs.Sequence.{cell, Cell, cellsOf}
 
 -- each of the 39 stretches is an order of its size
 abbrev pub Ordered : Pass → Type 0
@@ -119,7 +119,7 @@ module _ (P : Pass) (lay : LaidOut P) (ord : Ordered P) where
     cells-distinct : Distinct (map {B = Cell} (λ (p : ℕ). (c, p)) (placesAt P v c))
     cells-distinct = distinct-map (λ (p : ℕ). (c, p)) (placesAt P v c) (λ p q j k e. ap (λ (x : Cell). x .1) e) (distinct-places turn (8 * P .bw) (8 * v .x) (8 * v .y) rest in-row (spread .distinct))
 
-    places-inside : (p : ℕ) → In p (placesAt P v c) → p < 8 * P .bh * (8 * P .bw)
+    places-inside : (p : ℕ) → In p (placesAt P v c) → p < many P
     places-inside p j =
         let r = in-place turn (8 * P .bw) (8 * v .x) (8 * v .y) rest p j in
         let d = spread .inside (r .0) (r .1) .1 in
@@ -145,7 +145,7 @@ module _ (P : Pass) (lay : LaidOut P) (ord : Ordered P) where
         covers lay v i (p % (8 * P .bw) / 8) (p / (8 * P .bw) / 8) (omega arith) (omega arith) (omega arith) (omega arith)
 
   -- the block of a cell
-  in-block : (p : ℕ) → p < 8 * P .bh * (8 * P .bw) → (p % (8 * P .bw) / 8 < P .bw) × (p / (8 * P .bw) / 8 < P .bh)
+  in-block : (p : ℕ) → p < many P → (p % (8 * P .bw) / 8 < P .bw) × (p / (8 * P .bw) / 8 < P .bh)
   in-block p h = go (ℕ-discrete (P .bw) 0)
     where
       go : Dec (P .bw ≡ 0) → (p % (8 * P .bw) / 8 < P .bw) × (p / (8 * P .bw) / 8 < P .bh)
@@ -157,7 +157,7 @@ module _ (P : Pass) (lay : LaidOut P) (ord : Ordered P) where
           (omega arith, omega arith)
 
   -- rectangles with the block of one cell are one
-  one-corner : (u v : Varblock) (p : ℕ) → p < 8 * P .bh * (8 * P .bw) → Covers K (u .x) (u .y) (p % (8 * P .bw) / 8) (p / (8 * P .bw) / 8)
+  one-corner : (u v : Varblock) (p : ℕ) → p < many P → Covers K (u .x) (u .y) (p % (8 * P .bw) / 8) (p / (8 * P .bw) / 8)
       → Covers K (v .x) (v .y) (p % (8 * P .bw) / 8) (p / (8 * P .bw) / 8) → (u .x ≡ v .x) × (u .y ≡ v .y)
   one-corner u v p h a b =
       let k = in-block p h in
@@ -208,7 +208,7 @@ module _ (P : Pass) (lay : LaidOut P) (ord : Ordered P) where
   cells-apart = distinct-from (varblocks P) (λ v i. i) (corners-apart K (at (P .hfMul) (P .bw)) (P .bw) (P .bh))
 
   -- every cell is low-frequency or a place
-  pub low-or-held : (c p : ℕ) → c < 3 → p < 8 * P .bh * (8 * P .bw) → Low P p ⊎ PlaceOf P c p
+  pub low-or-held : (c p : ℕ) → c < 3 → p < many P → Low P p ⊎ PlaceOf P c p
   low-or-held c p hc h =
       let b = in-block p h in
       let o = lay .valid .owned (p % (8 * P .bw) / 8) (p / (8 * P .bw) / 8) (b .0) (b .1) in
@@ -259,7 +259,7 @@ module _ (P : Pass) (lay : LaidOut P) (ord : Ordered P) where
   pub place-or-same : (G W : Grids) → Sized P G → Sized P W → LowKept P G W → (c p : ℕ) → PlaceOf P c p ⊎ ((PlaceOf P c p → ⊥) × (cell W c p ≡ cell G c p))
   place-or-same G W sg sw kept c p = channel (decLt c 3)
     where
-      at-cell : c < 3 → Dec (p < 8 * P .bh * (8 * P .bw)) → PlaceOf P c p ⊎ ((PlaceOf P c p → ⊥) × (cell W c p ≡ cell G c p))
+      at-cell : c < 3 → Dec (p < many P) → PlaceOf P c p ⊎ ((PlaceOf P c p → ⊥) × (cell W c p ≡ cell G c p))
       at-cell hc (yes h) = elim (low-or-held c p hc h) [ inl l ↦ inr (low-not-held c p l, kept c p hc l) | inr i ↦ inl i ]
       at-cell hc (no m) =
           let a = sw .cells c hc in let b = sg .cells c hc in
@@ -269,7 +269,7 @@ module _ (P : Pass) (lay : LaidOut P) (ord : Ordered P) where
           )
 
       channel : Dec (c < 3) → PlaceOf P c p ⊎ ((PlaceOf P c p → ⊥) × (cell W c p ≡ cell G c p))
-      channel (yes hc) = at-cell hc (decLt p (8 * P .bh * (8 * P .bw)))
+      channel (yes hc) = at-cell hc (decLt p (many P))
       channel (no m) =
           let a = sw .three in let b = sg .three in
           inr ((λ i. m (held P (varblocks P) c p i .2)), rw (List·getD-eq-default W [] {n = c} (omega arith), List·getD-eq-default G [] {n = c} (omega arith)))

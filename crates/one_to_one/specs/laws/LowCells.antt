@@ -12,13 +12,13 @@ use Rattle.hf_coeff_group.specs.Group.{Grids}
 use Rattle.hf_coeff_group.specs.Pass.{Pass, varblocks, itemsOf}
 use Rattle.hf_coeff.specs.Call.{Lent, Outcome, outcome, call}
 use Rattle.hf_coeff.specs.laws.CallLaws.{lengths-fit}
-use Rattle.one_to_one.specs.Filling.{cell, LaidOut, Low, LowKept, Fixed, Filling}
-use Rattle.one_to_one.specs.LowCells.{put, cellsOf, Place}
-use Rattle.one_to_one.specs.laws.Cells.{set-below, adds, adds-off, put-cell, put-shape}
-use Rattle.one_to_one.specs.laws.Reads.{joined}
+use Rattle.one_to_one.specs.Filling.{many, put, Place, LaidOut, Low, LowKept, Fixed, Filling}
+use Rattle.hf_coeff_group.specs.laws.Cells.{set-below, adds, adds-off, put-cell, put-shape}
+use Rattle.hf_coeff_group.specs.laws.Reads.{joined}
 use Rattle.one_to_one.specs.laws.Items.{wrote-ordered, Ordered, low-or-held, low-not-held}
 use Rattle.one_to_one.specs.laws.Ways.{Way, before, work, way, did, outcome-by}
 use Rattle.hf_pass.specs.Call.{Wrote}
+use Rattle.hf_coeff_group.specs.Sequence.{cell, cellsOf}
 
 -- Whatever is lent, with orders as an accepted order call wrote them: no call, accepted or refused and of whatever shift, changes a
 -- low-frequency cell.
@@ -31,7 +31,7 @@ module _ (L : Lent) (orders : Wrote (L .pass .store)) where
       let lay : LaidOut P = layout-iff (P .bw) (P .bh) (P .kinds) (P .hfMul) (k .kinds) (k .hfMul) .0 (passed .layout) in
       let d = did L preset in
       let G = adds (L .shift) (L .grids) (cellsOf (itemsOf P (varblocks P))) (joined (d .dss)) in
-      ap (λ (o : Outcome). cell (o .grids) c p) (e (L .symbols) (L .log) refl ∙ ap outcome (d .is (L .log)) ∙ outcome-by (d .end) (0 + length (d .clusters)) (sets (L .log) 0 (d .clusters)) G)
+      ap (λ (o : Outcome). cell (o .grids) c p) (e (L .symbols) (L .log) refl ∙ ap outcome (d .is (L .log)) ∙ outcome-by (d .end) (length (d .clusters)) (sets (L .log) 0 (d .clusters)) G)
       ∙ adds-off (L .shift) (L .grids) (cellsOf (itemsOf P (varblocks P))) (joined (d .dss)) (c, p) (low-not-held P lay (wrote-ordered P orders) c p l)
 
   pub low-kept : LowKept (L .pass) (L .grids) (call L .grids)
@@ -42,7 +42,7 @@ module _ (L : Lent) (fixed : Fixed L) where
   P = L .pass
 
   -- each cell of the group is low-frequency or a place, and never both
-  pub low-or-place : (c p : ℕ) → c < 3 → p < 8 * L .pass .bh * (8 * L .pass .bw) → (Low (L .pass) p × (Place (L .pass) c p → ⊥)) ⊎ (Place (L .pass) c p × (Low (L .pass) p → ⊥))
+  pub low-or-place : (c p : ℕ) → c < 3 → p < many (L .pass) → (Low (L .pass) p × (Place (L .pass) c p → ⊥)) ⊎ (Place (L .pass) c p × (Low (L .pass) p → ⊥))
   low-or-place c p hc h = go (low-or-held P (fixed .layout) ordered c p hc h)
     where
       ordered : Ordered P

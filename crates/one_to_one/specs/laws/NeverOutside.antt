@@ -38,12 +38,12 @@ use Rattle.hf_coeff_checks.specs.laws.ChecksLaws.{sides-fit}
 use Rattle.hf_coeff.specs.Call.{Lent, presetMap, Passed}
 use Rattle.hf_coeff.specs.laws.CallLaws.{lengths-fit, grids-fit}
 use Rattle.one_to_one.specs.Filling.{LaidOut}
-use Rattle.one_to_one.specs.LowCells.{In}
 use Rattle.one_to_one.specs.laws.Spread.{in-place}
 use Rattle.one_to_one.specs.laws.Items.{each-item}
 use Rattle.hf_coeff_group.specs.laws.Symbols.{symbolsIn, places-many, some-blocks, most-symbols}
 use Rattle.one_to_one.specs.Inside.{countEntry, ReadInside, contextPlace, CornerInside, GroupInside, ReadingInside}
 use Rattle.one_to_one.specs.laws.InsideLaws.{Sound, Small, Sane, read-inside}
+use Rattle.hf_coeff_group.specs.laws.Cells.{In}
 
 -- The entries that Inside names are those that the definitions read.
 pub entry-read : (clusters : ℕ) (stretch₀ : List ℕ) (it : Item) (row : List ℕ) → countCluster clusters stretch₀ it row ≡ getD stretch₀ (countEntry clusters it row) 0

@@ -13,13 +13,12 @@ use Rattle.hf_coeff_walk.specs.Item.{Item}
 use Rattle.refusal.specs.Answer.{gives}
 use Rattle.hf_coeff_group.specs.Group.{leftOf, Grids, Reading, going, refused, read}
 use Rattle.hf_coeff.specs.Call.{outcome}
-use Rattle.one_to_one.specs.Filling.{cell, Words}
-use Rattle.one_to_one.specs.Sequence.{nonZeros, upTo, sent, changes}
-use Rattle.one_to_one.specs.LowCells.{Cell, In, cellsOf}
-use Rattle.one_to_one.specs.laws.Walks.{nonZeros-le}
-use Rattle.one_to_one.specs.laws.Cells.{Distinct, Shape, same-shape, adds, adds-shape, adds-off, Fit, change, only-symbols, symbols-turn}
-use Rattle.one_to_one.specs.laws.Reads as run
-use Rattle.one_to_one.specs.laws.Reads.{joined, Long, Sized, words-both}
+use Rattle.hf_coeff_walk.specs.laws.Walks.{nonZeros-le}
+use Rattle.hf_coeff_group.specs.laws.Cells.{Distinct, Shape, same-shape, adds, adds-shape, adds-off, Fit, change, only-symbols, symbols-turn, In}
+use Rattle.hf_coeff_group.specs.laws.Reads as run
+use Rattle.hf_coeff_group.specs.laws.Reads.{joined, Long, Sized, words-both}
+use Rattle.hf_coeff_group.specs.Sequence.{cell, sent, changes, Cell, cellsOf}
+use Rattle.hf_coeff_walk.specs.Sent.{Words, nonZeros, upTo}
 
 -- accepted, read to the last symbol, every count used up, these grids
 pub record Filled (r : Reading) (s : List ℕ) (W : Grids) : Type 0 where

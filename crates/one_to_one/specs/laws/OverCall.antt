@@ -21,12 +21,12 @@ use Rattle.hf_coeff_checks.specs.Checks.{parametersFit}
 use Rattle.hf_coeff.specs.Call.{Lent, Outcome, presetMap, reading, outcome, leftoverAt, leftover, call}
 use Rattle.hf_coeff.specs.laws.CallLaws.{checks-pass, grids-fit, call-reads}
 use Rattle.one_to_one.specs.Filling.{Sized, Fixed, Filling, withSymbols, Fills, Fails, symbolsRead, refused, unread, leftOver, otherGrids}
-use Rattle.one_to_one.specs.laws.Cells.{Shape}
+use Rattle.hf_coeff_group.specs.laws.Cells.{Shape}
 use Rattle.one_to_one.specs.laws.Items.{wrote-ordered, Ordered, item-size, cells-apart, cells-fit, place-or-same}
 use Rattle.one_to_one.specs.laws.OneToOne as over
 use Rattle.one_to_one.specs.laws.SymbolsRead.{never-more}
 
-shapes : (P : Pass) (G W : Grids) → Sized P G → Sized P W → Shape W G
+pub shapes : (P : Pass) (G W : Grids) → Sized P G → Sized P W → Shape W G
 shapes P G W g w = record { count = w .three ∙ sym (g .three); sizes = λ (c : ℕ). at c (decLt c 3) }
   where
     at : (c : ℕ) → Dec (c < 3) → length (getD W c []) ≡ length (getD G c [])
@@ -43,7 +43,7 @@ module _ (L : Lent) (fixed : Fixed L) where
   abbrev items : List Item
   items = itemsOf (L .pass) (varblocks (L .pass))
 
-  start-sized : Sized (L .pass) (L .grids)
+  pub start-sized : Sized (L .pass) (L .grids)
   start-sized = record {
     three = fixed .rest .three;
     cells = λ c h. grids-fit L (fixed .rest .lengths) c h ∙ sym (mul-mul-mul-comm 8 (P .bh) 8 (P .bw));

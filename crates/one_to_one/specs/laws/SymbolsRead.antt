@@ -6,6 +6,7 @@ use Prim.Native.Nat.{ℕ, _+_, _*_, _≤_}
 use native.Mathlib.Omega.{arith}
 use lib.ListN.{length, drop, length-drop, length-append}
 use lib.Seq.{sets, sets-eq, drop-at}
+use Rattle.refusal.specs.declared.Refusal.the-variants.{SymbolsEnd, Count, TooManyZeros}
 use Rattle.refusal.specs.declared.Said.{Said}
 use Rattle.refusal.specs.Said.{said}
 use Rattle.refusal.specs.Said as refusals
@@ -17,10 +18,11 @@ use Rattle.hf_coeff.specs.Call.{Lent, Outcome, reading, outcome, refuse, call, 
 use Rattle.hf_coeff.specs.laws.CallLaws.{lengths-fit}
 use Rattle.hf_coeff_group.specs.laws.Symbols.{most-symbols}
 use Rattle.one_to_one.specs.Filling.{relent, withLog, told, symbolsRead}
-use Rattle.one_to_one.specs.LowCells.{cellsOf}
-use Rattle.one_to_one.specs.laws.Cells.{adds}
-use Rattle.one_to_one.specs.laws.Reads.{End, ends, stops, Tells, joined}
+use Rattle.hf_coeff_walk.specs.laws.Walks.{symbolsEnd, count, tooManyZeros}
+use Rattle.hf_coeff_group.specs.laws.Cells.{adds}
+use Rattle.hf_coeff_group.specs.laws.Reads.{End, ends, stops, Tells, joined}
 use Rattle.one_to_one.specs.laws.Ways.{Way, before, work, way, did, answerBy, outcome-by}
+use Rattle.hf_coeff_group.specs.Sequence.{cellsOf}
 
 -- What holds of every call, whatever the log held before.
 pub record Tied (L : Lent) : Type 0 where
@@ -51,19 +53,33 @@ by-refusal L s t n e =
     }
 
 -- what the end of a reading tells
-told-by : (e : End) (us : List ℕ) (k : ℕ) (dss : List (List ℕ)) → Tells us 0 k dss e → symbolsRead (answerBy e (0 + k)) ≡ k
-told-by (ends us′ rows left) us k dss t = omega arith
-told-by (stops why) us k dss t = t .tells (0 + k) ∙ omega arith
+told-by : (e : End) (us : List ℕ) (k : ℕ) (dss : List (List ℕ)) → Tells us 0 k dss e → symbolsRead (answerBy e k) ≡ k
+told-by (ends us′ rows left) us k dss t = refl
+told-by (stops why) us k dss (symbolsEnd w e) = rw w
+told-by (stops why) us k dss (count w h) = rw w
+told-by (stops why) us k dss (tooManyZeros w h) = rw w
 
 there-by : (e : End) (us : List ℕ) (k : ℕ) (dss : List (List ℕ)) → Tells us 0 k dss e → k ≤ length us
 there-by (ends us′ rows left) us k dss t = omega (arith, t .read)
-there-by (stops why) us k dss t = t .there
+there-by (stops why) us k dss (symbolsEnd w e) = omega arith
+there-by (stops why) us k dss (count w h) = h
+there-by (stops why) us k dss (tooManyZeros w h) = h
 
-last-by : (e : End) (us : List ℕ) (k : ℕ) (dss : List (List ℕ)) → Tells us 0 k dss e → (n : ℕ) → answerBy e (0 + k) ≡ refuses (refusals.at 15 n 0) → n ≡ length us
+last-by : (e : End) (us : List ℕ) (k : ℕ) (dss : List (List ℕ)) → Tells us 0 k dss e → (n : ℕ) → answerBy e k ≡ refuses (refusals.at 15 n 0) → n ≡ length us
 last-by (ends us′ rows left) us k dss t n e = absurd (let z : _≡_ {A = ℕ} 0 1 = cc in omega arith)
-last-by (stops why) us k dss t n e =
-    let a : said (why (0 + k)) ≡ refusals.at 15 n 0 = cc in
-    sym (ap told a) ∙ t .tells (0 + k) ∙ omega arith ∙ t .last (0 + k) (ap (λ (s : Said). s .number) a)
+last-by (stops why) us k dss (symbolsEnd w f) n e =
+    let a : said (why k) ≡ refusals.at 15 n 0 = cc in
+    let b : said (SymbolsEnd k) ≡ refusals.at 15 n 0 = rw w at a in
+    let c : k ≡ n = ap (λ (s : Said). s .x) b in
+    omega arith
+last-by (stops why) us k dss (count w h) n e =
+    let a : refuses (said (Count k)) ≡ refuses (refusals.at 15 n 0) = rw w at e in
+    let z : _≡_ {A = ℕ} 16 15 = number-of (said (Count k)) (refusals.at 15 n 0) a in
+    absurd (omega arith)
+last-by (stops why) us k dss (tooManyZeros w h) n e =
+    let a : refuses (said (TooManyZeros k)) ≡ refuses (refusals.at 15 n 0) = rw w at e in
+    let z : _≡_ {A = ℕ} 17 15 = number-of (said (TooManyZeros k)) (refusals.at 15 n 0) a in
+    absurd (omega arith)
 
 by-reading : (L : Lent) → Passed L → (preset : ℕ) → ((symbols log : List ℕ) → length log ≡ length (L .log) → call (relent L symbols log) ≡ outcome (reading (relent L symbols log) preset)) → Tied L
 by-reading L passed preset e =
@@ -75,9 +91,9 @@ by-reading L passed preset e =
     let most : length ks ≤ 192 * blocks P =
     omega (arith, d .few, most-symbols P (l .store) (layout-iff (P .bw) (P .bh) (P .kinds) (P .hfMul) (l .kinds) (l .hfMul) .0 (passed .layout))) in
     let room : length ks ≤ length (L .log) = omega (arith, l .room) in
-    let start : (log : List ℕ) → length log ≡ length (L .log) → call (withLog L log) ≡ record { answer = answerBy (d .end) (0 + length ks); log = sets log 0 ks; grids = G } =
-    λ log k. e (L .symbols) log k ∙ ap outcome (d .is log) ∙ outcome-by (d .end) (0 + length ks) (sets log 0 ks) G in
-    let a : call L .answer ≡ answerBy (d .end) (0 + length ks) = ap (λ (o : Outcome). o .answer) (start (L .log) refl) in
+    let start : (log : List ℕ) → length log ≡ length (L .log) → call (withLog L log) ≡ record { answer = answerBy (d .end) (length ks); log = sets log 0 ks; grids = G } =
+    λ log k. e (L .symbols) log k ∙ ap outcome (d .is log) ∙ outcome-by (d .end) (length ks) (sets log 0 ks) G in
+    let a : call L .answer ≡ answerBy (d .end) (length ks) = ap (λ (o : Outcome). o .answer) (start (L .log) refl) in
     let g : call L .grids ≡ G = ap (λ (o : Outcome). o .grids) (start (L .log) refl) in
     record {
       clusters = ks;

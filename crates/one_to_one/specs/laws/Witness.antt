@@ -2,8 +2,8 @@
 -- zeros; and the symbols of a filling of its cells.
 use mathlib.Core.Path.{_≡_, refl, ap, sym, subst, _∙_}
 use mathlib.Core.Bool.{true}
-use mathlib.Core.List.{[], _∷_}
-use Prim.Native.Nat.{_*_}
+use mathlib.Core.List.{List, [], _∷_}
+use Prim.Native.Nat.{ℕ, _*_}
 use native.Mathlib.Omega.{arith}
 use lib.ListN.{length, replicate}
 use borrow.Author.Tests.{eq-eqb}
@@ -13,20 +13,27 @@ use Rattle.filter_strength.specs.Strength.{zero32}
 use Rattle.hf_metadata.specs.Call.{Inputs, inputs, layoutOf}
 use Rattle.hf_pass_store.specs.Store.{PLACES}
 use Rattle.hf_block_context.specs.Call.{contextsOf}
-use Rattle.hf_coeff.specs.Call.{lengthsFit, readPreset}
+use Rattle.layout.specs.laws.Theorems.{layout-check}
 use Rattle.refusal.specs.Answer.{gives}
+use Rattle.hf_coeff_group.specs.Group.{Grids, Reading, going, leftOf, read, zeroRows}
+use Rattle.hf_coeff_group.specs.laws.GroupLaws.{group-items}
+use Rattle.hf_coeff_group.specs.Pass.{varblocks, itemsOf}
+use Rattle.hf_coeff.specs.Call.{Lent, Outcome, lengthsFit, readPreset, presetMap, reading, outcome as outcomeOf, leftoverAt, leftover, call}
+use Rattle.hf_coeff.specs.laws.CallLaws.{checks-pass, call-reads}
+use Rattle.hf_pass.specs.laws.Wrote.{wrote-fits}
 use Rattle.block_record.specs.Calls.{group, outcome, cutOf}
 use Rattle.block_record.specs.laws.CutSteps.{cut-done}
 use Rattle.accepted_layout.specs.Outcome.{bwOf, bhOf}
-use Rattle.one_to_one.specs.Filling.{cell, wanted as wantedOf, Fixed, Filling, Fills, Given}
-use Rattle.one_to_one.specs.Sequence.{theSequence}
+use Rattle.accepted_layout.specs.laws.Marked.{layout-computes}
+use Rattle.one_to_one.specs.Filling.{wanted as wantedOf, withSymbols, Fixed, Filling, Fills, Fails, leftOver, Given}
 use Rattle.one_to_one.specs.laws.Demand3.{one-sequence}
 use Rattle.one_to_one.specs.laws.Wanted.{wanted-filling}
 use Rattle.one_to_one.specs.laws.Chain.{fixed-by-calls}
-use Rattle.one_to_one.specs.laws.Computes.{layout-computes, cut-computes, bits-compute, sequence-computes, wanted-computes, below, cells-below}
+use Rattle.one_to_one.specs.laws.Computes.{cut-computes, bits-compute, reading-computes, sequence-computes, wanted-computes, below, cells-below}
 use Rattle.one_to_one.specs.Plain.{store}
 use Rattle.one_to_one.specs.laws.Plain.{store-long, order-0, store-wrote, defaults-read}
-use Rattle.one_to_one.specs.Witness.{one, wanted, zeros}
+use Rattle.one_to_one.specs.Witness.{one, wanted, zeros, leaving}
+use Rattle.hf_coeff_group.specs.Sequence.{cell, theSequence}
 
 -- 8 × 8 pixels, modes 0, one column (0,0), filter off
 abbrev pub columns : Inputs
@@ -102,3 +109,44 @@ sequence-is = rw (order-0 0 (omega arith), order-0 1 (omega arith), order-0 2 (o
 
 pub filled : Fills one (2 ∷ 3 ∷ 0 ∷ 4 ∷ 0 ∷ 0 ∷ []) wanted
 filled = let o = one-sequence one fixed wanted filling in o .1 (2 ∷ 3 ∷ 0 ∷ 4 ∷ 0 ∷ 0 ∷ []) (rw sequence-is at (o .0)) .1 (sym sequence-is)
+
+-- A count left over is accepted, `leftover` tells it, and by demand 3 it fills nothing.
+
+-- reading the group's items, whatever the stretch
+module _ (stretch : List ℕ) where
+  abbrev end : Reading
+  end = read 0 15 stretch (itemsOf (one .pass) (varblocks (one .pass))) (going leaving 0 (one .log) (one .grids) zeroRows 0)
+
+  end-is : (leftOf end ≡ 1) × (outcomeOf end .answer ≡ gives 66)
+  unfolding reading-computes
+  end-is = rw (order-0 0 (omega arith), order-0 1 (omega arith), order-0 2 (omega arith)) (refl, refl)
+
+abbrev L : Lent
+L = withSymbols one leaving
+
+by-items : reading L 0 ≡ end (presetMap L 0)
+unfolding reading contextsOf
+by-items = group-items 0 15 (presetMap L 0) (one .pass) (varblocks (one .pass)) (going leaving 0 (one .log) (one .grids) zeroRows 0)
+
+-- all 66 symbols are read
+pub left-accepted : call (withSymbols one leaving) .answer ≡ gives 66
+left-accepted =
+    let P = one .pass in
+    ap (λ (o : Outcome). o .answer)
+    (call-reads L (checks-pass L (record {
+      sides = fixed .sides;
+      parameters = refl;
+      contexts = fixed .contexts;
+      lengths = fixed .rest .lengths;
+      layout = layout-check (P .bw) (P .bh) (P .kinds) (P .hfMul) (fixed .layout);
+      places = wrote-fits (P .store) (fixed .orders);
+    })) 0 0 no-bits (omega arith))
+    ∙ ap (λ (r : Reading). outcomeOf r .answer) by-items ∙ end-is (presetMap L 0) .1
+
+-- and the count is left over
+pub left-over : leftover (withSymbols one leaving) ≡ 1
+left-over = ap (leftoverAt L) no-bits ∙ ap leftOf by-items ∙ end-is (presetMap L 0) .0
+
+-- so these symbols fill no grids in the sense of demand 3
+pub left-fails : (W : Grids) → Fails one leaving W
+left-fails W = leftOver (omega (arith, left-over))

@@ -11,12 +11,10 @@ use lib.ListN.{length, getD, set, replicate, length-replicate}
 use lib.Seq.{sets}
 use Rattle.refusal.specs.declared.Refusal.{Refusal}
 use Rattle.refusal.specs.declared.Refusal.the-variants.{SymbolsEnd, TooManyZeros, Count}
-use Rattle.refusal.specs.Said.{said}
 use Rattle.hf_coeff_walk.specs.Walk.{Walked, ended, stopped, walk, coeffContext, flag, less, gain}
 use Rattle.hf_coeff_walk.specs.laws.Kept.{length-gain}
 use Rattle.hf_coeff_walk.specs.laws.Contexts.{context-below}
-use Rattle.one_to_one.specs.Filling.{Words, told}
-use Rattle.one_to_one.specs.Sequence.{more, nonZeros, upTo}
+use Rattle.hf_coeff_walk.specs.Sent.{Words, more, nonZeros, upTo}
 
 -- symbols added at places, one after the other
 abbrev pub gains : ℕ → List ℕ → List ℕ → List ℕ → List ℕ
@@ -74,11 +72,11 @@ pub record Taken (n : ℕ) (us : List ℕ) (k : ℕ) (ds us′ : List ℕ) (left
   pub due : n ≡ nonZeros ds + left
   pub words : Words us → Words ds × Words us′
 
--- of one that stopped behind k of its symbols: the refusal tells them, and 15 comes only when none is left
-pub record Stop (all k : ℕ) (why : ℕ → Refusal) : Type 0 where
-  pub tells : (at : ℕ) → told (said (why at)) ≡ at
-  pub there : k ≤ all
-  pub last : (at : ℕ) → said (why at) .number ≡ 15 → k ≡ all
+-- of one that stopped behind k of its symbols: 15 comes only when none is left
+pub data Stop (all k : ℕ) (why : ℕ → Refusal) : Type 0 where
+  symbolsEnd : why ≡ SymbolsEnd → k ≡ all → Stop all k why
+  count : why ≡ Count → k ≤ all → Stop all k why
+  tooManyZeros : why ≡ TooManyZeros → k ≤ all → Stop all k why
 
 abbrev pub Tells : ℕ → List ℕ → ℕ → List ℕ → End → Type 0
 Tells n us k ds (ends us′ left) = Taken n us k ds us′ left
@@ -126,14 +124,11 @@ stops-here ps n us F′ why t = record {
   tells = t;
 }
 
-pub symbols-end : Stop 0 0 SymbolsEnd
-symbols-end = record { tells = λ at. refl; there = omega arith; last = λ at e. refl }
-
-pub too-many-zeros : (all : ℕ) → Stop all 0 TooManyZeros
-too-many-zeros all = record { tells = λ at. refl; there = omega arith; last = λ at e. absurd (let z : _≡_ {A = ℕ} 17 15 = e in omega arith) }
-
-pub stop-later : (all k : ℕ) (why : ℕ → Refusal) → Stop all k why → Stop (suc all) (suc k) why
-stop-later all k why t = let h = t .there in record { tells = t .tells; there = omega arith; last = λ at e. ap suc (t .last at e) }
+-- further symbols were read before
+pub stop-later : (n all k all′ k′ : ℕ) (why : ℕ → Refusal) → all′ ≡ n + all → k′ ≡ n + k → Stop all k why → Stop all′ k′ why
+stop-later n all k all′ k′ why a b (symbolsEnd w e) = symbolsEnd w (omega arith)
+stop-later n all k all′ k′ why a b (count w h) = count w (omega arith)
+stop-later n all k all′ k′ why a b (tooManyZeros w h) = tooManyZeros w (omega arith)
 
 due-later : (u n m left : ℕ) → less u n ≡ m + left → suc n ≡ more u m + left
 due-later zero n m left e = e
@@ -144,7 +139,7 @@ unfolding nonZeros upTo
 tells-later u n k us ds (ends us′ left) t =
     let r = t .read in
     record { rest = ap (λ (l : List ℕ). u ∷ l) (t .rest); read = omega arith; due = due-later u n (nonZeros ds) left (t .due); words = λ w. let q = t .words (w .1) in ((w .0, q .0), q .1) }
-tells-later u n k us ds (stops why) t = stop-later (length us) k why t
+tells-later u n k us ds (stops why) t = stop-later 1 (length us) k (suc (length us)) (suc k) why (omega arith) (omega arith) t
 
 -- a symbol was read before
 later : (p : ℕ) (ps : List ℕ) (n u k : ℕ) (us : List ℕ) (F : ℕ → ℕ → List ℕ → List ℕ → Walked) (F′ : List ℕ → ℕ → ℕ → List ℕ → List ℕ → Walked) → Run ps (less u n) us F F′
@@ -174,12 +169,12 @@ module _ (blocks : ℕ) (part : List ℕ) where
   run (p ∷ ps) i prev (suc n) [] = go (ltb (coeffContext blocks n i prev) 458)
     where
       go : (b : Bool) → Run (p ∷ ps) (suc n) [] (λ s at log g. cond b (stopped SymbolsEnd at log g) (stopped TooManyZeros at log g)) (λ vs s at log g. walk s blocks part (p ∷ ps) i prev (suc n) vs at log g)
-      go true = stops-here (p ∷ ps) (suc n) [] _ SymbolsEnd symbols-end
-      go false = stops-here (p ∷ ps) (suc n) [] _ TooManyZeros (too-many-zeros 0)
+      go true = stops-here (p ∷ ps) (suc n) [] _ SymbolsEnd (symbolsEnd refl refl)
+      go false = stops-here (p ∷ ps) (suc n) [] _ TooManyZeros (tooManyZeros refl (omega arith))
   run (p ∷ ps) i prev (suc n) (u ∷ us) =
       either (p ∷ ps) (suc n) (u ∷ us) (ltb (coeffContext blocks n i prev) 458) _ _ _ _
       (later p ps n u (getD part (coeffContext blocks n i prev) 0) us _ _ (run ps (i + 1) (flag u) (less u n) us))
-      (stops-here (p ∷ ps) (suc n) (u ∷ us) (λ vs s at log g. stopped TooManyZeros at log g) TooManyZeros (too-many-zeros (suc (length us))))
+      (stops-here (p ∷ ps) (suc n) (u ∷ us) (λ vs s at log g. stopped TooManyZeros at log g) TooManyZeros (tooManyZeros refl (omega arith)))
 
 -- Symbols that are sent are read.
 pub nonZeros-le : (ds : List ℕ) → nonZeros ds ≤ length ds

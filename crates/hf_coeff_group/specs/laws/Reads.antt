@@ -12,18 +12,16 @@ use lib.Seq.{sets, set-getD}
 use Rattle.laws.specs.laws.Lists.{sets-append}
 use Rattle.refusal.specs.declared.Refusal.{Refusal}
 use Rattle.refusal.specs.declared.Refusal.the-variants.{SymbolsEnd, Count}
-use Rattle.refusal.specs.Said.{said}
 use Rattle.hf_coeff_walk.specs.Walk.{Walked, stopped, walk}
 use Rattle.hf_coeff_walk.specs.laws.Counts.{few-le}
 use Rattle.hf_coeff_walk.specs.Item.{Item, counted, newRow, coeffPart, countCluster}
 use Rattle.hf_coeff_group.specs.Group.{Grids, Reading, going, refused, after, item, read}
 use Rattle.hf_coeff_group.specs.laws.Symbols.{symbolsIn}
-use Rattle.one_to_one.specs.Filling.{Words}
-use Rattle.one_to_one.specs.Sequence.{nonZeros, upTo, sent}
-use Rattle.one_to_one.specs.LowCells.{Cell, In, cellsOf}
-use Rattle.one_to_one.specs.laws.Walks as walks
-use Rattle.one_to_one.specs.laws.Walks.{gains, none, none-long, gains-none, none-words, Stop, Run, run, nonZeros-le, walk-sent}
-use Rattle.one_to_one.specs.laws.Cells.{adds, adds-in, adds-both}
+use Rattle.hf_coeff_walk.specs.Sent.{Words, nonZeros, upTo}
+use Rattle.hf_coeff_group.specs.Sequence.{Cell, cellsOf, sent}
+use Rattle.hf_coeff_walk.specs.laws.Walks as walks
+use Rattle.hf_coeff_walk.specs.laws.Walks.{gains, none, none-long, gains-none, none-words, Stop, Run, run, nonZeros-le, walk-sent}
+use Rattle.hf_coeff_group.specs.laws.Cells.{In, adds, adds-in, adds-both}
 
 -- one behind the other
 abbrev pub joined : List (List ℕ) → List ℕ
@@ -133,8 +131,7 @@ tells-on n k₁ left m k us ds us₁ dss (ends us′ rows left′) w t =
       words = λ h. let q = w .words (h .1) in words-both ds (joined dss) (q .0) (t .words (q .1));
     }
 tells-on n k₁ left m k us ds us₁ dss (stops why) w t =
-    let a = w .read in let b = t .there in
-    record { tells = t .tells; there = omega arith; last = λ at e. omega (arith, t .last at e) }
+    walks.stop-later (suc m) (length us₁) k (suc (length us)) (suc (m + k)) why (omega (arith, w .read)) (omega arith) t
 
 module _ (clusters : ℕ) (stretch : List ℕ) where
   read-refused : (s : ℕ) (its : List Item) (why : ℕ → Refusal) (at : ℕ) (log : List ℕ) (G : Grids) → read s clusters stretch its (refused why at log G) ≡ refused why at log G
@@ -189,7 +186,7 @@ module _ (clusters : ℕ) (stretch : List ℕ) where
         further = λ h vs s at log G. absurd h;
         all = (long, nones-long its);
         few = omega arith;
-        tells = walks.stop-later (length us) (length ks) why t;
+        tells = walks.stop-later 1 (length us) (length ks) (suc (length us)) (suc (length ks)) why (omega arith) (omega arith) t;
       }
       by-end (walks.ends us₁ k₁) is further few t =
           let q = ih us₁ rows₁ (left + k₁) in
@@ -216,14 +213,14 @@ module _ (clusters : ℕ) (stretch : List ℕ) where
     by-count false =
         refused-here (it ∷ its) (n ∷ us) left (k ∷ []) Count _ _
         (λ s at log G. read-refused s its Count (at + 1) (set log at k) (set G c (getD G c [])) ∙ ap (refused Count (at + 1) (set log at k)) (set-getD G c [])) (omega arith)
-        (record { tells = λ at. refl; there = omega arith; last = λ at e. absurd (let z : _≡_ {A = ℕ} 16 15 = e in omega arith) })
+        (walks.count refl (omega arith))
 
   next : (it : Item) (its : List Item) → Claim its → Claim (it ∷ its)
   unfolding read item counted
   next it its ih [] rows left =
       refused-here (it ∷ its) [] left [] SymbolsEnd _ _
       (λ s at log G. let z : at + 0 ≡ at = omega arith in
-      read-refused s its SymbolsEnd at log (set G (it .channel) (getD G (it .channel) [])) ∙ rw z (ap (refused SymbolsEnd at log) (set-getD G (it .channel) []))) (omega arith) walks.symbols-end
+      read-refused s its SymbolsEnd at log (set G (it .channel) (getD G (it .channel) [])) ∙ rw z (ap (refused SymbolsEnd at log) (set-getD G (it .channel) []))) (omega arith) (walks.symbolsEnd refl refl)
   next it its ih (n ∷ us) rows left = by-count it its ih n us rows left (leb n (63 * it .blocks))
 
   pub reads : (its : List Item) → Claim its

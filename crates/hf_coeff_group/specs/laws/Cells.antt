@@ -1,22 +1,25 @@
 -- Cells of the grids, each a channel and a place, and symbols added to them one after the other.
 use mathlib.Core.Path.{_≡_, refl, ap, ap₂, sym, subst, _∙_}
 use mathlib.Core.Logic.{_⊎_, inl, inr}
-use mathlib.Core.List.{List, [], _∷_, _++_, map, List·Memᴰ·head as here, List·Memᴰ·tail as there, List·Memᴰ·cases-cons, List·Memᴰ·append-cases, Memᴰ·cast, Memᴰ·of-map}
+use mathlib.Core.List.{List, [], _∷_, _++_, map, List·Memᴰ, List·Memᴰ·head as here, List·Memᴰ·tail as there, List·Memᴰ·cases-cons, List·Memᴰ·append-cases, Memᴰ·cast, Memᴰ·of-map}
 use Prim.Native.Nat.{ℕ, zero, suc, _+_, _*_, _%_, _^_, _<_, _≤_}
 use native.Mathlib.Omega.{arith}
 use native.Mathlib.Decide.{ℕ-discrete, decLt}
 use lib.ListN.{length, getD, set, length-set, List·getD-eq-default}
 use lib.Seq.{getD-set-same, getD-set-other, set-getD, set-set, set-out, ext-getD}
 use Rattle.coded_numbers.specs.Signed.{unpackSigned, symbol}
-use Rattle.coded_numbers.specs.laws.Signed.{unpack-lt, symbol-adds, symbol-of, symbol-lt}
+use Rattle.coded_numbers.specs.laws.Signed.{unpack-lt, unpack-zero, symbol-adds, symbol-of, symbol-lt}
 use Rattle.hf_coeff_walk.specs.Walk.{gain}
 use Rattle.hf_coeff_walk.specs.laws.Kept.{length-gain}
+use Rattle.hf_coeff_walk.specs.Sent.{Words}
+use Rattle.hf_coeff_walk.specs.laws.Walks.{gains}
 use Rattle.hf_coeff_group.specs.Group.{Grids}
-use Rattle.one_to_one.specs.Filling.{cell, Words}
-use Rattle.one_to_one.specs.LowCells.{Cell, In}
-use Rattle.one_to_one.specs.laws.Walks.{gains}
+use Rattle.hf_coeff_group.specs.Sequence.{Cell, cell}
 
--- Lists without repetition.
+-- One of a list, and lists without repetition.
+abbrev pub In : {A : Type 0} → A → List A → Type 0
+In x xs = List·Memᴰ x xs
+
 abbrev pub Distinct : {A : Type 0} → List A → Type 0
 Distinct [] = Unit
 Distinct (x ∷ xs) = (In x xs → ⊥) × Distinct xs
@@ -127,10 +130,6 @@ pub adds-off : (s : ℕ) (G : Grids) (cs : List Cell) (ds : List ℕ) (y : Cell)
 adds-off s G cs [] y n = refl
 adds-off s G [] (d ∷ ds) y n = refl
 adds-off s G (x ∷ cs) (d ∷ ds) y n = adds-off s (add s G x d) cs ds y (λ i. n (there i)) ∙ add-off s G x d y (λ e. n (here e))
-
-unpack-zero : unpackSigned 0 ≡ 0
-unfolding unpackSigned
-unpack-zero = refl
 
 -- cells of the grids, with 32-bit numbers in them
 pub record Fit (G : Grids) (cs : List Cell) : Type 0 where
