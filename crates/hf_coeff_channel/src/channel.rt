@@ -1,34 +1,48 @@
 // One channel of a varblock: its count, then its coefficients (`hf_coeff.rs`).
-use crate::coefficients::coefficients;
 use crate::count::count_cluster;
 use crate::count::is_few;
+use coeff_places::read_places;
 use hf_coeff_walk::Walk;
-use hf_coeff_walk::item::Varblock;
 use hf_coeff_walk::place::Spot;
+use hf_coeff_walk::shape::Shape;
 use refusal::Refusal;
 ghost use mathlib.Core.Path.{_≡_};
 ghost use mathlib.Core.List.{[], _∷_};
-ghost use Prim.Native.Nat.{_<_};
+ghost use Prim.Native.Nat.{_<_, _≤_};
 ghost use lib.ListN.{length, drop};
 ghost use Rattle.hf_coeff_walk.specs.Item.{counted};
-ghost use Rattle.hf_coeff_walk.specs.Outcome.{Handed};
-ghost use Rattle.hf_coeff_walk.specs.Items.{ItemReady, itemAt};
-ghost use Rattle.hf_coeff_group.specs.Steps.{InGrid};
+ghost use Rattle.hf_coeff_walk.specs.laws.Outcome.{Handed};
+ghost use Rattle.hf_coeff_walk.specs.laws.Items.{ItemReady, itemAt, spotOf};
+ghost use Rattle.hf_coeff_group.specs.laws.Steps.{InGrid};
 
-fn wide(x: u32) -> usize
+fn to_usize(x: u32) -> usize
     ensures { λ r. ⌜ r ≡ x ⌝ }
 {
     x as usize
 }
 
-// A count, then coefficients. `width` blocks to a row, `context` the block context, `map` the preset's stretch of the
-// cluster map, `order` the order of this channel, `row` its row of counts, `at` the symbols read.
+// The first cell of a varblock, in a grid of a group `width` blocks wide.
+fn spot_of(v: Shape, width: usize) -> Spot
+    requires { ⌜ (v .x < 32) × (v .y < 32) × (width ≤ 32) ⌝ }
+    ensures { λ r. ⌜ r ≡ spotOf v width ⌝ }
+{
+    Spot {
+        row: (8 * width) as u16,
+        x: (8 * v.x) as u16,
+        y: (8 * v.y) as u16,
+        exponent: v.exponent,
+        turn: v.turn,
+    }
+}
+
+// A count, then coefficients. `width` blocks to a row, `context` the block context, `order` the order of this channel, `row`
+// its row of counts, `at` the symbols read.
 fn read_channel<'a>(
-    v: Varblock,
+    v: Shape,
     width: usize,
     context: usize,
     clusters: usize,
-    map: &'a [u8],
+    preset_map: &'a [u8],
     order: &'a [u16],
     row: &'a [u32; 32],
     symbols: &'a [u32],
@@ -37,40 +51,31 @@ fn read_channel<'a>(
     log: &mut [u8],
     grid: &mut [u32],
 ) -> Walk
-    requires { ⌜ ItemReady v width context clusters (length (now map)) (length (now order)) (length (now symbols)) at shift (length (now log)) ⌝ }
-    ensures { λ r. ⌜ Handed r (now (log .exit)) (now (grid .exit)) (counted shift clusters (now (map .entry)) (itemAt v width context (now (order .entry))) (now (row .entry)) (drop at (now (symbols .entry))) at (now (log .entry)) (now (grid .entry))) ⌝ }
+    requires { ⌜ ItemReady v width context clusters (length (now «preset_map»)) (length (now order)) at shift (length (now log)) ⌝ }
+    ensures { λ r. ⌜ Handed r (now (log .exit)) (now (grid .exit)) (counted shift clusters (now («preset_map» .entry)) (itemAt v width context (now (order .entry))) (now (row .entry)) (drop at (now (symbols .entry))) at (now (log .entry)) (now (grid .entry))) ⌝ }
 {
     if symbols.len() <= at {
         return Walk::Stopped(Refusal::SymbolsEnd(at));
     }
-    let n = wide(symbols[at]);
-    log[at] = count_cluster(map, row, v.x, v.y, context, clusters);
+    let n = to_usize(symbols[at]);
+    log[at] = count_cluster(preset_map, row, v.x, v.y, context, clusters);
     let next = at + 1;
-    if 63 << v.log < n {
-        return Walk::Stopped(Refusal::Count(next));
-    }
     if n == 0 {
         return Walk::Ended(next);
     }
-    let first = is_few(n, v.log);
-    let spot = Spot {
-        row: 8 * width,
-        x: 8 * v.x,
-        y: 8 * v.y,
-        log: v.log,
-        turn: v.turn,
-    };
-    let low = 2 << v.log;
+    let spot = spot_of(v, width);
+    let few = is_few(n, v.exponent);
+    let low = 2 << v.exponent;
     let begin = context * 458 + 37 * clusters;
     let end = begin + 458;
-    coefficients(
+    read_places(
         &order[low..],
         spot,
         symbols,
         next,
         n,
-        first,
-        &map[begin..end],
+        few,
+        &preset_map[begin..end],
         shift,
         log,
         grid,
@@ -80,11 +85,11 @@ fn read_channel<'a>(
 // The walk of channel c, in its grid.
 pub(crate) fn walk_channel<'a>(
     c: usize,
-    v: Varblock,
+    v: Shape,
     width: usize,
     context: usize,
     clusters: usize,
-    map: &'a [u8],
+    preset_map: &'a [u8],
     order: &'a [u16],
     row: &'a [u32; 32],
     symbols: &'a [u32],
@@ -95,8 +100,8 @@ pub(crate) fn walk_channel<'a>(
     g1: &mut [u32],
     g2: &mut [u32],
 ) -> Walk
-    requires { ⌜ (c < 3) × ItemReady v width context clusters (length (now map)) (length (now order)) (length (now symbols)) at shift (length (now log)) ⌝ }
-    ensures { λ r. ⌜ InGrid c (now (g0 .entry) ∷ now (g1 .entry) ∷ now (g2 .entry) ∷ []) r (now (log .exit)) (now (g0 .exit) ∷ now (g1 .exit) ∷ now (g2 .exit) ∷ []) (λ g. counted shift clusters (now (map .entry)) (itemAt v width context (now (order .entry))) (now (row .entry)) (drop at (now (symbols .entry))) at (now (log .entry)) g) ⌝ }
+    requires { ⌜ (c < 3) × ItemReady v width context clusters (length (now «preset_map»)) (length (now order)) at shift (length (now log)) ⌝ }
+    ensures { λ r. ⌜ InGrid c (now (g0 .entry) ∷ now (g1 .entry) ∷ now (g2 .entry) ∷ []) r (now (log .exit)) (now (g0 .exit) ∷ now (g1 .exit) ∷ now (g2 .exit) ∷ []) (λ g. counted shift clusters (now («preset_map» .entry)) (itemAt v width context (now (order .entry))) (now (row .entry)) (drop at (now (symbols .entry))) at (now (log .entry)) g) ⌝ }
 {
     if c == 0 {
         return read_channel(
@@ -104,7 +109,7 @@ pub(crate) fn walk_channel<'a>(
             width,
             context,
             clusters,
-            map,
+            preset_map,
             order,
             row,
             symbols,
@@ -120,7 +125,7 @@ pub(crate) fn walk_channel<'a>(
             width,
             context,
             clusters,
-            map,
+            preset_map,
             order,
             row,
             symbols,
@@ -135,7 +140,7 @@ pub(crate) fn walk_channel<'a>(
         width,
         context,
         clusters,
-        map,
+        preset_map,
         order,
         row,
         symbols,

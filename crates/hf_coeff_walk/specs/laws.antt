@@ -1,3 +1,11 @@
--- what is proved from the definitions
+-- what is proved of a channel's reading
+pub mod SignedLaws
+pub mod Outcome
+pub mod Runs
+pub mod PlaceLaws
+pub mod Counts
+pub mod Lent
+pub mod Items
+pub mod Kept
 pub mod Contexts
 pub mod Walks

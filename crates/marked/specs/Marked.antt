@@ -7,7 +7,7 @@ use lib.IntN.{pos, negsuc}
 use lib.ListN.{length, getD, take, drop, replicate}
 use lib.Ieee.{Float, fin, mul}
 use Rattle.refusal.specs.declared.Refusal.the-variants.{Preset}
-use Rattle.refusal.specs.Said.{at}
+use Rattle.refusal.specs.Said.{at, said}
 use Rattle.bits.specs.Bits.{Value}
 use Rattle.natural_order.specs.Natural.{natural}
 use Rattle.layout.specs.Varblocks.{varblock, varblocksOf, area}
@@ -19,7 +19,8 @@ use Rattle.accepted_layout.specs.Marked.{off}
 use Rattle.hf_pass_store.specs.Store.{PLACES, stretch}
 use Rattle.hf_pass.specs.Call.{parsed}
 use Rattle.hf_coeff.specs.declared.CoeffAnswer.the-variants.{Accepted}
-use Rattle.hf_coeff.specs.Call.{reads, refuses, leaves, outcome, refuse, readPreset, call, reading as readingWith}
+use Rattle.refusal.specs.Answer.{gives, refuses}
+use Rattle.hf_coeff.specs.Call.{leaves, outcome, refuse, readPreset, call, reading as readingWith}
 use Rattle.lister.specs.Listing.{textOf}
 use Rattle.marked.specs.Lines.{job, lines}
 use Rattle.marked.specs.Coefficients.{gains, dct8, dct16, Room}
@@ -82,14 +83,14 @@ M8 = (nearest 16777217 ≡ fin false 1 (pos 24))
 -- M9 count 252 for type 4 passes, 253 refused: 252, as many symbols that are not 0, and counts 0 for the other channels are accepted
 abbrev pub M9 : Type 0
 M9 = (map log g0 g1 g2 : List ℕ) → Room 1 4 map log g0 g1 g2
-    → (call (dct16 map (252 ∷ (replicate 252 2 ++ (0 ∷ 0 ∷ []))) log g0 g1 g2) .answer ≡ reads 255)
+    → (call (dct16 map (252 ∷ (replicate 252 2 ++ (0 ∷ 0 ∷ []))) log g0 g1 g2) .answer ≡ gives 255)
     × ((us : List ℕ) → call (dct16 map (253 ∷ us) log g0 g1 g2) .answer ≡ refuses (at 16 1 0))
 
 -- M10 three presets: two bits, 3 refused (14, two bits read, nothing written), 0 to 2 read with
 abbrev pub M10 : Type 0
 M10 = (map symbols log g0 g1 g2 : List ℕ) → Room 3 1 map log g0 g1 g2
     → ((b : ℕ) (rest : List ℕ) → readPreset (dct8 3 map (b ∷ rest) symbols log g0 g1 g2) ≡ Value (b % 4) 2)
-    × ((rest : List ℕ) → call (dct8 3 map (3 ∷ rest) symbols log g0 g1 g2) ≡ refuse (dct8 3 map (3 ∷ rest) symbols log g0 g1 g2) (Preset 2))
+    × ((rest : List ℕ) → call (dct8 3 map (3 ∷ rest) symbols log g0 g1 g2) ≡ refuse (dct8 3 map (3 ∷ rest) symbols log g0 g1 g2) (said (Preset 2)))
     × ((n : ℕ) (rest : List ℕ) → n < 3 → call (dct8 3 map (n ∷ rest) symbols log g0 g1 g2) ≡ outcome (readingWith (dct8 3 map (n ∷ rest) symbols log g0 g1 g2) n))
 
 -- M11 one Dct8, default contexts, symbols 2, 3, 0, 4, 0, 0: in channel 1 (0,1) gains −2, (2,0) gains 2; contexts (places in the preset's

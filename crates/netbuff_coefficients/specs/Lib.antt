@@ -1,2 +1,3 @@
--- what the exported calls hand out
+-- what the exported coefficient call hands out
 pub mod Coefficients
+pub mod laws

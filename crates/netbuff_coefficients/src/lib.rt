@@ -3,8 +3,9 @@ use block_check::Group;
 use block_context::HfBlockContext;
 use hf_coeff::CoeffAnswer;
 ghost use Rattle.refusal.specs.Said.{at};
-ghost use Rattle.hf_coeff.specs.Call.{passWith, lent, call};
-ghost use Rattle.netbuff_coefficients.specs.Coefficients.{contextsOf, with, CoeffLeaves};
+ghost use Rattle.hf_coeff_group.specs.Pass.{passWith};
+ghost use Rattle.hf_coeff.specs.Call.{lent, call};
+ghost use Rattle.netbuff_coefficients.specs.Coefficients.{groupOf, contextsOf, with, CoeffLeaves};
 
 // Beside a refusal the number of symbols read stays as it was.
 #[no_mangle]
@@ -37,7 +38,7 @@ pub extern "C" fn netbuff_coefficients<'a, 'b>(
     y: &'b mut usize,
 ) -> u32
     ensures { λ r. ⌜ CoeffLeaves (with (at r (now (x .exit)) (now (y .exit))) (now (read .exit))) (now (log .exit)) (now (grid0 .exit)) (now (grid1 .exit)) (now (grid2 .exit)) (now (read .entry))
-        (call (lent (passWith wide high (now (kinds .entry)) (now («hf_mul» .entry)) (contextsOf «num_block_clusters» (now (lengths .entry)) (now («lf_thresholds» .entry)) (now («qf_thresholds» .entry)) (now («block_ctx_map» .entry))) «lf_there» (now (lf0 .entry)) (now (lf1 .entry)) (now (lf2 .entry)) (now (store .entry))) presets (now («cluster_map» .entry)) shift (now (bytes .entry)) (now (symbols .entry)) (now (log .entry)) (now (grid0 .entry)) (now (grid1 .entry)) (now (grid2 .entry)))) ⌝ }
+        (call (lent (passWith (groupOf wide high) (now (kinds .entry)) (now («hf_mul» .entry)) (contextsOf «num_block_clusters» (now (lengths .entry)) (now («lf_thresholds» .entry)) (now («qf_thresholds» .entry)) (now («block_ctx_map» .entry))) «lf_there» (now (lf0 .entry)) (now (lf1 .entry)) (now (lf2 .entry)) (now (store .entry))) presets (now («cluster_map» .entry)) shift (now (bytes .entry)) (now (symbols .entry)) (now (log .entry)) (now (grid0 .entry)) (now (grid1 .entry)) (now (grid2 .entry)))) ⌝ }
 {
     let list_lengths = *lengths;
     let lf = *lf_thresholds;

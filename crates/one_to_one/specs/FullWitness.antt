@@ -13,8 +13,8 @@ use Rattle.hf_pass_naturals.specs.Naturals.{naturals}
 use Rattle.block_context.specs.declared.HfBlockContext.{HfBlockContext}
 use Rattle.thresholds.specs.Thresholds.{listsOf}
 use Rattle.hf_block_context.specs.Call as context
-use Rattle.hf_coeff_group.specs.Pass.{Pass}
 use Rattle.hf_coeff_group.specs.Group.{Grids}
+use Rattle.hf_coeff_group.specs.Pass.{Pass}
 use Rattle.hf_coeff.specs.Call.{Lent}
 
 -- Orders: order 0 alone is used, channel 0 with digit 1, channel 1 with digits 2, 0, channel 2 with none.
@@ -45,10 +45,10 @@ muls = 5 ∷ 1 ∷ 0 ∷ 3 ∷ []
 -- The group.
 abbrev pub pass : Pass
 pass = record {
-  width = 2;
-  height = 2;
+  bw = 2;
+  bh = 2;
   kinds = kinds;
-  muls = muls;
+  hfMul = muls;
   contexts = contexts;
   lfThere = true;
   lf0 = 1 ∷ 4294967295 ∷ 0 ∷ 5 ∷ [];

@@ -14,9 +14,10 @@ use Rattle.block_context_index.specs.Lists.{used}
 use Rattle.block_context_index.specs.Contexts.{qfIndex, lfIndexOf, contextIndex}
 use Rattle.hf_coeff_walk.specs.Walk.{FREQ, NUM-NONZERO, coeffContext, flag, less, gain}
 use Rattle.hf_coeff_walk.specs.Item.{Item, predicted, countIndex, countCluster, coeffPart}
+use Rattle.hf_coeff_group.specs.Group.{Reading, going, refused, item, varblock, zeroRows}
 use Rattle.hf_coeff_group.specs.Pass.{Pass, varblocks, blocksOf, placesAt, channels}
-use Rattle.hf_coeff_group.specs.Group.{Reading, going, refused, item, varblock}
-use Rattle.hf_coeff.specs.Call.{Lent, clustersOf, rowsOf, presetMap}
+use Rattle.hf_coeff_group.specs.Work.{clustersOf}
+use Rattle.hf_coeff.specs.Call.{Lent, presetMap}
 
 module _ (shift blocks : ℕ) (part : List ℕ) where
   -- the entries of the two tables of 63 for place i, with n + 1 still due
@@ -45,16 +46,16 @@ abbrev pub contextPlace : Pass → Varblock → ℕ → ℕ
 contextPlace P v n =
     let C = used (P .contexts) in
     contextIndex C n (orderOf (v .type)) (qfIndex C (v .hfMul))
-    (lfIndexOf C (P .lfThere) (at (P .lf0) (P .width) (v .x) (v .y)) (at (P .lf1) (P .width) (v .x) (v .y)) (at (P .lf2) (P .width) (v .x) (v .y)))
+    (lfIndexOf C (P .lfThere) (at (P .lf0) (P .bw) (v .x) (v .y)) (at (P .lf1) (P .bw) (v .x) (v .y)) (at (P .lf2) (P .bw) (v .x) (v .y)))
 
 -- what the channels of a varblock are made from
 pub record CornerInside (P : Pass) (v : Varblock) : Type 0 where
   -- a row of the transforms' table
   pub known : v .type < COUNT
   -- the corner's LF numbers, if there are LF grids
-  pub lf0 : P .lfThere ≡ true → v .y * P .width + v .x < length (P .lf0)
-  pub lf1 : P .lfThere ≡ true → v .y * P .width + v .x < length (P .lf1)
-  pub lf2 : P .lfThere ≡ true → v .y * P .width + v .x < length (P .lf2)
+  pub lf0 : P .lfThere ≡ true → v .y * P .bw + v .x < length (P .lf0)
+  pub lf1 : P .lfThere ≡ true → v .y * P .bw + v .x < length (P .lf1)
+  pub lf2 : P .lfThere ≡ true → v .y * P .bw + v .x < length (P .lf2)
   -- each block context's place, among the map's 2,496
   pub context : (n : ℕ) → n < 3 → contextPlace P v n < 2496
   -- each channel's order is stored whole: 63 places for each block behind the low-frequency cells
@@ -97,4 +98,4 @@ module _ (shift clusters : ℕ) (stretch : List ℕ) where
 abbrev pub ReadingInside : Lent → ℕ → Type 0
 ReadingInside L preset =
     (495 * clustersOf (L .pass) * preset + 495 * clustersOf (L .pass) ≤ length (L .clusterMap))
-    × GroupInside (L .shift) (clustersOf (L .pass)) (presetMap L preset) (L .pass) (varblocks (L .pass)) (going (L .symbols) 0 (L .log) (L .grids) (rowsOf (L .pass)) 0)
+    × GroupInside (L .shift) (clustersOf (L .pass)) (presetMap L preset) (L .pass) (varblocks (L .pass)) (going (L .symbols) 0 (L .log) (L .grids) zeroRows 0)

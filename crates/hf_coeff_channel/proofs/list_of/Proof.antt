@@ -2,7 +2,7 @@ use mathlib.Core.Path.{_≡_}
 use Prim.Native.Nat.{_+_, _*_, _-_}
 use native.Mathlib.Omega.{arith}
 use borrow.Author.Needs.{needs}
-use Rattle.hf_coeff_group.specs.Stored.{of-three}
+use Rattle.hf_coeff_group.specs.laws.Stored.{of-three}
 use Rattle.hf_coeff_channel.proofs.list_of.Statement.{statement}
 use Rattle.hf_coeff_channel.proofs.list_of.Tie as tie
 

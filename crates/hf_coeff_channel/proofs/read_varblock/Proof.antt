@@ -4,8 +4,8 @@ use Prim.Native.Nat.{_+_, _*_, _^_}
 use borrow.Author.Needs.{needs}
 use borrow.Author.Tests.{not-true, not-false}
 use lib.ListN.{length}
-use Rattle.hf_coeff_group.specs.Rewritten.{VarblockShown}
-use Rattle.hf_coeff_group.specs.Lent.{fits-ready, varblock-refused, varblock-reads}
+use Rattle.hf_coeff_group.specs.laws.Rewritten.{VarblockShown}
+use Rattle.hf_coeff_group.specs.laws.Lent.{fits-planned, varblock-refused, varblock-reads}
 use Rattle.hf_coeff_channel.proofs.read_varblock.Statement.{statement}
 use Rattle.hf_coeff_channel.proofs.read_varblock.Tie as tie
 
@@ -19,13 +19,14 @@ returns : tie.Need-returns
 returns c =
     let a = c .before .before .before .before .before .before .before .before .before .before .args in
     let f = rw (c .before .before .stretch-of .ensures) at (c .before .varblock-fits .ensures) in
-    λ left. varblock-refused (a .plan) (a .width) (a .clusters) (a .map .now) (a .store .now) (a .rows .now) (a .symbols .now) (a .at) (a .shift) (a .log .now) (a .g0 .now ∷ a .g1 .now ∷ a .g2 .now ∷ []) (sym f ∙ not-true (c .before .varblock-fits .result) (c .if1 .taken)) (a .at + 192 * 2 ^ (a .plan .at .log)) left
+    λ left. varblock-refused (a .plan) (a .group) (a .clusters) (a .preset-map .now) (a .store .now) (a .rows .now) (a .symbols .now) (a .at) (a .shift) (a .log .now) (a .g0 .now ∷ a .g1 .now ∷ a .g2 .now ∷ []) (sym f ∙ not-true (c .before .varblock-fits .result) (c .if1 .taken)) (a .at + 192 * 2 ^ (a .plan .shape .exponent)) left
 
 read-turns-requires : tie.Need-read-turns-requires
 read-turns-requires c κs =
     let a = c .before .before .before .before .before .before .before .before .before .before .before .before .before .before .args in
     let f = rw (c .before .before .before .before .before .before .stretch-of .ensures) at (c .before .before .before .before .before .varblock-fits .ensures) in
-    (c .before .before .before .before .before .before .stretch-of .ensures, fits-ready (a .plan) (a .width) (a .clusters) (a .map .now) (a .store .now) (length (a .symbols .now)) (a .at) (a .shift) (length (a .log .now)) (sym f ∙ not-false (c .before .before .before .before .before .varblock-fits .result) (c .before .before .before .before .if1 .left)))
+    let q = fits-planned (a .plan) (a .group) (a .clusters) (a .preset-map .now) (a .store .now) (a .at) (a .shift) (length (a .log .now)) (sym f ∙ not-false (c .before .before .before .before .before .varblock-fits .result) (c .before .before .before .before .if1 .left)) in
+    (c .before .before .before .before .before .before .stretch-of .ensures, q .0, q .1)
 
 same-length : tie.Need-same-length
 same-length c = search needs
@@ -45,7 +46,7 @@ returns-2 c =
     let f = rw (c .before .before .before .before .before .before .before .before .before .before .before .before .before .before .before .stretch-of .ensures) at (c .before .before .before .before .before .before .before .before .before .before .before .before .before .before .varblock-fits .ensures) in
     let w = c .before .before .before .before .before .before .before .before .read-turns in
     let z = w .last .1 .1 .1 .1 .1 .1 .1 .1 .1 .1 in
-    λ left. subst (VarblockShown (a .plan) (a .width) (a .symbols .now) (a .at + 192 * 2 ^ (a .plan .at .log)) (w .result .walk) (w .result .counts) (a .rows .now) (z .0) (z .1 .0 ∷ z .1 .1 .0 ∷ z .1 .1 .1 .0 ∷ [])) (varblock-reads (a .plan) (a .width) (a .clusters) (a .map .now) (a .store .now) (a .rows .now) (a .symbols .now) (a .at) (a .shift) (a .log .now) (a .g0 .now ∷ a .g1 .now ∷ a .g2 .now ∷ []) (sym f ∙ not-false (c .before .before .before .before .before .before .before .before .before .before .before .before .before .before .varblock-fits .result) (c .before .before .before .before .before .before .before .before .before .before .before .before .before .if1 .left)) left) (w .ensures left)
+    λ left. subst (VarblockShown (a .plan) (a .symbols .now) (a .at + 192 * 2 ^ (a .plan .shape .exponent)) (w .result .walk) (w .result .counts) (a .rows .now) (z .0) (z .1 .0 ∷ z .1 .1 .0 ∷ z .1 .1 .1 .0 ∷ [])) (varblock-reads (a .plan) (a .group) (a .clusters) (a .preset-map .now) (a .store .now) (a .rows .now) (a .symbols .now) (a .at) (a .shift) (a .log .now) (a .g0 .now ∷ a .g1 .now ∷ a .g2 .now ∷ []) (sym f ∙ not-false (c .before .before .before .before .before .before .before .before .before .before .before .before .before .before .varblock-fits .result) (c .before .before .before .before .before .before .before .before .before .before .before .before .before .if1 .left)) left) (w .ensures left)
 
 pub read-varblock-spec : {M : Type 1} → statement M
 read-varblock-spec =

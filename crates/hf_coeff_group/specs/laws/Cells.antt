@@ -10,7 +10,7 @@ use lib.Seq.{getD-set-same, getD-set-other, set-getD, set-set, set-out, ext-getD
 use Rattle.coded_numbers.specs.Signed.{unpackSigned, symbol}
 use Rattle.coded_numbers.specs.laws.Signed.{unpack-lt, unpack-zero, symbol-adds, symbol-of, symbol-lt}
 use Rattle.hf_coeff_walk.specs.Walk.{gain}
-use Rattle.hf_coeff_walk.specs.Kept.{length-gain}
+use Rattle.hf_coeff_walk.specs.laws.Kept.{length-gain}
 use Rattle.hf_coeff_walk.specs.Sent.{Words}
 use Rattle.hf_coeff_walk.specs.laws.Walks.{gains}
 use Rattle.hf_coeff_group.specs.Group.{Grids}

@@ -13,7 +13,7 @@ use Rattle.laws.specs.laws.Lists.{sets-append}
 use Rattle.refusal.specs.declared.Refusal.{Refusal}
 use Rattle.refusal.specs.declared.Refusal.the-variants.{SymbolsEnd, Count}
 use Rattle.hf_coeff_walk.specs.Walk.{Walked, stopped, walk}
-use Rattle.hf_coeff_walk.specs.Counts.{few-le}
+use Rattle.hf_coeff_walk.specs.laws.Counts.{few-le}
 use Rattle.hf_coeff_walk.specs.Item.{Item, counted, newRow, coeffPart, countCluster}
 use Rattle.hf_coeff_group.specs.Group.{Grids, Reading, going, refused, after, item, read}
 use Rattle.hf_coeff_group.specs.laws.Symbols.{symbolsIn}

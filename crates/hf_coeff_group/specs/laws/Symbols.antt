@@ -16,11 +16,11 @@ use Rattle.layout.specs.laws.Theorems.{layout-area}
 use Rattle.hf_pass_store.specs.Store.{PLACES, stretch}
 use Rattle.natural_order.specs.Places.{paired}
 use Rattle.natural_order.specs.laws.Flat.{length-paired}
-use Rattle.hf_coeff_walk.specs.PlaceLaws.{length-places}
+use Rattle.hf_coeff_walk.specs.laws.PlaceLaws.{length-places}
 use Rattle.hf_coeff_walk.specs.Item.{Item}
 use Rattle.hf_coeff_group.specs.Pass.{Pass, varblocks, blocksOf, placesAt, itemOf, channels, itemsOf}
-use Rattle.hf_coeff_group.specs.Sizes.{order-lt}
-use Rattle.hf_coeff_group.specs.Stored.{stretch-long}
+use Rattle.hf_coeff_group.specs.laws.Sizes.{order-lt}
+use Rattle.hf_coeff_group.specs.laws.Stored.{stretch-long}
 
 -- a count and a symbol for each place
 abbrev pub symbolsIn : List Item → ℕ
@@ -42,7 +42,7 @@ module _ (P : Pass) (whole : length (P .store) ≡ 2 * PLACES) where
       let a : length s ≡ 2 * (widthOf (orderOf t) * heightOf (orderOf t)) = stretch-long (P .store) whole (orderOf t) c (order-lt t h) hc in
       let b = places t h in
       let p : length (paired s) ≡ length s / 2 = length-paired s in
-      length-places (turns t) (8 * P .width) (8 * v .x) (8 * v .y) (drop (blocksOf v) (paired s)) ∙ length-drop (blocksOf v) (paired s) ∙ omega arith
+      length-places (turns t) (8 * P .bw) (8 * v .x) (8 * v .y) (drop (blocksOf v) (paired s)) ∙ length-drop (blocksOf v) (paired s) ∙ omega arith
 
   pub varblock-symbols : (v : Varblock) → v .type < 27 → symbolsIn (channels P v) ≤ 192 * blocksOf v
   unfolding itemOf
@@ -58,6 +58,6 @@ module _ (P : Pass) (whole : length (P .store) ≡ 2 * PLACES) where
   group-symbols (v ∷ vs) f =
       rw (symbols-both (channels P v) (itemsOf P vs)) (omega (arith, varblock-symbols v (f v (first refl)), group-symbols vs (λ u j. f u (later j))))
 
-  pub most-symbols : Layout (P .width) (P .height) (P .kinds) (P .muls) → symbolsIn (itemsOf P (varblocks P)) ≤ 192 * (P .height * P .width)
+  pub most-symbols : Layout (P .bw) (P .bh) (P .kinds) (P .hfMul) → symbolsIn (itemsOf P (varblocks P)) ≤ 192 * (P .bh * P .bw)
   most-symbols lay =
-      omega (arith, group-symbols (varblocks P) (known lay), layout-area (P .width) (P .height) (P .kinds) (P .muls) lay, mul-comm (P .width) (P .height))
+      omega (arith, group-symbols (varblocks P) (known lay), layout-area (P .bw) (P .bh) (P .kinds) (P .hfMul) lay, mul-comm (P .bw) (P .bh))

@@ -12,7 +12,7 @@ use lib.Seq.{sets}
 use Rattle.refusal.specs.declared.Refusal.{Refusal}
 use Rattle.refusal.specs.declared.Refusal.the-variants.{SymbolsEnd, TooManyZeros, Count}
 use Rattle.hf_coeff_walk.specs.Walk.{Walked, ended, stopped, walk, coeffContext, flag, less, gain}
-use Rattle.hf_coeff_walk.specs.Kept.{length-gain}
+use Rattle.hf_coeff_walk.specs.laws.Kept.{length-gain}
 use Rattle.hf_coeff_walk.specs.laws.Contexts.{context-below}
 use Rattle.hf_coeff_walk.specs.Sent.{Words, more, nonZeros, upTo}
 

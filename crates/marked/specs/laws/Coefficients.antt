@@ -9,6 +9,7 @@ use lib.Seq.{sets, sets-eq, take-all, getD-take, getD-drop}
 use borrow.Author.Tests.{eq-eqb, le-leb}
 use Rattle.refusal.specs.declared.Refusal.the-variants.{Preset}
 use Rattle.refusal.specs.Said as refusals
+use Rattle.refusal.specs.Said.{said}
 use Rattle.bits.specs.Bits.{Value, readBits, bitsOf, valueOf}
 use Rattle.coded_numbers.specs.Exponent.{exponent, exponentFrom}
 use Rattle.dct_select.specs.Transforms.{TRANSFORMS, wide, high}
@@ -21,12 +22,14 @@ use Rattle.block_context.specs.Record.{fit, fitOf, bsizeOf}
 use Rattle.hf_block_context.specs.Call.{contextsOf}
 use Rattle.hf_pass_store.specs.Store.{PLACES}
 use Rattle.hf_coeff_walk.specs.Item.{counted}
+use Rattle.refusal.specs.Answer.{gives, refuses}
+use Rattle.hf_coeff_group.specs.Group.{Reading, going, item, read, zeroRows}
+use Rattle.hf_coeff_group.specs.laws.GroupLaws.{group-items}
 use Rattle.hf_coeff_group.specs.Pass.{Pass, varblocks, itemOf, itemsOf}
-use Rattle.hf_coeff_group.specs.Group.{Reading, going, item, read, group-items}
+use Rattle.hf_coeff_checks.specs.Checks.{layoutFits, sidesFit}
+use Rattle.hf_coeff.specs.Call.{Outcome, leaves, lengthsFit, presetMap, reading, outcome, refuse, readPreset, call, Passed}
+use Rattle.hf_coeff.specs.laws.CallLaws.{checks-pass, call-preset, call-reads}
 use Rattle.hf_coeff.specs.declared.CoeffAnswer.the-variants.{Accepted}
-use Rattle.hf_coeff.specs.Call.{reads, refuses, Outcome, leaves, lengthsFit, layoutFits, sidesFit, presetMap, reading, outcome, refuse, readPreset, call}
-use Rattle.hf_coeff.specs.CallLaws.{call-preset, call-reads}
-use Rattle.hf_coeff.specs.CallSteps.{Passed}
 use Rattle.one_to_one.specs.Plain.{store, plain}
 use Rattle.one_to_one.specs.laws.Computes.{reading-computes}
 use Rattle.one_to_one.specs.laws.Plain.{store-long, store-fits, order-0, order-2}
@@ -88,12 +91,12 @@ no-bits bytes = rw (le-leb 0 (length (bitsOf bytes)) (omega arith))
 -- M9
 count-252 : (stretch log g0 g1 g2 : List ℕ)
     → outcome (read 0 15 stretch (itemsOf square (varblocks square))
-    (going (252 ∷ (replicate 252 2 ++ (0 ∷ 0 ∷ []))) 0 log (g0 ∷ g1 ∷ g2 ∷ []) ((0 ∷ 0 ∷ []) ∷ (0 ∷ 0 ∷ []) ∷ (0 ∷ 0 ∷ []) ∷ []) 0)) .answer ≡ reads 255
+    (going (252 ∷ (replicate 252 2 ++ (0 ∷ 0 ∷ []))) 0 log (g0 ∷ g1 ∷ g2 ∷ []) zeroRows 0)) .answer ≡ gives 255
 unfolding reading-computes
 count-252 stretch log g0 g1 g2 = rw (order-2 0 (omega arith), order-2 1 (omega arith), order-2 2 (omega arith))
 
 count-253 : (stretch us log g0 g1 g2 : List ℕ)
-    → outcome (read 0 15 stretch (itemsOf square (varblocks square)) (going (253 ∷ us) 0 log (g0 ∷ g1 ∷ g2 ∷ []) ((0 ∷ 0 ∷ []) ∷ (0 ∷ 0 ∷ []) ∷ (0 ∷ 0 ∷ []) ∷ []) 0)) .answer
+    → outcome (read 0 15 stretch (itemsOf square (varblocks square)) (going (253 ∷ us) 0 log (g0 ∷ g1 ∷ g2 ∷ []) zeroRows 0)) .answer
     ≡ refuses (refusals.at 16 1 0)
 unfolding itemsOf itemOf cornersRow cornersFrom wide high TRANSFORMS read item counted
 count-253 stretch us log g0 g1 g2 = refl
@@ -105,7 +108,7 @@ clusters stretch =
     getD stretch 300 0 ∷ getD part 63 0 ∷ getD part 3 0 ∷ getD part 4 0 ∷ getD stretch 307 0 ∷ getD stretch 307 0 ∷ []
 
 dct8-reads : (stretch log g0 g1 g2 : List ℕ)
-    → outcome (read 0 15 stretch (itemsOf block (varblocks block)) (going (2 ∷ 3 ∷ 0 ∷ 4 ∷ 0 ∷ 0 ∷ []) 0 log (g0 ∷ g1 ∷ g2 ∷ []) ((0 ∷ []) ∷ (0 ∷ []) ∷ (0 ∷ []) ∷ []) 0))
+    → outcome (read 0 15 stretch (itemsOf block (varblocks block)) (going (2 ∷ 3 ∷ 0 ∷ 4 ∷ 0 ∷ 0 ∷ []) 0 log (g0 ∷ g1 ∷ g2 ∷ []) zeroRows 0))
     ≡ leaves (Accepted 6) (sets log 0 (clusters stretch)) g0 (gains (gains g1 8 (2 ^ 32 - 2)) 2 2) g2
 unfolding reading-computes
 dct8-reads stretch log g0 g1 g2 = rw (order-0 0 (omega arith), order-0 1 (omega arith), order-0 2 (omega arith))
@@ -133,17 +136,17 @@ module _ (map log g0 g1 g2 : List ℕ) (room : Room 1 4 map log g0 g1 g2) where
       )
 
   dct16-call : (symbols : List ℕ) → call (dct16 map symbols log g0 g1 g2)
-      ≡ outcome (read 0 15 map (itemsOf square (varblocks square)) (going symbols 0 log (g0 ∷ g1 ∷ g2 ∷ []) ((0 ∷ 0 ∷ []) ∷ (0 ∷ 0 ∷ []) ∷ (0 ∷ 0 ∷ []) ∷ []) 0))
+      ≡ outcome (read 0 15 map (itemsOf square (varblocks square)) (going symbols 0 log (g0 ∷ g1 ∷ g2 ∷ []) zeroRows 0))
   unfolding reading contextsOf
   dct16-call symbols =
-      let start : Reading = going symbols 0 log (g0 ∷ g1 ∷ g2 ∷ []) ((0 ∷ 0 ∷ []) ∷ (0 ∷ 0 ∷ []) ∷ (0 ∷ 0 ∷ []) ∷ []) 0 in
+      let start : Reading = going symbols 0 log (g0 ∷ g1 ∷ g2 ∷ []) zeroRows 0 in
       let L = dct16 map symbols log g0 g1 g2 in
-      call-reads L (sided .1) refl defaults-fit (dct16-lengths symbols) square-laid store-fits 0 0 (no-bits []) (omega arith)
+      call-reads L (checks-pass L (record { sides = sided .1; parameters = refl; contexts = defaults-fit; lengths = dct16-lengths symbols; layout = square-laid; places = store-fits })) 0 0 (no-bits []) (omega arith)
       ∙ ap outcome (group-items 0 15 (presetMap L 0) square (varblocks square) start
       ∙ ap (λ (m : List ℕ). read 0 15 m (itemsOf square (varblocks square)) start) (whole 7425 map (room .entries)))
 
   -- count 252 passes: accepted, with as many symbols that are not 0
-  pub passes-252 : call (dct16 map (252 ∷ (replicate 252 2 ++ (0 ∷ 0 ∷ []))) log g0 g1 g2) .answer ≡ reads 255
+  pub passes-252 : call (dct16 map (252 ∷ (replicate 252 2 ++ (0 ∷ 0 ∷ []))) log g0 g1 g2) .answer ≡ gives 255
   passes-252 = ap (λ (o : Outcome). o .answer) (dct16-call (252 ∷ (replicate 252 2 ++ (0 ∷ 0 ∷ [])))) ∙ count-252 map log g0 g1 g2
 
   -- count 253 is refused, whatever follows
@@ -152,13 +155,13 @@ module _ (map log g0 g1 g2 : List ℕ) (room : Room 1 4 map log g0 g1 g2) where
 
 module _ (map log g0 g1 g2 : List ℕ) (room : Room 1 1 map log g0 g1 g2) where
   dct8-call : (symbols : List ℕ) → call (dct8 1 map [] symbols log g0 g1 g2)
-      ≡ outcome (read 0 15 map (itemsOf block (varblocks block)) (going symbols 0 log (g0 ∷ g1 ∷ g2 ∷ []) ((0 ∷ []) ∷ (0 ∷ []) ∷ (0 ∷ []) ∷ []) 0))
+      ≡ outcome (read 0 15 map (itemsOf block (varblocks block)) (going symbols 0 log (g0 ∷ g1 ∷ g2 ∷ []) zeroRows 0))
   unfolding reading contextsOf
   dct8-call symbols =
-      let start : Reading = going symbols 0 log (g0 ∷ g1 ∷ g2 ∷ []) ((0 ∷ []) ∷ (0 ∷ []) ∷ (0 ∷ []) ∷ []) 0 in
+      let start : Reading = going symbols 0 log (g0 ∷ g1 ∷ g2 ∷ []) zeroRows 0 in
       let L = dct8 1 map [] symbols log g0 g1 g2 in
       let p = dct8-passed 1 (omega arith) map [] symbols log g0 g1 g2 (room .entries) (room .bytes) (room .cells0) (room .cells1) (room .cells2) in
-      call-reads L (p .sides) (p .parameters) (p .contexts) (p .lengths) (p .layout) (p .places) 0 0 (no-bits []) (omega arith)
+      call-reads L (checks-pass L p) 0 0 (no-bits []) (omega arith)
       ∙ ap outcome (group-items 0 15 (presetMap L 0) block (varblocks block) start
       ∙ ap (λ (m : List ℕ). read 0 15 m (itemsOf block (varblocks block)) start) (whole 7425 map (room .entries)))
 
@@ -189,15 +192,15 @@ module _ (map symbols log g0 g1 g2 : List ℕ) (room : Room 3 1 map log g0 g1 g2
   reads-two-bits b rest = two-bits b rest
 
   -- 3 is refused
-  pub refuses-3 : (rest : List ℕ) → call (dct8 3 map (3 ∷ rest) symbols log g0 g1 g2) ≡ refuse (dct8 3 map (3 ∷ rest) symbols log g0 g1 g2) (Preset 2)
+  pub refuses-3 : (rest : List ℕ) → call (dct8 3 map (3 ∷ rest) symbols log g0 g1 g2) ≡ refuse (dct8 3 map (3 ∷ rest) symbols log g0 g1 g2) (said (Preset 2))
   refuses-3 rest =
       let p = passed (3 ∷ rest) in
-      call-preset (dct8 3 map (3 ∷ rest) symbols log g0 g1 g2) (p .sides) (p .parameters) (p .contexts) (p .lengths) (p .layout) (p .places) 3 2 (two-bits 3 rest) (omega arith)
+      call-preset (dct8 3 map (3 ∷ rest) symbols log g0 g1 g2) (checks-pass (dct8 3 map (3 ∷ rest) symbols log g0 g1 g2) p) 3 2 (two-bits 3 rest) (omega arith)
 
   -- 0, 1 and 2 are read with
   pub takes-others : (n : ℕ) (rest : List ℕ) → n < 3 → call (dct8 3 map (n ∷ rest) symbols log g0 g1 g2) ≡ outcome (reading (dct8 3 map (n ∷ rest) symbols log g0 g1 g2) n)
   takes-others n rest h =
       let p = passed (n ∷ rest) in
       let e : n % 4 ≡ n = omega arith in
-      call-reads (dct8 3 map (n ∷ rest) symbols log g0 g1 g2) (p .sides) (p .parameters) (p .contexts) (p .lengths) (p .layout) (p .places) n 2
+      call-reads (dct8 3 map (n ∷ rest) symbols log g0 g1 g2) (checks-pass (dct8 3 map (n ∷ rest) symbols log g0 g1 g2) p) n 2
       (two-bits n rest ∙ ap (λ (k : ℕ). Value k 2) e) h

@@ -1,4 +1,4 @@
-use Rattle.netbuff_coefficients.specs.Coefficients.{coeff-leaves}
+use Rattle.netbuff_coefficients.specs.laws.Coefficients.{coeff-leaves}
 use borrow.Author.Needs.{needs}
 use Rattle.netbuff_coefficients.proofs.netbuff_coefficients.Statement.{statement}
 use Rattle.netbuff_coefficients.proofs.netbuff_coefficients.Tie as tie

@@ -22,20 +22,20 @@ use Rattle.hf_coeff_group.specs.Sequence.{theSequence}
 
 module _ (L : Lent) (given : Given L) where
   -- a group that an accepted cut call wrote is one that 18 lets pass, 1 to 32 blocks each way
-  passes : checkOf 32 (L .pass .width) (L .pass .height) (L .pass .kinds) (L .pass .muls) ≡ gives tt
+  passes : checkOf 32 (L .pass .bw) (L .pass .bh) (L .pass .kinds) (L .pass .hfMul) ≡ gives tt
   passes =
       let l = layoutOf (given .inputs) (given .kinds) (given .hfMul) (given .sigma) in
       let c = cut-checks (bwOf (given .inputs)) (bhOf (given .inputs)) (l .kinds) (l .hfMul) (given .g) (given .outKinds) (given .outMuls)
-      (group (L .pass .width) (L .pass .height)) (ap (λ o. o .answer) (given .cutting)) in
+      (group (L .pass .bw) (L .pass .bh)) (ap (λ o. o .answer) (given .cutting)) in
       rw (given .cutting) at c
 
-  sides-in : Sided 32 (L .pass .width) (L .pass .height)
-  sides-in = checked 32 (L .pass .width) (L .pass .height) (L .pass .kinds) (L .pass .muls) passes .0
+  sides-in : Sided 32 (L .pass .bw) (L .pass .bh)
+  sides-in = checked 32 (L .pass .bw) (L .pass .bh) (L .pass .kinds) (L .pass .hfMul) passes .0
 
   pub fixed-by-calls : Fixed L
   fixed-by-calls = record {
-    sides = limits-in 32 (L .pass .width) (L .pass .height) sides-in;
-    layout = checked 32 (L .pass .width) (L .pass .height) (L .pass .kinds) (L .pass .muls) passes .1;
+    sides = limits-in 32 (L .pass .bw) (L .pass .bh) sides-in;
+    layout = checked 32 (L .pass .bw) (L .pass .bh) (L .pass .kinds) (L .pass .hfMul) passes .1;
     contexts = rw (given .record-is) (accepted-fit (given .bytes) (given .areBytes) (given .count) (given .map) (given .bitsRead) (given .contexts));
     orders = given .wrote;
     rest = given .rest;

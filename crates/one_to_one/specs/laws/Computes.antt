@@ -26,8 +26,8 @@ use Rattle.hf_block_context.specs.Call.{contextsOf}
 use Rattle.hf_coeff_walk.specs.Walk.{walk, coeffContext, FREQ, NUM-NONZERO}
 use Rattle.hf_coeff_walk.specs.Places.{placesOf}
 use Rattle.hf_coeff_walk.specs.Item.{counted}
-use Rattle.hf_coeff_group.specs.Pass.{itemOf, itemsOf}
 use Rattle.hf_coeff_group.specs.Group.{Grids, item, read}
+use Rattle.hf_coeff_group.specs.Pass.{itemOf, itemsOf}
 use Rattle.one_to_one.specs.Filling.{isLow, wanted}
 use Rattle.hf_coeff_group.specs.Sequence.{cell, sent, theSequence}
 use Rattle.hf_coeff_walk.specs.Sent.{nonZeros, upTo}

@@ -10,9 +10,10 @@ use Rattle.layout.specs.laws.Corners.{Apart, corners-apart}
 use Rattle.layout.specs.laws.Rectangles.{right, bottom, covers}
 use Rattle.layout.specs.laws.Theorems.{disjoint, layout-area}
 use Rattle.layout.specs.Varblocks.{Varblock, area}
+use Rattle.hf_coeff_group.specs.Group.{Grids, zeroRows}
 use Rattle.hf_coeff_group.specs.Pass.{varblocks, itemsOf}
-use Rattle.hf_coeff_group.specs.Group.{Grids}
-use Rattle.hf_coeff.specs.Call.{Lent, clustersOf, rowsOf, presetMap}
+use Rattle.hf_coeff_group.specs.Work.{clustersOf}
+use Rattle.hf_coeff.specs.Call.{Lent, presetMap}
 use Rattle.one_to_one.specs.Filling.{Disjoint, Fixed, Filling, Fills, Fails}
 use Rattle.one_to_one.specs.laws.OneToOne as over
 use Rattle.one_to_one.specs.laws.OneToOne.{sequence-words}
@@ -31,7 +32,7 @@ module _ (L : Lent) (fixed : Fixed L) where
         let G = group L fixed W filling in (
           sequence-words items (L .grids) W (G .few),
           λ s h.
-              let o = over.one-to-one (clustersOf P) (presetMap L (fixed .rest .preset)) items (L .grids) W G (L .log) (rowsOf P) s h in
+              let o = over.one-to-one (clustersOf P) (presetMap L (fixed .rest .preset)) items (L .grids) W G (L .log) zeroRows s h in
               let f = same L fixed W filling s in
               ((λ x. o .0 (f .0 x)), (λ x. f .1 (o .1 x))),
         )
@@ -48,7 +49,7 @@ module _ (L : Lent) (fixed : Fixed L) where
     (λ u i x y p q.
         let j = f v (first refl) in let k = f u (later i) in
         let b = p .right in let c = right (fixed .layout) v j in let d = p .bottom in let e = bottom (fixed .layout) v j in
-        let o = disjoint (L .pass .width) (L .pass .height) (L .pass .kinds) (L .pass .muls) (fixed .layout) (u .x) (u .y) (v .x) (v .y) x y (omega arith) (omega arith)
+        let o = disjoint (L .pass .bw) (L .pass .bh) (L .pass .kinds) (L .pass .hfMul) (fixed .layout) (u .x) (u .y) (v .x) (v .y) x y (omega arith) (omega arith)
         (covers (fixed .layout) u k x y (q .left) (q .right) (q .top) (q .bottom)) (covers (fixed .layout) v j x y (p .left) (p .right) (p .top) (p .bottom)) in
         a .0 u i (o .0) (o .1)),
     none-shared vs (λ u j. f u (later j)) (a .1),
@@ -56,8 +57,8 @@ module _ (L : Lent) (fixed : Fixed L) where
 
   -- the varblocks are disjoint
   pub apart : Disjoint (varblocks (L .pass))
-  apart = none-shared (varblocks (L .pass)) (λ v i. i) (corners-apart (at (L .pass .kinds) (L .pass .width)) (at (L .pass .muls) (L .pass .width)) (L .pass .width) (L .pass .height))
+  apart = none-shared (varblocks (L .pass)) (λ v i. i) (corners-apart (at (L .pass .kinds) (L .pass .bw)) (at (L .pass .hfMul) (L .pass .bw)) (L .pass .bw) (L .pass .bh))
 
   -- their areas sum to the group's blocks
-  pub areas : area (varblocks (L .pass)) ≡ L .pass .width * L .pass .height
-  areas = layout-area (L .pass .width) (L .pass .height) (L .pass .kinds) (L .pass .muls) (fixed .layout)
+  pub areas : area (varblocks (L .pass)) ≡ L .pass .bw * L .pass .bh
+  areas = layout-area (L .pass .bw) (L .pass .bh) (L .pass .kinds) (L .pass .hfMul) (fixed .layout)

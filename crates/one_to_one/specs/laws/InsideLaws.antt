@@ -11,8 +11,8 @@ use lib.Seq.{sets, length-sets, length-take-le}
 use borrow.Author.Tests.{leb-true, leb-false}
 use Rattle.refusal.specs.declared.Refusal.the-variants.{Count}
 use Rattle.hf_coeff_walk.specs.Walk.{FREQ, NUM-NONZERO, Walked, stopped, walk, coeffContext, flag, less, gain}
-use Rattle.hf_coeff_walk.specs.Kept.{length-gain}
-use Rattle.hf_coeff_walk.specs.Counts.{count-over}
+use Rattle.hf_coeff_walk.specs.laws.Kept.{length-gain}
+use Rattle.hf_coeff_walk.specs.laws.Counts.{count-over}
 use Rattle.hf_coeff_walk.specs.Item.{Item, predicted, countIndex, countOver, rowOf, newRow, countCluster, coeffPart, counted}
 use Rattle.hf_coeff_group.specs.Group.{Grids, Reading, going, refused, after, item}
 use Rattle.hf_coeff_walk.specs.laws.Walks.{End, ends, stops, walkedBy, gains, length-gains, run}
@@ -81,7 +81,7 @@ row-long row x (suc n) v = row-long (set row x v) (x + 1) n v ∙ length-set row
 
 -- Items.
 
--- what no symbol decides of an item, in a group so wide with grids of so many cells
+-- what no symbol decides of an item, with rows so wide and grids of so many cells
 pub record Sound (width cells clusters : ℕ) (it : Item) : Type 0 where
   pub channel : it .channel < 3
   pub some : 1 ≤ it .wide
@@ -91,7 +91,7 @@ pub record Sound (width cells clusters : ℕ) (it : Item) : Type 0 where
   pub size : length (it .places) ≡ 63 * it .blocks
   pub places : (p : ℕ) → In p (it .places) → p < cells
 
--- a reading with three grids of so many cells, three rows as wide as the group, and room in the log for so many more symbols
+-- a reading with three grids of so many cells, three rows so wide, and room in the log for so many more symbols
 pub record Sane (width many due at : ℕ) (log : List ℕ) (grids rows : Grids) : Type 0 where
   pub three : 3 ≤ length grids
   pub cells : (c : ℕ) → c < 3 → length (getD grids c []) ≡ many

@@ -25,11 +25,11 @@ use Rattle.hf_pass_store.specs.Store.{stretch}
 use Rattle.hf_pass.specs.Call.{Wrote}
 use Rattle.hf_pass.specs.laws.Wrote.{listOf, wrote-order, wrote-stretch}
 use Rattle.hf_coeff_walk.specs.Places.{across, down, cellOf}
-use Rattle.hf_coeff_walk.specs.PlaceLaws.{length-places}
+use Rattle.hf_coeff_walk.specs.laws.PlaceLaws.{length-places}
 use Rattle.hf_coeff_walk.specs.Item.{Item}
-use Rattle.hf_coeff_group.specs.Pass.{Pass, varblocks, blocksOf, placesAt, itemOf, itemsOf}
 use Rattle.hf_coeff_group.specs.Group.{Grids}
-use Rattle.hf_coeff_group.specs.Sizes.{order-lt}
+use Rattle.hf_coeff_group.specs.Pass.{Pass, varblocks, blocksOf, placesAt, itemOf, itemsOf}
+use Rattle.hf_coeff_group.specs.laws.Sizes.{order-lt}
 use Rattle.one_to_one.specs.Filling.{many, Place as PlaceOf, LaidOut, Sized, Low, LowKept}
 use Rattle.hf_coeff_group.specs.laws.Cells.{Distinct, distinct-both, distinct-map, Fit, In}
 use Rattle.one_to_one.specs.laws.Spread.{Spread, spread-of, place-in, in-place, cell-row, cell-column, distinct-places}
@@ -97,7 +97,7 @@ module _ (P : Pass) where
 
 module _ (P : Pass) (lay : LaidOut P) (ord : Ordered P) where
   abbrev K : ℕ → ℕ → ℕ
-  K = at (P .kinds) (P .width)
+  K = at (P .kinds) (P .bw)
 
   -- one channel of a varblock
   module _ (v : Varblock) (i : Among v (varblocks P)) (c : ℕ) (hc : c < 3) where
@@ -110,58 +110,58 @@ module _ (P : Pass) (lay : LaidOut P) (ord : Ordered P) where
     pub spread : Spread turn (wide (v .type)) (high (v .type)) rest
     spread = spread-of (v .type) (known lay v i) (paired (stretch (P .store) (orderOf (v .type)) c)) (ord (orderOf (v .type)) c (order-lt (v .type) (known lay v i)) hc)
 
-    in-row : (q : Place) → In q rest → 8 * v .x + across turn q < 8 * P .width
+    in-row : (q : Place) → In q rest → 8 * v .x + across turn q < 8 * P .bw
     in-row q j = let a = spread .inside q j .0 in omega (arith, right lay v i)
 
     places-size : length (placesAt P v c) ≡ 63 * blocksOf v
-    places-size = length-places turn (8 * P .width) (8 * v .x) (8 * v .y) rest ∙ spread .size
+    places-size = length-places turn (8 * P .bw) (8 * v .x) (8 * v .y) rest ∙ spread .size
 
     cells-distinct : Distinct (map {B = Cell} (λ (p : ℕ). (c, p)) (placesAt P v c))
-    cells-distinct = distinct-map (λ (p : ℕ). (c, p)) (placesAt P v c) (λ p q j k e. ap (λ (x : Cell). x .1) e) (distinct-places turn (8 * P .width) (8 * v .x) (8 * v .y) rest in-row (spread .distinct))
+    cells-distinct = distinct-map (λ (p : ℕ). (c, p)) (placesAt P v c) (λ p q j k e. ap (λ (x : Cell). x .1) e) (distinct-places turn (8 * P .bw) (8 * v .x) (8 * v .y) rest in-row (spread .distinct))
 
     places-inside : (p : ℕ) → In p (placesAt P v c) → p < many P
     places-inside p j =
-        let r = in-place turn (8 * P .width) (8 * v .x) (8 * v .y) rest p j in
+        let r = in-place turn (8 * P .bw) (8 * v .x) (8 * v .y) rest p j in
         let d = spread .inside (r .0) (r .1) .1 in
         rw (← (r .2)) (digits-lt (omega (arith, bottom lay v i)) (in-row (r .0) (r .1)))
 
     -- where a place lies
-    place-at : (p : ℕ) → In p (placesAt P v c) → (q : Place) × In q rest × (p % (8 * P .width) ≡ 8 * v .x + across turn q) × (p / (8 * P .width) ≡ 8 * v .y + down turn q)
+    place-at : (p : ℕ) → In p (placesAt P v c) → (q : Place) × In q rest × (p % (8 * P .bw) ≡ 8 * v .x + across turn q) × (p / (8 * P .bw) ≡ 8 * v .y + down turn q)
     place-at p j =
-        let r = in-place turn (8 * P .width) (8 * v .x) (8 * v .y) rest p j in
+        let r = in-place turn (8 * P .bw) (8 * v .x) (8 * v .y) rest p j in
         let h = in-row (r .0) (r .1) in (
           r .0,
           r .1,
-          ap (λ (x : ℕ). x % (8 * P .width)) (sym (r .2)) ∙ cell-column turn (8 * P .width) (8 * v .x) (8 * v .y) (r .0) h,
-          ap (λ (x : ℕ). x / (8 * P .width)) (sym (r .2)) ∙ cell-row turn (8 * P .width) (8 * v .x) (8 * v .y) (r .0) h,
+          ap (λ (x : ℕ). x % (8 * P .bw)) (sym (r .2)) ∙ cell-column turn (8 * P .bw) (8 * v .x) (8 * v .y) (r .0) h,
+          ap (λ (x : ℕ). x / (8 * P .bw)) (sym (r .2)) ∙ cell-row turn (8 * P .bw) (8 * v .x) (8 * v .y) (r .0) h,
         )
 
     -- each place lies in the varblock's rectangle
-    places-covered : (p : ℕ) → In p (placesAt P v c) → Covers K (v .x) (v .y) (p % (8 * P .width) / 8) (p / (8 * P .width) / 8)
+    places-covered : (p : ℕ) → In p (placesAt P v c) → Covers K (v .x) (v .y) (p % (8 * P .bw) / 8) (p / (8 * P .bw) / 8)
     places-covered p j =
         let r = place-at p j in
         let x = r .2 in let y = r .3 in
         let a = spread .inside (r .0) (r .1) .0 in let d = spread .inside (r .0) (r .1) .1 in
-        covers lay v i (p % (8 * P .width) / 8) (p / (8 * P .width) / 8) (omega arith) (omega arith) (omega arith) (omega arith)
+        covers lay v i (p % (8 * P .bw) / 8) (p / (8 * P .bw) / 8) (omega arith) (omega arith) (omega arith) (omega arith)
 
   -- the block of a cell
-  in-block : (p : ℕ) → p < many P → (p % (8 * P .width) / 8 < P .width) × (p / (8 * P .width) / 8 < P .height)
-  in-block p h = go (ℕ-discrete (P .width) 0)
+  in-block : (p : ℕ) → p < many P → (p % (8 * P .bw) / 8 < P .bw) × (p / (8 * P .bw) / 8 < P .bh)
+  in-block p h = go (ℕ-discrete (P .bw) 0)
     where
-      go : Dec (P .width ≡ 0) → (p % (8 * P .width) / 8 < P .width) × (p / (8 * P .width) / 8 < P .height)
-      go (yes e) = let z : p < 8 * P .height * (8 * 0) = rw e at h in absurd (omega arith)
+      go : Dec (P .bw ≡ 0) → (p % (8 * P .bw) / 8 < P .bw) × (p / (8 * P .bw) / 8 < P .bh)
+      go (yes e) = let z : p < 8 * P .bh * (8 * 0) = rw e at h in absurd (omega arith)
       go (no n) =
-          let pos : 0 < 8 * P .width = omega arith in
-          let x : p % (8 * P .width) < 8 * P .width = mod-lt p pos in
-          let y : p / (8 * P .width) < 8 * P .height = div-lt-iff-lt-mul {k = 8 * P .width} {x = p} {y = 8 * P .height} pos .1 h in
+          let pos : 0 < 8 * P .bw = omega arith in
+          let x : p % (8 * P .bw) < 8 * P .bw = mod-lt p pos in
+          let y : p / (8 * P .bw) < 8 * P .bh = div-lt-iff-lt-mul {k = 8 * P .bw} {x = p} {y = 8 * P .bh} pos .1 h in
           (omega arith, omega arith)
 
   -- rectangles with the block of one cell are one
-  one-corner : (u v : Varblock) (p : ℕ) → p < many P → Covers K (u .x) (u .y) (p % (8 * P .width) / 8) (p / (8 * P .width) / 8)
-      → Covers K (v .x) (v .y) (p % (8 * P .width) / 8) (p / (8 * P .width) / 8) → (u .x ≡ v .x) × (u .y ≡ v .y)
+  one-corner : (u v : Varblock) (p : ℕ) → p < many P → Covers K (u .x) (u .y) (p % (8 * P .bw) / 8) (p / (8 * P .bw) / 8)
+      → Covers K (v .x) (v .y) (p % (8 * P .bw) / 8) (p / (8 * P .bw) / 8) → (u .x ≡ v .x) × (u .y ≡ v .y)
   one-corner u v p h a b =
       let k = in-block p h in
-      disjoint (P .width) (P .height) (P .kinds) (P .muls) lay (u .x) (u .y) (v .x) (v .y) (p % (8 * P .width) / 8) (p / (8 * P .width) / 8) (k .0) (k .1) a b
+      disjoint (P .bw) (P .bh) (P .kinds) (P .hfMul) lay (u .x) (u .y) (v .x) (v .y) (p % (8 * P .bw) / 8) (p / (8 * P .bw) / 8) (k .0) (k .1) a b
 
   pub item-size : (it : Item) → In it (itemsOf P (varblocks P)) → (it .blocks ≤ 1024) × (length (it .places) ≡ 63 * it .blocks)
   item-size = each-item P (λ it. (it .blocks ≤ 1024) × (length (it .places) ≡ 63 * it .blocks)) (varblocks P) (λ v j n c hn hc. unfold itemOf in (few lay v j, places-size v j c hc))
@@ -205,36 +205,36 @@ module _ (P : Pass) (lay : LaidOut P) (ord : Ordered P) where
           a .0 (s .0) (s .1) (o .0) (o .1)
 
   pub cells-apart : Distinct (cellsOf (itemsOf P (varblocks P)))
-  cells-apart = distinct-from (varblocks P) (λ v i. i) (corners-apart K (at (P .muls) (P .width)) (P .width) (P .height))
+  cells-apart = distinct-from (varblocks P) (λ v i. i) (corners-apart K (at (P .hfMul) (P .bw)) (P .bw) (P .bh))
 
   -- every cell is low-frequency or a place
   pub low-or-held : (c p : ℕ) → c < 3 → p < many P → Low P p ⊎ PlaceOf P c p
   low-or-held c p hc h =
       let b = in-block p h in
-      let o = lay .valid .owned (p % (8 * P .width) / 8) (p / (8 * P .width) / 8) (b .0) (b .1) in
+      let o = lay .valid .owned (p % (8 * P .bw) / 8) (p / (8 * P .bw) / 8) (b .0) (b .1) in
       let w = o .covers in
       let x = w .fromX in let y = w .fromY in let bx = b .0 in let bY = b .1 in
-      in-it (varblock (o .ox) (o .oy) (K (o .ox) (o .oy) - 2) (at (P .muls) (P .width) (o .ox) (o .oy))) (at-corner lay (o .ox) (o .oy) (omega arith) (omega arith) (w .corner)) (w .fromX) (w .toX) (w .fromY) (w .toY)
+      in-it (varblock (o .ox) (o .oy) (K (o .ox) (o .oy) - 2) (at (P .hfMul) (P .bw) (o .ox) (o .oy))) (at-corner lay (o .ox) (o .oy) (omega arith) (omega arith) (w .corner)) (w .fromX) (w .toX) (w .fromY) (w .toY)
     where
-      in-it : (v : Varblock) → Among v (varblocks P) → v .x ≤ p % (8 * P .width) / 8 → p % (8 * P .width) / 8 < v .x + wide (v .type)
-          → v .y ≤ p / (8 * P .width) / 8 → p / (8 * P .width) / 8 < v .y + high (v .type) → Low P p ⊎ PlaceOf P c p
+      in-it : (v : Varblock) → Among v (varblocks P) → v .x ≤ p % (8 * P .bw) / 8 → p % (8 * P .bw) / 8 < v .x + wide (v .type)
+          → v .y ≤ p / (8 * P .bw) / 8 → p / (8 * P .bw) / 8 < v .y + high (v .type) → Low P p ⊎ PlaceOf P c p
       in-it v i l r u d = cases (decLt dx (wide (v .type))) (decLt dy (high (v .type)))
         where
           dx : ℕ
-          dx = p % (8 * P .width) - 8 * v .x
+          dx = p % (8 * P .bw) - 8 * v .x
 
           dy : ℕ
-          dy = p / (8 * P .width) - 8 * v .y
+          dy = p / (8 * P .bw) - 8 * v .y
 
           place : (dx < wide (v .type) → dy < high (v .type) → ⊥) → PlaceOf P c p
           place n =
               let t = turns (v .type) in
               let s = spread v i c hc .whole dx dy (omega arith) (omega arith) n in
               let sx = s .2 in let sy = s .3 in
-              let ex : 8 * v .x + across t (s .0) ≡ p % (8 * P .width) = omega arith in
-              let ey : 8 * v .y + down t (s .0) ≡ p / (8 * P .width) = omega arith in
+              let ex : 8 * v .x + across t (s .0) ≡ p % (8 * P .bw) = omega arith in
+              let ey : 8 * v .y + down t (s .0) ≡ p / (8 * P .bw) = omega arith in
               holds P (varblocks P) v c p i hc
-              (Memᴰ·cast (sym (ap₂ (λ (a b : ℕ). a * (8 * P .width) + b) ey ex ∙ div-add-mod' p (8 * P .width))) (place-in t (8 * P .width) (8 * v .x) (8 * v .y) (rest v i c hc) (s .0) (s .1)))
+              (Memᴰ·cast (sym (ap₂ (λ (a b : ℕ). a * (8 * P .bw) + b) ey ex ∙ div-add-mod' p (8 * P .bw))) (place-in t (8 * P .bw) (8 * v .x) (8 * v .y) (rest v i c hc) (s .0) (s .1)))
 
           cases : Dec (dx < wide (v .type)) → Dec (dy < high (v .type)) → Low P p ⊎ PlaceOf P c p
           cases (yes a) (yes b) = inl (record { of = v; there = i; left = omega arith; right = omega arith; top = omega arith; bottom = omega arith })
@@ -249,7 +249,7 @@ module _ (P : Pass) (lay : LaidOut P) (ord : Ordered P) where
       let r = place-at v i c (s .2) p (s .3) in
       let a = l .left in let b = l .right in let d = l .top in let e = l .bottom in
       let o = one-corner u v p (places-inside v i c (s .2) p (s .3))
-      (covers lay u (l .there) (p % (8 * P .width) / 8) (p / (8 * P .width) / 8) (omega arith) (omega arith) (omega arith) (omega arith)) (places-covered v i c (s .2) p (s .3)) in
+      (covers lay u (l .there) (p % (8 * P .bw) / 8) (p / (8 * P .bw) / 8) (omega arith) (omega arith) (omega arith) (omega arith)) (places-covered v i c (s .2) p (s .3)) in
       let t : u .type ≡ v .type = type-is lay u (l .there) ∙ ap₂ (λ (x y : ℕ). K x y - 2) (o .0) (o .1) ∙ sym (type-is lay v i) in
       let x = o .0 in let y = o .1 in let px = r .2 in let py = r .3 in
       let w : wide (u .type) ≡ wide (v .type) = ap wide t in let g : high (u .type) ≡ high (v .type) = ap high t in

@@ -8,10 +8,10 @@ use native.Mathlib.Decide.{ℕ-discrete, decLt}
 use lib.ListN.{length, getD, set, length-set}
 use lib.Seq.{sets, set-out, getD-set-same, getD-set-other}
 use Rattle.layout.specs.laws.Theorems.{layout-iff}
-use Rattle.hf_coeff_group.specs.Pass.{Pass, varblocks, itemsOf}
 use Rattle.hf_coeff_group.specs.Group.{Grids}
+use Rattle.hf_coeff_group.specs.Pass.{Pass, varblocks, itemsOf}
 use Rattle.hf_coeff.specs.Call.{Lent, Outcome, outcome, call}
-use Rattle.hf_coeff.specs.Fits.{lengths-fit}
+use Rattle.hf_coeff.specs.laws.CallLaws.{lengths-fit}
 use Rattle.one_to_one.specs.Filling.{many, put, Place, LaidOut, Low, LowKept, Fixed, Filling}
 use Rattle.hf_coeff_group.specs.laws.Cells.{set-below, adds, adds-off, put-cell, put-shape}
 use Rattle.hf_coeff_group.specs.laws.Reads.{joined}
@@ -28,7 +28,7 @@ module _ (L : Lent) (orders : Wrote (L .pass .store)) where
   by-way (work passed preset e) c p hc l =
       let P = L .pass in
       let k = lengths-fit L (passed .lengths) in
-      let lay : LaidOut P = layout-iff (P .width) (P .height) (P .kinds) (P .muls) (k .kinds) (k .muls) .0 (passed .layout) in
+      let lay : LaidOut P = layout-iff (P .bw) (P .bh) (P .kinds) (P .hfMul) (k .kinds) (k .hfMul) .0 (passed .layout) in
       let d = did L preset in
       let G = adds (L .shift) (L .grids) (cellsOf (itemsOf P (varblocks P))) (joined (d .dss)) in
       ap (λ (o : Outcome). cell (o .grids) c p) (e (L .symbols) (L .log) refl ∙ ap outcome (d .is (L .log)) ∙ outcome-by (d .end) (length (d .clusters)) (sets (L .log) 0 (d .clusters)) G)

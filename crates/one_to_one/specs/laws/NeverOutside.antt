@@ -7,7 +7,7 @@ use Prim.Native.Nat.{ℕ, zero, suc, _+_, _*_, _<_, _≤_}
 use native.Mathlib.Omega.{arith}
 use native.Mathlib.Nat.{mul-le-mul, mul-mul-mul-comm, mul-suc, le-refl}
 use lib.Arith.{digits-lt}
-use lib.ListN.{length, getD, drop, replicate, length-drop, length-replicate}
+use lib.ListN.{length, getD, drop, replicate, length-drop}
 use lib.Seq.{length-take-le}
 use Rattle.block_sizes.specs.BlockSizes.{widthOf, heightOf}
 use Rattle.dct_select.specs.Transforms.{wide, high, orderOf, turns}
@@ -28,13 +28,15 @@ use Rattle.hf_pass_places.specs.Places.{Inside}
 use Rattle.hf_pass_places.specs.laws.Places.{fits-at}
 use Rattle.hf_coeff_walk.specs.Places.{across, down}
 use Rattle.hf_coeff_walk.specs.Item.{Item, countCluster}
+use Rattle.hf_coeff_group.specs.Group.{Grids, Reading, going, item, read, zeroRows}
 use Rattle.hf_coeff_group.specs.Pass.{Pass, varblocks, blocksOf, contextOf, placesAt, itemOf, channels, itemsOf}
-use Rattle.hf_coeff_group.specs.Group.{Grids, Reading, going, item, read}
-use Rattle.hf_coeff_group.specs.Sizes.{order-lt}
-use Rattle.hf_coeff_group.specs.Stored.{stretch-long}
-use Rattle.hf_coeff.specs.Call.{Lent, blocks, clustersOf, rowsOf, presetMap}
-use Rattle.hf_coeff.specs.CallSteps.{Passed}
-use Rattle.hf_coeff.specs.Fits.{sides-fit, lengths-fit}
+use Rattle.hf_coeff_group.specs.Work.{clustersOf}
+use Rattle.hf_coeff_group.specs.laws.Sizes.{order-lt}
+use Rattle.hf_coeff_group.specs.laws.Stored.{stretch-long}
+use Rattle.hf_coeff_checks.specs.Checks.{blocks}
+use Rattle.hf_coeff_checks.specs.laws.ChecksLaws.{sides-fit}
+use Rattle.hf_coeff.specs.Call.{Lent, presetMap, Passed}
+use Rattle.hf_coeff.specs.laws.CallLaws.{lengths-fit, grids-fit}
 use Rattle.one_to_one.specs.Filling.{LaidOut}
 use Rattle.one_to_one.specs.laws.Spread.{in-place}
 use Rattle.one_to_one.specs.laws.Items.{each-item}
@@ -65,7 +67,7 @@ pair-inside w h zero (x ∷ y ∷ r) e f q (there i) = absurd (omega arith)
 pair-inside w h (suc n) (x ∷ y ∷ r) e f q (there i) =
     pair-inside w h n r (omega arith) (λ k b. let v : 2 * suc k ≡ suc (suc (2 * k)) = omega arith in let c : suc (suc (2 * k)) + 1 ≡ suc (suc (2 * k + 1)) = omega arith in rw (v, c) at (f (suc k) (omega arith))) q i
 
-module _ (P : Pass) (lay : LaidOut P) (contexts : fit (P .contexts) ≡ true) (whole : length (P .store) ≡ 2 * PLACES) (places : placesFit (P .store) ≡ true) where
+module _ (P : Pass) (lay : LaidOut P) (narrow : P .bw ≤ 32) (contexts : fit (P .contexts) ≡ true) (whole : length (P .store) ≡ 2 * PLACES) (places : placesFit (P .store) ≡ true) where
   module _ (v : Varblock) (i : Among v (varblocks P)) (c : ℕ) (hc : c < 3) where
     -- each place of any store that passes 13 is a cell of the grid
     cell-inside : (p : ℕ) → In p (placesAt P v c) → p < 64 * blocks P
@@ -74,34 +76,34 @@ module _ (P : Pass) (lay : LaidOut P) (contexts : fit (P .contexts) ≡ true) (w
         let k = orderOf t in
         let o = order-lt t (known lay v i) in
         let s = stretch (P .store) k c in
-        let r = in-place (turns t) (8 * P .width) (8 * v .x) (8 * v .y) (drop (blocksOf v) (paired s)) p j in
+        let r = in-place (turns t) (8 * P .bw) (8 * v .x) (8 * v .y) (drop (blocksOf v) (paired s)) p j in
         let q = r .0 in
         let b = pair-inside (widthOf k) (heightOf k) (widthOf k * heightOf k) s (stretch-long (P .store) whole k c o hc) (fits-at (P .store) whole places k c o hc) q (rest-in (blocksOf v) q (paired s) (r .1)) in
         let d : (across (turns t) q < 8 * wide t) × (down (turns t) q < 8 * high t) = inside t (known lay v i) (q .0) (q .1) (b .0) (b .1) in
         let d₀ = d .0 in let d₁ = d .1 in
         let x = right lay v i in let y = bottom lay v i in
-        let m : 8 * P .height * (8 * P .width) ≡ 64 * blocks P = mul-mul-mul-comm 8 (P .height) 8 (P .width) in
+        let m : 8 * P .bh * (8 * P .bw) ≡ 64 * blocks P = mul-mul-mul-comm 8 (P .bh) 8 (P .bw) in
         rw (← m, ← (r .2)) (digits-lt (omega arith) (omega arith))
 
-    sound : (n : ℕ) → n < 3 → Sound (P .width) (64 * blocks P) (clustersOf P) (itemOf P v n c)
+    sound : (n : ℕ) → n < 3 → Sound 32 (64 * blocks P) (clustersOf P) (itemOf P v n c)
     unfolding itemOf
     sound n hn = record {
       channel = hc;
       some = wide-some (v .type) (known lay v i);
-      right = right lay v i;
+      right = let r = right lay v i in omega arith;
       blocks = some-blocks v (known lay v i);
       context = context-lt (P .contexts) n (orderOf (v .type)) (v .hfMul) (P .lfThere) _ _ _ contexts hn (order-lt (v .type) (known lay v i));
       size = places-many P whole v (known lay v i) c hc;
       places = cell-inside;
     }
 
-  all-sound : (it : Item) → In it (itemsOf P (varblocks P)) → Sound (P .width) (64 * blocks P) (clustersOf P) it
-  all-sound = each-item P (Sound (P .width) (64 * blocks P) (clustersOf P)) (varblocks P) (λ v i n c hn hc. sound v i c hc n hn)
+  all-sound : (it : Item) → In it (itemsOf P (varblocks P)) → Sound 32 (64 * blocks P) (clustersOf P) it
+  all-sound = each-item P (Sound 32 (64 * blocks P) (clustersOf P)) (varblocks P) (λ v i n c hn hc. sound v i c hc n hn)
 
 -- Places in the context map: a fit record's four lists, as far as they are used, have a product of at most 64.
 place-inside : (P : Pass) → fit (P .contexts) ≡ true → (v : Varblock) → orderOf (v .type) < 13 → (n : ℕ) → n < 3 → contextPlace P v n < 2496
 place-inside P e v o n h =
-    let a = block-index-lt (used (P .contexts)) n (orderOf (v .type)) (v .hfMul) (P .lfThere) (at (P .lf0) (P .width) (v .x) (v .y)) (at (P .lf1) (P .width) (v .x) (v .y)) (at (P .lf2) (P .width) (v .x) (v .y)) h o in
+    let a = block-index-lt (used (P .contexts)) n (orderOf (v .type)) (v .hfMul) (P .lfThere) (at (P .lf0) (P .bw) (v .x) (v .y)) (at (P .lf1) (P .bw) (v .x) (v .y)) (at (P .lf2) (P .bw) (v .x) (v .y)) h o in
     omega (arith, used-size-le (P .contexts), is-fit (P .contexts) e .size)
 
 -- From items to the group.
@@ -137,7 +139,7 @@ module _ (L : Lent) (passed : Passed L) (preset : ℕ) (below : preset < L .pres
   P = L .pass
 
   lay : LaidOut P
-  lay = let k = lengths-fit L (passed .lengths) in layout-iff (P .width) (P .height) (P .kinds) (P .muls) (k .kinds) (k .muls) .0 (passed .layout)
+  lay = let k = lengths-fit L (passed .lengths) in layout-iff (P .bw) (P .bh) (P .kinds) (P .hfMul) (k .kinds) (k .hfMul) .0 (passed .layout)
 
   stretch-inside : 495 * clustersOf P * preset + 495 * clustersOf P ≤ length (L .clusterMap)
   stretch-inside =
@@ -153,38 +155,38 @@ module _ (L : Lent) (passed : Passed L) (preset : ℕ) (below : preset < L .pres
   corner-inside : (v : Varblock) → Among v (varblocks P) → CornerInside P v
   corner-inside v i =
       let k = lengths-fit L (passed .lengths) in
-      let h : v .y * P .width + v .x < P .height * P .width = place-lt (P .width) (P .height) (v .x) (v .y) (has lay v i .inX) (has lay v i .inY) in
+      let h : v .y * P .bw + v .x < P .bh * P .bw = place-lt (P .bw) (P .bh) (v .x) (v .y) (has lay v i .inX) (has lay v i .inY) in
       record {
         known = known lay v i;
-        lf0 = λ there. omega (arith, k .lf0 there);
-        lf1 = λ there. omega (arith, k .lf1 there);
-        lf2 = λ there. omega (arith, k .lf2 there);
+        lf0 = λ there. omega (arith, k .lf there .0);
+        lf1 = λ there. omega (arith, k .lf there .1);
+        lf2 = λ there. omega (arith, k .lf there .2);
         context = λ n hn. place-inside P (passed .contexts) v (order-lt (v .type) (known lay v i)) n hn;
         orders = λ c h. places-many P (k .store) v (known lay v i) c h;
       }
 
-  rows-wide : (c : ℕ) → c < 3 → length (getD (rowsOf P) c []) ≡ P .width
-  rows-wide zero h = length-replicate (P .width) 0
-  rows-wide (suc zero) h = length-replicate (P .width) 0
-  rows-wide (suc (suc zero)) h = length-replicate (P .width) 0
+  rows-wide : (c : ℕ) → c < 3 → length (getD zeroRows c []) ≡ 32
+  rows-wide zero h = refl
+  rows-wide (suc zero) h = refl
+  rows-wide (suc (suc zero)) h = refl
   rows-wide (suc (suc (suc c))) h = absurd (omega arith)
 
-  rows-small : (c : ℕ) → c < 3 → Small (getD (rowsOf P) c [])
-  rows-small zero h = zeros-small (P .width)
-  rows-small (suc zero) h = zeros-small (P .width)
-  rows-small (suc (suc zero)) h = zeros-small (P .width)
+  rows-small : (c : ℕ) → c < 3 → Small (getD zeroRows c [])
+  rows-small zero h = zeros-small 32
+  rows-small (suc zero) h = zeros-small 32
+  rows-small (suc (suc zero)) h = zeros-small 32
   rows-small (suc (suc (suc c))) h = absurd (omega arith)
 
-  start : Sane (P .width) (64 * blocks P) (symbolsIn (itemsOf P (varblocks P))) 0 (L .log) (L .grids) (rowsOf P)
+  start : Sane 32 (64 * blocks P) (symbolsIn (itemsOf P (varblocks P))) 0 (L .log) (L .grids) zeroRows
   start =
       let k = lengths-fit L (passed .lengths) in
       let s = sides-fit P (passed .sides) in
-      let pos : 1 * 1 ≤ P .height * P .width = mul-le-mul (s .someHigh) (s .someWide) in
+      let pos : 1 * 1 ≤ P .bh * P .bw = mul-le-mul (s .someHigh) (s .someWide) in
       let m = most-symbols P (k .store) lay in
-      let l = k .log in
+      let l = k .room in
       record {
-        three = some-there (L .grids) (64 * blocks P) (k .grids 2 (omega arith)) (omega arith);
-        cells = k .grids;
+        three = some-there (L .grids) (64 * blocks P) (grids-fit L (passed .lengths) 2 (omega arith)) (omega arith);
+        cells = grids-fit L (passed .lengths);
         rows3 = refl;
         wide = rows-wide;
         small = rows-small;
@@ -196,8 +198,8 @@ module _ (L : Lent) (passed : Passed L) (preset : ℕ) (below : preset < L .pres
   never-outside = (
     stretch-inside,
     let k = lengths-fit L (passed .lengths) in
-        by-group (L .shift) (clustersOf P) (presetMap L preset) P (varblocks P) (going (L .symbols) 0 (L .log) (L .grids) (rowsOf P) 0)
+        by-group (L .shift) (clustersOf P) (presetMap L preset) P (varblocks P) (going (L .symbols) 0 (L .log) (L .grids) zeroRows 0)
         corner-inside
-        (read-inside (L .shift) (clustersOf P) (presetMap L preset) stretch-whole (P .width) (64 * blocks P) (itemsOf P (varblocks P)) (going (L .symbols) 0 (L .log) (L .grids) (rowsOf P) 0)
-        (all-sound P lay (passed .contexts) (k .store) (passed .places)) start),
+        (read-inside (L .shift) (clustersOf P) (presetMap L preset) stretch-whole 32 (64 * blocks P) (itemsOf P (varblocks P)) (going (L .symbols) 0 (L .log) (L .grids) zeroRows 0)
+        (all-sound P lay (sides-fit P (passed .sides) .wide) (passed .contexts) (k .store) (passed .places)) start),
   )

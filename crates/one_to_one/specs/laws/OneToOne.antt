@@ -10,8 +10,9 @@ use Rattle.coded_numbers.specs.laws.Signed.{symbol-lt}
 use Rattle.coded_numbers.specs.Signed.{symbol}
 use Rattle.hf_coeff_walk.specs.Walk.{less}
 use Rattle.hf_coeff_walk.specs.Item.{Item}
+use Rattle.refusal.specs.Answer.{gives}
 use Rattle.hf_coeff_group.specs.Group.{leftOf, Grids, Reading, going, refused, read}
-use Rattle.hf_coeff.specs.Call.{reads, outcome}
+use Rattle.hf_coeff.specs.Call.{outcome}
 use Rattle.hf_coeff_walk.specs.laws.Walks.{nonZeros-le}
 use Rattle.hf_coeff_group.specs.laws.Cells.{Distinct, Shape, same-shape, adds, adds-shape, adds-off, Fit, change, only-symbols, symbols-turn, In}
 use Rattle.hf_coeff_group.specs.laws.Reads as run
@@ -21,7 +22,7 @@ use Rattle.hf_coeff_walk.specs.Sent.{Words, nonZeros, upTo}
 
 -- accepted, read to the last symbol, every count used up, these grids
 pub record Filled (r : Reading) (s : List ℕ) (W : Grids) : Type 0 where
-  pub accepted : outcome r .answer ≡ reads (length s)
+  pub accepted : outcome r .answer ≡ gives (length s)
   pub used : leftOf r ≡ 0
   pub grids : outcome r .grids ≡ W
 
@@ -126,7 +127,7 @@ module _ (clusters : ℕ) (stretch : List ℕ) (its : List Item) (G W : Grids) (
   exists =
       let r = run.read-sent clusters stretch its dss (changes-long G W its) (group .sized) 0 0 log G rows 0 in
       record {
-        accepted = ap (λ (x : Reading). outcome x .answer) (r .is) ∙ ap reads (to-last (sent dss) (r .at′) (r .log′) (adds 0 G (cellsOf its) (joined dss)) (r .rows′) 0 (r .is));
+        accepted = ap (λ (x : Reading). outcome x .answer) (r .is) ∙ ap gives (to-last (sent dss) (r .at′) (r .log′) (adds 0 G (cellsOf its) (joined dss)) (r .rows′) 0 (r .is));
         used = ap leftOf (r .is);
         grids = ap (λ (x : Reading). outcome x .grids) (r .is) ∙ reached;
       }
@@ -137,7 +138,7 @@ module _ (clusters : ℕ) (stretch : List ℕ) (its : List Item) (G W : Grids) (
       go : (k : ℕ) (l : List ℕ) (ess : List (List ℕ)) (e : run.End) → Long its ess → reading clusters stretch its s log G rows ≡ run.readBy e (0 + k) l (adds 0 G (cellsOf its) (joined ess))
           → run.Tells s 0 k ess e → s ≡ sent dss
       go k l ess (run.ends us rows₁ left) long e t =
-          let a : reads (0 + k) ≡ reads (length s) = sym (ap (λ (x : Reading). outcome x .answer) e) ∙ f .accepted in
+          let a : gives (0 + k) ≡ gives (length s) = sym (ap (λ (x : Reading). outcome x .answer) e) ∙ f .accepted in
           let b : 0 + k ≡ length s = cc in
           let g : adds 0 G (cellsOf its) (joined ess) ≡ W = sym (ap (λ (x : Reading). outcome x .grids) e) ∙ f .grids in
           let d : ess ≡ dss =

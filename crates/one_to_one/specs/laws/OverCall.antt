@@ -12,11 +12,14 @@ use lib.ListN.{length, getD, List·getD-eq-default}
 use Rattle.layout.specs.laws.Theorems.{layout-check}
 use Rattle.hf_pass.specs.laws.Wrote.{wrote-fits}
 use Rattle.hf_coeff_walk.specs.Item.{Item}
+use Rattle.refusal.specs.Answer.{Answer, gives, refuses}
+use Rattle.hf_coeff_group.specs.Group.{Grids, Reading, going, leftOf, zeroRows}
+use Rattle.hf_coeff_group.specs.laws.GroupLaws.{group-items}
 use Rattle.hf_coeff_group.specs.Pass.{Pass, varblocks, itemsOf}
-use Rattle.hf_coeff_group.specs.Group.{Grids, Reading, going, leftOf, group-items}
-use Rattle.hf_coeff.specs.Call.{Lent, Answer, reads, refuses, Outcome, clustersOf, parametersFit, rowsOf, presetMap, reading, outcome, leftoverAt, leftover, call}
-use Rattle.hf_coeff.specs.CallLaws.{call-reads}
-use Rattle.hf_coeff.specs.Fits.{lengths-fit}
+use Rattle.hf_coeff_group.specs.Work.{clustersOf}
+use Rattle.hf_coeff_checks.specs.Checks.{parametersFit}
+use Rattle.hf_coeff.specs.Call.{Lent, Outcome, presetMap, reading, outcome, leftoverAt, leftover, call}
+use Rattle.hf_coeff.specs.laws.CallLaws.{checks-pass, grids-fit, call-reads}
 use Rattle.one_to_one.specs.Filling.{Sized, Fixed, Filling, withSymbols, Fills, Fails, symbolsRead, refused, unread, leftOver, otherGrids}
 use Rattle.hf_coeff_group.specs.laws.Cells.{Shape}
 use Rattle.one_to_one.specs.laws.Items.{wrote-ordered, Ordered, item-size, cells-apart, cells-fit, place-or-same}
@@ -43,14 +46,20 @@ module _ (L : Lent) (fixed : Fixed L) where
   pub start-sized : Sized (L .pass) (L .grids)
   start-sized = record {
     three = fixed .rest .three;
-    cells = λ c h. lengths-fit L (fixed .rest .lengths) .grids c h ∙ sym (mul-mul-mul-comm 8 (P .height) 8 (P .width));
+    cells = λ c h. grids-fit L (fixed .rest .lengths) c h ∙ sym (mul-mul-mul-comm 8 (P .bh) 8 (P .bw));
   }
 
   -- the call reads the group
   group-read : (s : List ℕ) → call (withSymbols L s) ≡ outcome (reading (withSymbols L s) (fixed .rest .preset))
   group-read s =
-      call-reads (withSymbols L s) (fixed .sides) (parameters (L .shift) (L .presets) (omega (arith, fixed .rest .shift)) (fixed .rest .few)) (fixed .contexts) (fixed .rest .lengths)
-      (layout-check (P .width) (P .height) (P .kinds) (P .muls) (fixed .layout)) (wrote-fits (P .store) (fixed .orders)) (fixed .rest .preset) (fixed .rest .bits) (fixed .rest .readWhole) (fixed .rest .below)
+      call-reads (withSymbols L s) (checks-pass (withSymbols L s) (record {
+        sides = fixed .sides;
+        parameters = parameters (L .shift) (L .presets) (omega (arith, fixed .rest .shift)) (fixed .rest .few);
+        contexts = fixed .contexts;
+        lengths = fixed .rest .lengths;
+        layout = layout-check (P .bw) (P .bh) (P .kinds) (P .hfMul) (fixed .layout);
+        places = wrote-fits (P .store) (fixed .orders);
+      })) (fixed .rest .preset) (fixed .rest .bits) (fixed .rest .readWhole) (fixed .rest .below)
     where
       parameters : (shift presets : ℕ) → shift ≤ 3 → presets ≤ 256 → parametersFit shift presets ≡ true
       parameters shift presets a b = rw (le-leb shift 3 a, le-leb presets 256 b)
@@ -71,13 +80,13 @@ module _ (L : Lent) (fixed : Fixed L) where
         ordered = wrote-ordered P (fixed .orders)
 
     abbrev pub readingOf : List ℕ → Reading
-    readingOf s = over.reading (clustersOf P) (presetMap L (fixed .rest .preset)) items s (L .log) (L .grids) (rowsOf P)
+    readingOf s = over.reading (clustersOf P) (presetMap L (fixed .rest .preset)) items s (L .log) (L .grids) zeroRows
 
     same-reading : (s : List ℕ) → reading (withSymbols L s) (fixed .rest .preset) ≡ readingOf s
     unfolding reading
     same-reading s =
         let z : L .shift ≡ 0 = omega (arith, fixed .rest .shift) in
-        rw z (group-items 0 (clustersOf P) (presetMap L (fixed .rest .preset)) P (varblocks P) (going s 0 (L .log) (L .grids) (rowsOf P) 0))
+        rw z (group-items 0 (clustersOf P) (presetMap L (fixed .rest .preset)) P (varblocks P) (going s 0 (L .log) (L .grids) zeroRows 0))
 
     -- what the call does is what the reading does
     pub same : (s : List ℕ) → Fills L s W ↔ over.Filled (readingOf s) s W
@@ -106,7 +115,7 @@ module _ (L : Lent) (fixed : Fixed L) where
 -- no sequence fails that fills
 pub fills-not : (L : Lent) (s : List ℕ) (W : Grids) → Fills L s W → Fails L s W → ⊥
 fills-not L s W f (refused why e) = let a = f .accepted in let z : _≡_ {A = ℕ} 0 1 = cc in omega arith
-fills-not L s W f (unread n h e) = let a : reads n ≡ reads (length s) = sym e ∙ f .accepted in let b : n ≡ length s = cc in omega arith
+fills-not L s W f (unread n h e) = let a : gives n ≡ gives (length s) = sym e ∙ f .accepted in let b : n ≡ length s = cc in omega arith
 fills-not L s W f (leftOver h) = let a = f .used in omega arith
 fills-not L s W f (otherGrids n) = n (f .grids)
 
@@ -114,17 +123,17 @@ fills-not L s W f (otherGrids n) = n (f .grids)
 pub not-fills : (L : Lent) (s : List ℕ) (W : Grids) → (Fills L s W → ⊥) → Fails L s W
 not-fills L s W n = by-answer (call (withSymbols L s) .answer) refl
   where
-    by-rest : call (withSymbols L s) .answer ≡ reads (length s) → Dec (leftover (withSymbols L s) ≡ 0) → Fails L s W
+    by-rest : call (withSymbols L s) .answer ≡ gives (length s) → Dec (leftover (withSymbols L s) ≡ 0) → Fails L s W
     by-rest a (yes u) = otherGrids (λ g. n (record { accepted = a; used = u; grids = g }))
     by-rest a (no u) = leftOver (omega (arith, u))
 
-    by-count : (m : ℕ) → call (withSymbols L s) .answer ≡ reads m → m ≤ length s → Dec (m ≡ length s) → Fails L s W
-    by-count m a h (yes e) = by-rest (a ∙ ap reads e) (ℕ-discrete (leftover (withSymbols L s)) 0)
+    by-count : (m : ℕ) → call (withSymbols L s) .answer ≡ gives m → m ≤ length s → Dec (m ≡ length s) → Fails L s W
+    by-count m a h (yes e) = by-rest (a ∙ ap gives e) (ℕ-discrete (leftover (withSymbols L s)) 0)
     by-count m a h (no e) = unread m (omega (arith, e)) a
 
-    by-answer : (r : Answer) → call (withSymbols L s) .answer ≡ r → Fails L s W
+    by-answer : (r : Answer ℕ) → call (withSymbols L s) .answer ≡ r → Fails L s W
     by-answer (refuses why) a = refused why a
-    by-answer (reads m) a =
+    by-answer (gives m) a =
         let k : symbolsRead (call (withSymbols L s) .answer) ≤ length s = never-more (withSymbols L s) in
         let e : symbolsRead (call (withSymbols L s) .answer) ≡ m = ap symbolsRead a in
         by-count m a (omega arith) (ℕ-discrete m (length s))

@@ -21,7 +21,7 @@ use Rattle.natural_order.specs.laws.Listing.{hit-of, listing-length, self, insi
 use Rattle.natural_order.specs.laws.Order.{skip-by}
 use Rattle.natural_order.specs.laws.Beyond.{beyond-count, corner-none, other-once}
 use Rattle.hf_coeff_walk.specs.Places.{across, down, cellOf, placesOf}
-use Rattle.hf_coeff_group.specs.Sizes.{order-lt, Sides, swapped, straight, sides-of}
+use Rattle.hf_coeff_group.specs.laws.Sizes.{order-lt, Sides, swapped, straight, sides-of}
 use Rattle.hf_coeff_group.specs.laws.Cells.{Distinct, distinct-map, In}
 
 in-count : (q : Place) (l : List Place) → In q l → 0 < count (q .0) (q .1) l

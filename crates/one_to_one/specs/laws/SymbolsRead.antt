@@ -6,17 +6,17 @@ use Prim.Native.Nat.{ℕ, _+_, _*_, _≤_}
 use native.Mathlib.Omega.{arith}
 use lib.ListN.{length, drop, length-drop, length-append}
 use lib.Seq.{sets, sets-eq, drop-at}
-use Rattle.refusal.specs.declared.Refusal.{Refusal}
 use Rattle.refusal.specs.declared.Refusal.the-variants.{SymbolsEnd, Count, TooManyZeros}
 use Rattle.refusal.specs.declared.Said.{Said}
 use Rattle.refusal.specs.Said.{said}
 use Rattle.refusal.specs.Said as refusals
 use Rattle.layout.specs.laws.Theorems.{layout-iff}
+use Rattle.refusal.specs.Answer.{Answer, refuses}
 use Rattle.hf_coeff_group.specs.Pass.{varblocks, itemsOf}
+use Rattle.hf_coeff_checks.specs.Checks.{blocks}
+use Rattle.hf_coeff.specs.Call.{Lent, Outcome, reading, outcome, refuse, call, Passed}
+use Rattle.hf_coeff.specs.laws.CallLaws.{lengths-fit}
 use Rattle.hf_coeff_group.specs.laws.Symbols.{most-symbols}
-use Rattle.hf_coeff.specs.Call.{Lent, refuses, Outcome, blocks, reading, outcome, refuse, call}
-use Rattle.hf_coeff.specs.CallSteps.{Passed}
-use Rattle.hf_coeff.specs.Fits.{lengths-fit}
 use Rattle.one_to_one.specs.Filling.{relent, withLog, told, symbolsRead}
 use Rattle.hf_coeff_walk.specs.laws.Walks.{symbolsEnd, count, tooManyZeros}
 use Rattle.hf_coeff_group.specs.laws.Cells.{adds}
@@ -35,20 +35,20 @@ pub record Tied (L : Lent) : Type 0 where
   pub logs : (log : List ℕ) → length log ≡ length (L .log)
       → call (withLog L log) ≡ record { answer = call L .answer; log = clusters ++ drop (length clusters) log; grids = call L .grids }
 
-number-of : (a b : Said) → refuses a ≡ refuses b → a .number ≡ b .number
+number-of : (a b : Said) → _≡_ {A = Answer ℕ} (refuses a) (refuses b) → a .number ≡ b .number
 number-of a b e = let f : a ≡ b = cc in ap (λ (s : Said). s .number) f
 
-by-refusal : (L : Lent) (why : Refusal) → told (said why) ≡ 0 → (said why .number ≡ 15 → ⊥)
-    → ((symbols log : List ℕ) → length log ≡ length (L .log) → call (relent L symbols log) ≡ refuse (relent L symbols log) why) → Tied L
-by-refusal L why t n e =
-    let c : call L ≡ refuse L why = e (L .symbols) (L .log) refl in
+by-refusal : (L : Lent) (s : Said) → told s ≡ 0 → (s .number ≡ 15 → ⊥)
+    → ((symbols log : List ℕ) → length log ≡ length (L .log) → call (relent L symbols log) ≡ refuse (relent L symbols log) s) → Tied L
+by-refusal L s t n e =
+    let c : call L ≡ refuse L s = e (L .symbols) (L .log) refl in
     record {
       clusters = [];
       each = sym (ap (λ (o : Outcome). symbolsRead (o .answer)) c ∙ t);
       most = omega arith;
       there = omega arith;
       room = omega arith;
-      none = λ m f. absurd (n (number-of (said why) (refusals.at 15 m 0) (sym (ap (λ (o : Outcome). o .answer) c) ∙ f)));
+      none = λ m f. absurd (n (number-of s (refusals.at 15 m 0) (sym (ap (λ (o : Outcome). o .answer) c) ∙ f)));
       logs = λ log l. e (L .symbols) log l ∙ ap (λ (o : Outcome). record { answer = o .answer; log = log; grids = o .grids }) (sym c);
     }
 
@@ -89,8 +89,8 @@ by-reading L passed preset e =
     let ks = d .clusters in
     let G = adds (L .shift) (L .grids) (cellsOf (itemsOf P (varblocks P))) (joined (d .dss)) in
     let most : length ks ≤ 192 * blocks P =
-    omega (arith, d .few, most-symbols P (l .store) (layout-iff (P .width) (P .height) (P .kinds) (P .muls) (l .kinds) (l .muls) .0 (passed .layout))) in
-    let room : length ks ≤ length (L .log) = omega (arith, l .log) in
+    omega (arith, d .few, most-symbols P (l .store) (layout-iff (P .bw) (P .bh) (P .kinds) (P .hfMul) (l .kinds) (l .hfMul) .0 (passed .layout))) in
+    let room : length ks ≤ length (L .log) = omega (arith, l .room) in
     let start : (log : List ℕ) → length log ≡ length (L .log) → call (withLog L log) ≡ record { answer = answerBy (d .end) (length ks); log = sets log 0 ks; grids = G } =
     λ log k. e (L .symbols) log k ∙ ap outcome (d .is log) ∙ outcome-by (d .end) (length ks) (sets log 0 ks) G in
     let a : call L .answer ≡ answerBy (d .end) (length ks) = ap (λ (o : Outcome). o .answer) (start (L .log) refl) in
@@ -110,7 +110,7 @@ by-reading L passed preset e =
 
 module _ (L : Lent) where
   by-way : Way L → Tied L
-  by-way (before why t n e) = by-refusal L why t n e
+  by-way (before s t n e) = by-refusal L s t n e
   by-way (work passed preset e) = by-reading L passed preset e
 
   pub tied : Tied L

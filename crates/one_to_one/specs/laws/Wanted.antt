@@ -14,8 +14,8 @@ use Rattle.layout.specs.Grid.{at}
 use Rattle.layout.specs.laws.Grid.{grid-length, grid-at, Cell, cell-at}
 use Rattle.layout.specs.Varblocks.{Varblock}
 use Rattle.layout.specs.Listed.{Among, first, later}
-use Rattle.hf_coeff_group.specs.Pass.{Pass, varblocks}
 use Rattle.hf_coeff_group.specs.Group.{Grids}
+use Rattle.hf_coeff_group.specs.Pass.{Pass, varblocks}
 use Rattle.hf_coeff.specs.Call.{Lent}
 use Rattle.one_to_one.specs.Filling.{many, Low, LowKept, lowIn, lowInSome, isLow, Sized, Fixed, Filling, asked, gridWanted, wanted, Fills, Fails}
 use Rattle.hf_coeff_group.specs.laws.Cells.{same-shape}
@@ -79,13 +79,13 @@ module _ (P : Pass) (p : ℕ) where
   pub is-low : isLow P p ≡ true → Low P p
   unfolding isLow
   is-low e =
-      let r = in-some (p % (8 * P .width)) (p / (8 * P .width)) (varblocks P) e in
+      let r = in-some (p % (8 * P .bw)) (p / (8 * P .bw)) (varblocks P) e in
       let i = r .2 in
       record { of = r .0; there = r .1; left = i .left; right = i .right; top = i .top; bottom = i .bottom }
 
   pub low-is : Low P p → isLow P p ≡ true
   unfolding isLow
-  low-is l = some-in (p % (8 * P .width)) (p / (8 * P .width)) (varblocks P) (l .of) (l .there) (record { left = l .left; right = l .right; top = l .top; bottom = l .bottom })
+  low-is l = some-in (p % (8 * P .bw)) (p / (8 * P .bw)) (varblocks P) (l .of) (l .there) (record { left = l .left; right = l .right; top = l .top; bottom = l .bottom })
 
 -- The grids wanted.
 module _ (L : Lent) (f : ℕ → ℕ → ℕ) where
@@ -93,13 +93,13 @@ module _ (L : Lent) (f : ℕ → ℕ → ℕ) where
   P = L .pass
 
   grid-long : (c : ℕ) → length (gridWanted L f c) ≡ many P
-  grid-long c = grid-length (λ (x y : ℕ). asked L f c (y * (8 * P .width) + x)) (8 * P .width) (8 * P .height)
+  grid-long c = grid-length (λ (x y : ℕ). asked L f c (y * (8 * P .bw) + x)) (8 * P .bw) (8 * P .bh)
 
   grid-cell : (c p : ℕ) → p < many P → getD (gridWanted L f c) p 0 ≡ asked L f c p
-  grid-cell c p h = go (cell-at (8 * P .width) (8 * P .height) p h)
+  grid-cell c p h = go (cell-at (8 * P .bw) (8 * P .bh) p h)
     where
-      go : Cell (8 * P .width) (8 * P .height) p → getD (gridWanted L f c) p 0 ≡ asked L f c p
-      go k = rw (k .place) (grid-at (λ (x y : ℕ). asked L f c (y * (8 * P .width) + x)) (8 * P .width) (8 * P .height) (k .x) (k .y) (k .inX) (k .inY))
+      go : Cell (8 * P .bw) (8 * P .bh) p → getD (gridWanted L f c) p 0 ≡ asked L f c p
+      go k = rw (k .place) (grid-at (λ (x y : ℕ). asked L f c (y * (8 * P .bw) + x)) (8 * P .bw) (8 * P .bh) (k .x) (k .y) (k .inX) (k .inY))
 
   channel-is : (c : ℕ) → c < 3 → getD (wanted L f) c [] ≡ gridWanted L f c
   unfolding wanted

@@ -14,12 +14,13 @@ use Rattle.hf_metadata.specs.Call.{Inputs, inputs, layoutOf}
 use Rattle.hf_pass_store.specs.Store.{PLACES}
 use Rattle.hf_block_context.specs.Call.{contextsOf}
 use Rattle.layout.specs.laws.Theorems.{layout-check}
-use Rattle.hf_coeff_group.specs.Pass.{varblocks, itemsOf}
-use Rattle.hf_coeff_group.specs.Group.{Grids, Reading, going, leftOf, read, group-items}
-use Rattle.hf_pass.specs.laws.Wrote.{wrote-fits}
-use Rattle.hf_coeff.specs.CallLaws.{call-reads}
-use Rattle.hf_coeff.specs.Call.{Lent, reads, Outcome, lengthsFit, readPreset, presetMap, reading, outcome as outcomeOf, leftoverAt, leftover, call}
 use Rattle.refusal.specs.Answer.{gives}
+use Rattle.hf_coeff_group.specs.Group.{Grids, Reading, going, leftOf, read, zeroRows}
+use Rattle.hf_coeff_group.specs.laws.GroupLaws.{group-items}
+use Rattle.hf_coeff_group.specs.Pass.{varblocks, itemsOf}
+use Rattle.hf_coeff.specs.Call.{Lent, Outcome, lengthsFit, readPreset, presetMap, reading, outcome as outcomeOf, leftoverAt, leftover, call}
+use Rattle.hf_coeff.specs.laws.CallLaws.{checks-pass, call-reads}
+use Rattle.hf_pass.specs.laws.Wrote.{wrote-fits}
 use Rattle.block_record.specs.Calls.{group, outcome, cutOf}
 use Rattle.block_record.specs.laws.CutSteps.{cut-done}
 use Rattle.accepted_layout.specs.Outcome.{bwOf, bhOf}
@@ -114,9 +115,9 @@ filled = let o = one-sequence one fixed wanted filling in o .1 (2 ∷ 3 ∷ 0 �
 -- reading the group's items, whatever the stretch
 module _ (stretch : List ℕ) where
   abbrev end : Reading
-  end = read 0 15 stretch (itemsOf (one .pass) (varblocks (one .pass))) (going leaving 0 (one .log) (one .grids) ((0 ∷ []) ∷ (0 ∷ []) ∷ (0 ∷ []) ∷ []) 0)
+  end = read 0 15 stretch (itemsOf (one .pass) (varblocks (one .pass))) (going leaving 0 (one .log) (one .grids) zeroRows 0)
 
-  end-is : (leftOf end ≡ 1) × (outcomeOf end .answer ≡ reads 66)
+  end-is : (leftOf end ≡ 1) × (outcomeOf end .answer ≡ gives 66)
   unfolding reading-computes
   end-is = rw (order-0 0 (omega arith), order-0 1 (omega arith), order-0 2 (omega arith)) (refl, refl)
 
@@ -125,15 +126,21 @@ L = withSymbols one leaving
 
 by-items : reading L 0 ≡ end (presetMap L 0)
 unfolding reading contextsOf
-by-items = group-items 0 15 (presetMap L 0) (one .pass) (varblocks (one .pass)) (going leaving 0 (one .log) (one .grids) ((0 ∷ []) ∷ (0 ∷ []) ∷ (0 ∷ []) ∷ []) 0)
+by-items = group-items 0 15 (presetMap L 0) (one .pass) (varblocks (one .pass)) (going leaving 0 (one .log) (one .grids) zeroRows 0)
 
 -- all 66 symbols are read
-pub left-accepted : call (withSymbols one leaving) .answer ≡ reads 66
+pub left-accepted : call (withSymbols one leaving) .answer ≡ gives 66
 left-accepted =
     let P = one .pass in
     ap (λ (o : Outcome). o .answer)
-    (call-reads L (fixed .sides) refl (fixed .contexts) (fixed .rest .lengths) (layout-check (P .width) (P .height) (P .kinds) (P .muls) (fixed .layout)) (wrote-fits (P .store) (fixed .orders))
-    0 0 no-bits (omega arith))
+    (call-reads L (checks-pass L (record {
+      sides = fixed .sides;
+      parameters = refl;
+      contexts = fixed .contexts;
+      lengths = fixed .rest .lengths;
+      layout = layout-check (P .bw) (P .bh) (P .kinds) (P .hfMul) (fixed .layout);
+      places = wrote-fits (P .store) (fixed .orders);
+    })) 0 0 no-bits (omega arith))
     ∙ ap (λ (r : Reading). outcomeOf r .answer) by-items ∙ end-is (presetMap L 0) .1
 
 -- and the count is left over

@@ -1,0 +1,55 @@
+use Prim.Native.Nat.{_*_, _-_, _/_, _^_}
+use borrow.Author.Needs.{needs}
+use borrow.Author.Tests.{le-leb, lt-leb, eq-eqb, ne-eqb}
+use native.Mathlib.Omega.{arith}
+use Rattle.hf_coeff_walk.specs.laws.Counts.{shifted-left}
+use Rattle.hf_coeff_walk.specs.laws.Lent.{placesFit}
+use Rattle.coeff_places.proofs.places_fit.Statement.{statement}
+use Rattle.coeff_places.proofs.places_fit.Tie as tie
+
+returns : tie.Need-returns
+unfolding placesFit
+returns c = let a = c .before .args in rw (lt-leb (a .exponent) 10 (omega arith))
+
+returns-2 : tie.Need-returns-2
+unfolding placesFit
+returns-2 c = let a = c .before .before .args in rw (le-leb (a .exponent) 10 (omega arith), lt-leb (a .shift) 3 (omega arith))
+
+shl-if3 : tie.Need-shl-if3
+shl-if3 c = search needs
+
+returns-3 : tie.Need-returns-3
+unfolding placesFit
+returns-3 c =
+    let a = c .before .before .before .args in
+    rw (le-leb (a .exponent) 10 (omega arith), le-leb (a .shift) 3 (omega arith), lt-leb (a .order / 2) (63 * 2 ^ a .exponent) (omega (arith, shifted-left 63 (a .exponent) (omega arith) (omega arith))))
+
+returns-4 : tie.Need-returns-4
+unfolding placesFit
+returns-4 c =
+    let a = c .before .before .before .before .args in
+    rw (le-leb (a .exponent) 10 (omega arith), le-leb (a .shift) 3 (omega arith), le-leb (a .order / 2) (63 * 2 ^ a .exponent) (omega (arith, shifted-left 63 (a .exponent) (omega arith) (omega arith))), ne-eqb (a .part) 458 (c .if4 .taken))
+
+returns-5 : tie.Need-returns-5
+unfolding placesFit
+returns-5 c =
+    let a = c .before .before .before .before .before .args in
+    rw (le-leb (a .exponent) 10 (omega arith), le-leb (a .shift) 3 (omega arith), le-leb (a .order / 2) (63 * 2 ^ a .exponent) (omega (arith, shifted-left 63 (a .exponent) (omega arith) (omega arith))), eq-eqb (a .part) 458 (omega arith), lt-leb (a .start) (a .log) (omega arith))
+
+returns-6 : tie.Need-returns-6
+unfolding placesFit
+returns-6 c =
+    let a = c .before .before .before .before .before .args in
+    rw (le-leb (a .exponent) 10 (omega arith), le-leb (a .shift) 3 (omega arith), le-leb (a .order / 2) (63 * 2 ^ a .exponent) (omega (arith, shifted-left 63 (a .exponent) (omega arith) (omega arith))), eq-eqb (a .part) 458 (omega arith), le-leb (a .start) (a .log) (omega arith))
+
+pub places-fit-spec : {M : Type 1} → statement M
+places-fit-spec =
+    tie.close
+    (tie.spec
+    returns
+    returns-2
+    shl-if3
+    returns-3
+    returns-4
+    returns-5
+    returns-6)

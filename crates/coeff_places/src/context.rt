@@ -1,0 +1,178 @@
+// The contexts of coefficients (`hf_coeff.rs`).
+ghost use mathlib.Core.Path.{_≡_};
+ghost use Prim.Native.Nat.{_*_, _/_, _^_, _≤_, _<_};
+ghost use lib.ListN.{getD};
+ghost use Rattle.hf_coeff_walk.specs.Walk.{FREQ, NUM-NONZERO, coeffContext};
+
+pub(crate) const COEFF_FREQ_CONTEXT: [u8; 63] = [
+    0,
+    1,
+    2,
+    3,
+    4,
+    5,
+    6,
+    7,
+    8,
+    9,
+    10,
+    11,
+    12,
+    13,
+    14,
+    15,
+    15,
+    16,
+    16,
+    17,
+    17,
+    18,
+    18,
+    19,
+    19,
+    20,
+    20,
+    21,
+    21,
+    22,
+    22,
+    23,
+    23,
+    23,
+    23,
+    24,
+    24,
+    24,
+    24,
+    25,
+    25,
+    25,
+    25,
+    26,
+    26,
+    26,
+    26,
+    27,
+    27,
+    27,
+    27,
+    28,
+    28,
+    28,
+    28,
+    29,
+    29,
+    29,
+    29,
+    30,
+    30,
+    30,
+    30,
+];
+
+pub(crate) const COEFF_NUM_NONZERO_CONTEXT: [u8; 63] = [
+    0,
+    31,
+    62,
+    62,
+    93,
+    93,
+    93,
+    93,
+    123,
+    123,
+    123,
+    123,
+    152,
+    152,
+    152,
+    152,
+    152,
+    152,
+    152,
+    152,
+    180,
+    180,
+    180,
+    180,
+    180,
+    180,
+    180,
+    180,
+    180,
+    180,
+    180,
+    180,
+    206,
+    206,
+    206,
+    206,
+    206,
+    206,
+    206,
+    206,
+    206,
+    206,
+    206,
+    206,
+    206,
+    206,
+    206,
+    206,
+    206,
+    206,
+    206,
+    206,
+    206,
+    206,
+    206,
+    206,
+    206,
+    206,
+    206,
+    206,
+    206,
+    206,
+    206,
+];
+
+fn to_usize(x: u8) -> usize
+    ensures { λ r. ⌜ (r ≡ x) × (r ≤ 255) ⌝ }
+{
+    x as usize
+}
+
+// The entry by the count, when n more are not 0 after this one; 2 to the power `exponent` blocks.
+pub(crate) fn count_entry(nonzeros: &[u8; 63], exponent: usize, n: usize) -> usize
+    requires { ⌜ (now nonzeros ≡ NUM-NONZERO) × (exponent ≤ 10) × (n < 63 * 2 ^ exponent) ⌝ }
+    ensures { λ r. ⌜ (r ≡ getD NUM-NONZERO (n / 2 ^ exponent) 0) × (r ≤ 255) ⌝ }
+{
+    let a = n >> exponent;
+    to_usize(nonzeros[a])
+}
+
+// The entry by place i.
+pub(crate) fn place_entry(frequencies: &[u8; 63], exponent: usize, i: usize) -> usize
+    requires { ⌜ (now frequencies ≡ FREQ) × (exponent ≤ 10) × (i < 63 * 2 ^ exponent) ⌝ }
+    ensures { λ r. ⌜ (r ≡ getD FREQ (i / 2 ^ exponent) 0) × (r ≤ 255) ⌝ }
+{
+    let b = i >> exponent;
+    to_usize(frequencies[b])
+}
+
+// The context at place i when n more are not 0 after this one; 2 to the power `exponent` blocks.
+pub(crate) fn coeff_context(
+    nonzeros: &[u8; 63],
+    frequencies: &[u8; 63],
+    exponent: usize,
+    n: usize,
+    i: usize,
+    prev: usize,
+) -> usize
+    requires { ⌜ (now nonzeros ≡ NUM-NONZERO) × (now frequencies ≡ FREQ) × (exponent ≤ 10) × (n < 63 * 2 ^ exponent) × (i < 63 * 2 ^ exponent) × (prev ≤ 1) ⌝ }
+    ensures { λ r. ⌜ r ≡ coeffContext (2 ^ exponent) n i prev ⌝ }
+{
+    let x = count_entry(nonzeros, exponent, n);
+    let y = place_entry(frequencies, exponent, i);
+    (x + y) * 2 + prev
+}

@@ -1,0 +1,289 @@
+// The walk over the places of one channel of a varblock (`hf_coeff.rs`).
+use crate::context::coeff_context;
+use crate::context::count_entry;
+use crate::context::place_entry;
+use crate::place::cell;
+use coded_numbers::unpack_signed;
+use hf_coeff_walk::Walk;
+use hf_coeff_walk::place::Spot;
+use refusal::Refusal;
+ghost use mathlib.Core.Path.{_≡_};
+ghost use Prim.Native.Nat.{_+_, _-_, _/_, _*_, _%_, _^_, _≤_, _<_};
+ghost use lib.ListN.{length, getD, drop};
+ghost use Rattle.hf_coeff_walk.specs.Walk.{FREQ, NUM-NONZERO, flag, gain, walk};
+ghost use Rattle.hf_coeff_walk.specs.laws.Outcome.{Ready, Handed, spotPlaces};
+ghost use Rattle.hf_coeff_walk.specs.laws.Runs.{ZerosReady, Zeros};
+
+// x shifted, losing top bits.
+fn shifted(x: u32, shift: u32) -> u32
+    requires { ⌜ shift ≤ 3 ⌝ }
+    ensures { λ r. ⌜ r ≡ x * 2 ^ shift % 2 ^ 32 ⌝ }
+{
+    x << shift
+}
+
+// a + b, losing the top bit.
+fn sum(a: u32, b: u32) -> u32
+    ensures { λ r. ⌜ (r ≡ (a + b) % 2 ^ 32) × (b ≡ 0 → r ≡ a) ⌝ }
+{
+    std::num::wrapping_add_u32(a, b)
+}
+
+// The cell of place k gains what symbol u says, shifted, if the grid has that cell. A symbol 0 adds 0: there is no test of
+// it, so that a walk over many that are not 0 has nothing to guess.
+fn gain_at(order: &[u16], k: usize, spot: Spot, u: u32, shift: u32, grid: &mut [u32])
+    requires { ⌜ (k < length (now order) / 2) × (shift ≤ 3) ⌝ }
+    ensures { λ r. ⌜ now (grid .exit) ≡ gain shift (now (grid .entry)) (getD (spotPlaces spot (now (order .entry))) k 0) u ⌝ }
+{
+    let p = cell(order, k, spot);
+    if grid.len() <= p {
+        return;
+    }
+    let v = sum(grid[p], shifted(unpack_signed(u), shift));
+    grid[p] = v;
+}
+
+// 1 for a symbol that is not 0.
+fn flag_of(u: u32) -> usize
+    ensures { λ r. ⌜ (r ≡ flag u) × (r ≤ 1) ⌝ }
+{
+    if u == 0 {
+        return 0;
+    }
+    1
+}
+
+// The coefficients of an order's places, until `count` of them were not 0; with the two tables of contexts. Each place is
+// done in the same way, whatever its symbol.
+fn walk_dense(
+    nonzeros: &[u8; 63],
+    frequencies: &[u8; 63],
+    order: &[u16],
+    spot: Spot,
+    symbols: &[u32],
+    start: usize,
+    count: usize,
+    first: usize,
+    part: &[u8],
+    shift: u32,
+    log: &mut [u8],
+    grid: &mut [u32],
+) -> Walk
+    requires { ⌜ (now nonzeros ≡ NUM-NONZERO) × (now frequencies ≡ FREQ) × Ready spot (now order) start count first (length (now part)) shift (length (now log)) ⌝ }
+    ensures { λ r. ⌜ Handed r (now (log .exit)) (now (grid .exit)) (walk shift (2 ^ (spot .exponent)) (now (part .entry)) (spotPlaces spot (now (order .entry))) 0 first count (drop start (now (symbols .entry))) start (now (log .entry)) (now (grid .entry))) ⌝ }
+{
+    let mut at = start;
+    let mut left = count;
+    let mut prev = first;
+    let mut k = 0;
+    let end = order.len() / 2;
+    while k < end {
+        if left == 0 {
+            return Walk::Ended(at);
+        }
+        let context = coeff_context(nonzeros, frequencies, spot.exponent, left - 1, k, prev);
+        if 458 <= context {
+            return Walk::Stopped(Refusal::TooManyZeros(at));
+        }
+        if symbols.len() <= at {
+            return Walk::Stopped(Refusal::SymbolsEnd(at));
+        }
+        let u = symbols[at];
+        log[at] = part[context];
+        gain_at(order, k, spot, u, shift, grid);
+        prev = flag_of(u);
+        left -= prev;
+        at += 1;
+        k += 1;
+    }
+    Walk::Ended(at)
+}
+
+// Passes the zeros from place `from` on, below place `stop`: logs each, and tells the place behind them. A 0 leaves the
+// count as it is, so `entries`, the clusters from the count's entry on, serve them all; 2 to the power `exponent` blocks.
+fn pass_zeros(
+    frequencies: &[u8; 63],
+    exponent: usize,
+    symbols: &[u32],
+    start: usize,
+    from: usize,
+    stop: usize,
+    entries: &[u8],
+    log: &mut [u8],
+) -> usize
+    requires { ⌜ (now frequencies ≡ FREQ) × ZerosReady exponent (length (now symbols)) start from stop (length (now entries)) (length (now log)) ⌝ }
+    ensures { λ r. ⌜ Zeros exponent (now (entries .entry)) (now (symbols .entry)) start from stop (now (log .entry)) r (now (log .exit)) ⌝ }
+{
+    let mut k = from;
+    while k < stop {
+        let at = start + k;
+        if symbols[at] != 0 {
+            return k;
+        }
+        let y = place_entry(frequencies, exponent, k);
+        log[at] = entries[y * 2];
+        k += 1;
+    }
+    k
+}
+
+// The same; for one block with no shift in its loop.
+fn zeros_from(
+    frequencies: &[u8; 63],
+    exponent: usize,
+    symbols: &[u32],
+    start: usize,
+    from: usize,
+    stop: usize,
+    entries: &[u8],
+    log: &mut [u8],
+) -> usize
+    requires { ⌜ (now frequencies ≡ FREQ) × ZerosReady exponent (length (now symbols)) start from stop (length (now entries)) (length (now log)) ⌝ }
+    ensures { λ r. ⌜ Zeros exponent (now (entries .entry)) (now (symbols .entry)) start from stop (now (log .entry)) r (now (log .exit)) ⌝ }
+{
+    if exponent == 0 {
+        return pass_zeros(frequencies, 0, symbols, start, from, stop, entries, log);
+    }
+    pass_zeros(
+        frequencies,
+        exponent,
+        symbols,
+        start,
+        from,
+        stop,
+        entries,
+        log,
+    )
+}
+
+// The lesser of the two.
+fn lesser_of(a: usize, b: usize) -> usize
+    ensures { λ r. ⌜ (r ≤ a) × (r ≤ b) × (r < a → r ≡ b) ⌝ }
+{
+    if a < b {
+        return a;
+    }
+    b
+}
+
+// What of n lies behind start.
+fn behind(n: usize, start: usize) -> usize
+    ensures { λ r. ⌜ r ≡ n - start ⌝ }
+{
+    if n < start {
+        return 0;
+    }
+    n - start
+}
+
+// The same, for a count of at most 32 for each block, with which no context is too large. Zeros are passed in a loop of their
+// own.
+fn walk_sparse(
+    nonzeros: &[u8; 63],
+    frequencies: &[u8; 63],
+    order: &[u16],
+    spot: Spot,
+    symbols: &[u32],
+    start: usize,
+    count: usize,
+    first: usize,
+    part: &[u8],
+    shift: u32,
+    log: &mut [u8],
+    grid: &mut [u32],
+) -> Walk
+    requires { ⌜ (now nonzeros ≡ NUM-NONZERO) × (now frequencies ≡ FREQ) × Ready spot (now order) start count first (length (now part)) shift (length (now log)) × (count ≤ 32 * 2 ^ (spot .exponent)) ⌝ }
+    ensures { λ r. ⌜ Handed r (now (log .exit)) (now (grid .exit)) (walk shift (2 ^ (spot .exponent)) (now (part .entry)) (spotPlaces spot (now (order .entry))) 0 first count (drop start (now (symbols .entry))) start (now (log .entry)) (now (grid .entry))) ⌝ }
+{
+    let mut left = count;
+    let mut prev = first;
+    let mut k = 0;
+    let end = order.len() / 2;
+    let stop = lesser_of(end, behind(symbols.len(), start));
+    while k < stop {
+        if left == 0 {
+            return Walk::Ended(start + k);
+        }
+        let at = start + k;
+        let context = coeff_context(nonzeros, frequencies, spot.exponent, left - 1, k, prev);
+        let u = symbols[at];
+        log[at] = part[context];
+        if u == 0 {
+            let entry = 2 * count_entry(nonzeros, spot.exponent, left - 1);
+            k = zeros_from(
+                frequencies,
+                spot.exponent,
+                symbols,
+                start,
+                k + 1,
+                stop,
+                &part[entry..],
+                log,
+            );
+            prev = 0;
+            continue;
+        }
+        gain_at(order, k, spot, u, shift, grid);
+        left -= 1;
+        prev = 1;
+        k += 1;
+    }
+    if end <= k {
+        return Walk::Ended(start + k);
+    }
+    if left == 0 {
+        return Walk::Ended(start + k);
+    }
+    Walk::Stopped(Refusal::SymbolsEnd(start + k))
+}
+
+// The same, by the way that suits the count: few, that is at most a quarter of the places, or many. An order has two numbers
+// for each place.
+pub(crate) fn walk_places(
+    nonzeros: &[u8; 63],
+    frequencies: &[u8; 63],
+    order: &[u16],
+    spot: Spot,
+    symbols: &[u32],
+    start: usize,
+    count: usize,
+    first: usize,
+    part: &[u8],
+    shift: u32,
+    log: &mut [u8],
+    grid: &mut [u32],
+) -> Walk
+    requires { ⌜ (now nonzeros ≡ NUM-NONZERO) × (now frequencies ≡ FREQ) × Ready spot (now order) start count first (length (now part)) shift (length (now log)) ⌝ }
+    ensures { λ r. ⌜ Handed r (now (log .exit)) (now (grid .exit)) (walk shift (2 ^ (spot .exponent)) (now (part .entry)) (spotPlaces spot (now (order .entry))) 0 first count (drop start (now (symbols .entry))) start (now (log .entry)) (now (grid .entry))) ⌝ }
+{
+    if order.len() / 8 < count {
+        return walk_dense(
+            nonzeros,
+            frequencies,
+            order,
+            spot,
+            symbols,
+            start,
+            count,
+            first,
+            part,
+            shift,
+            log,
+            grid,
+        );
+    }
+    walk_sparse(
+        nonzeros,
+        frequencies,
+        order,
+        spot,
+        symbols,
+        start,
+        count,
+        first,
+        part,
+        shift,
+        log,
+        grid,
+    )
+}

@@ -1,0 +1,2 @@
+-- what is proved of the preset number
+pub mod PresetLaws

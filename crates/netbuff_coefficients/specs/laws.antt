@@ -1,0 +1,2 @@
+-- what is proved of it
+pub mod Coefficients
