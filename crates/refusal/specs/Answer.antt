@@ -2,9 +2,7 @@
 use mathlib.Core.Bool.{Bool, cond}
 use Prim.Native.Nat.{ℕ}
 use Rattle.refusal.specs.declared.Said.{Said}
-use Rattle.refusal.specs.declared.Checked.{Checked}
-use Rattle.refusal.specs.declared.Checked.the-variants.{Fine, Refused}
-use Rattle.refusal.specs.Said.{at, said}
+use Rattle.refusal.specs.Said.{at}
 
 -- a result, or a refusal's number and position
 pub data Answer (A : Type 0) : Type 0 where
@@ -23,8 +21,3 @@ passed = gives tt
 abbrev pub answeredBy : {A O : Type 0} → Answer A → (Said → O) → (A → O) → O
 answeredBy (refuses s) refuse work = refuse s
 answeredBy (gives a) refuse work = work a
-
--- what checks in code answer
-abbrev pub checked : Checked → Answer Unit
-checked Fine = passed
-checked (Refused r) = refuses (said r)

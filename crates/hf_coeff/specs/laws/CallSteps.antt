@@ -11,7 +11,8 @@ use borrow.Author.Tests.{ltb-true}
 use Rattle.refusal.specs.declared.Refusal.{Refusal}
 use Rattle.refusal.specs.declared.Refusal.the-variants.{Preset}
 use Rattle.refusal.specs.Said.{said}
-use Rattle.refusal.specs.Answer.{Answer, gives, refuses, passed, checked}
+use Rattle.refusal.specs.Answer.{Answer, gives, refuses, passed}
+use Rattle.refusal.specs.laws.Answer.{checked}
 use Rattle.refusal.specs.declared.Checked.{Checked}
 use Rattle.refusal.specs.declared.Checked.the-variants as check
 use Rattle.bits.specs.Bits.{Read, Value, Ended}

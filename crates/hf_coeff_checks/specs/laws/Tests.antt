@@ -11,7 +11,8 @@ use borrow.Author.Tests.{le-leb, eq-eqb}
 use Rattle.layout.specs.Check.{isLayout}
 use Rattle.refusal.specs.declared.Checked.{Checked}
 use Rattle.refusal.specs.declared.Checked.the-variants.{Fine, Refused}
-use Rattle.refusal.specs.Answer.{Answer, gives, refuses, unless, checked}
+use Rattle.refusal.specs.Answer.{Answer, gives, refuses, unless}
+use Rattle.refusal.specs.laws.Answer.{checked}
 use Rattle.block_check.specs.Calls.{checkOf}
 use Rattle.block_sides.specs.Limits.{inLimits, lengthsFit as cellsFit}
 use Rattle.hf_pass_store.specs.Store.{PLACES}

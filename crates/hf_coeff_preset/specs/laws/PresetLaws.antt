@@ -15,7 +15,14 @@ use Rattle.bits.specs.Reads.{gotOf, placeAt, bitsBefore}
 use Rattle.bits.specs.laws.Laws.{was-value, was-end, value-at, ended-at}
 use Rattle.coded_numbers.specs.Exponent.{exponent}
 use Rattle.coded_numbers.specs.laws.Exponent.{exponent-least}
+use Rattle.hf_coeff_preset.specs.declared.PresetAnswer.{PresetAnswer}
+use Rattle.hf_coeff_preset.specs.declared.PresetAnswer.the-variants as preset
 use Rattle.hf_coeff_preset.specs.Preset.{presetOf}
+
+-- what the code answers
+abbrev pub answered : PresetAnswer → Answer ℕ
+answered (preset.Number n) = gives n
+answered (preset.Refused why) = refuses (said why)
 
 module _ (bytes : List ℕ) (presets n : ℕ) (p : Place) (g : Got) (m : presets < 2 ^ 32) (c : n ≡ exponent presets) (d : p ≡ placeAt 0) (e : g ≡ gotOf (bitsBefore p) (readBits bytes (bitsBefore p) (min n 32))) where
   whole : g ≡ gotOf 0 (readBits bytes 0 n)

@@ -4,7 +4,15 @@ use mathlib.Core.Bool.{Bool, true, false}
 use Prim.Native.Nat.{ℕ}
 use native.Mathlib.Omega.{arith}
 use Rattle.refusal.specs.declared.Said.{Said}
-use Rattle.refusal.specs.Answer.{Answer, gives, refuses, unless, answeredBy}
+use Rattle.refusal.specs.declared.Checked.{Checked}
+use Rattle.refusal.specs.declared.Checked.the-variants.{Fine, Refused}
+use Rattle.refusal.specs.Said.{said}
+use Rattle.refusal.specs.Answer.{Answer, gives, refuses, unless, passed, answeredBy}
+
+-- what checks in code answer
+abbrev pub checked : Checked → Answer Unit
+checked Fine = passed
+checked (Refused r) = refuses (said r)
 
 -- a result comes after a test that passed
 pub pass : {A : Type 0} (n : ℕ) (b : Bool) (next : Answer A) (a : A) → unless n b next ≡ gives a → (b ≡ true) × (next ≡ gives a)

@@ -1,6 +1,6 @@
 use mathlib.Core.Path.{_∙_, sym, ap}
 use lib.ListN.{length}
-use Rattle.refusal.specs.Answer.{checked}
+use Rattle.refusal.specs.laws.Answer.{checked}
 use Rattle.block_sides.specs.laws.Limits.{in-limits}
 use Rattle.block_record.specs.laws.CutSteps.{passed, ready, copied, cut-refused, cut-done}
 use borrow.Author.Needs.{needs}
