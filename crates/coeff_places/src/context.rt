@@ -2,7 +2,7 @@
 ghost use mathlib.Core.Path.{_≡_};
 ghost use Prim.Native.Nat.{_*_, _/_, _^_, _≤_, _<_};
 ghost use lib.ListN.{getD};
-ghost use Rattle.hf_coeff_walk.specs.Walk.{FREQ, NUM-NONZERO, coeffContext};
+ghost use Rattle.coeff_walk.specs.Walk.{FREQ, NUM-NONZERO, coeffContext};
 
 pub(crate) const COEFF_FREQ_CONTEXT: [u8; 63] = [
     0,

@@ -2,8 +2,8 @@
 use crate::context::COEFF_FREQ_CONTEXT;
 use crate::context::COEFF_NUM_NONZERO_CONTEXT;
 use crate::walk::walk_places;
-use hf_coeff_walk::Walk;
-use hf_coeff_walk::place::Spot;
+use coeff_walk::Walk;
+use coeff_walk::place::Spot;
 use refusal::Refusal;
 
 pub mod context;
@@ -13,8 +13,8 @@ pub mod walk;
 ghost use mathlib.Core.Path.{_≡_};
 ghost use mathlib.Core.Bool.{cond};
 ghost use Prim.Native.Nat.{_≤_};
-ghost use Rattle.hf_coeff_walk.specs.laws.Outcome.{Handed};
-ghost use Rattle.hf_coeff_walk.specs.laws.Lent.{placesFit, placesRead};
+ghost use Rattle.coeff_walk.specs.laws.Outcome.{Handed};
+ghost use Rattle.coeff_walk.specs.laws.Lent.{placesFit, placesRead};
 
 // 1 for true.
 fn to_usize(b: bool) -> usize

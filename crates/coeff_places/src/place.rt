@@ -1,9 +1,9 @@
 // The cells of an order's places (`hf_coeff.rs`).
-use hf_coeff_walk::place::Spot;
+use coeff_walk::place::Spot;
 ghost use mathlib.Core.Path.{_≡_};
 ghost use Prim.Native.Nat.{_/_, _≤_, _<_};
 ghost use lib.ListN.{length, getD};
-ghost use Rattle.hf_coeff_walk.specs.laws.Outcome.{spotPlaces};
+ghost use Rattle.coeff_walk.specs.laws.Outcome.{spotPlaces};
 
 fn to_usize(x: u16) -> usize
     ensures { λ r. ⌜ (r ≡ x) × (r ≤ 65535) ⌝ }

@@ -4,15 +4,15 @@ use crate::context::count_entry;
 use crate::context::place_entry;
 use crate::place::cell;
 use coded_numbers::unpack_signed;
-use hf_coeff_walk::Walk;
-use hf_coeff_walk::place::Spot;
+use coeff_walk::Walk;
+use coeff_walk::place::Spot;
 use refusal::Refusal;
 ghost use mathlib.Core.Path.{_≡_};
 ghost use Prim.Native.Nat.{_+_, _-_, _/_, _*_, _%_, _^_, _≤_, _<_};
 ghost use lib.ListN.{length, getD, drop};
-ghost use Rattle.hf_coeff_walk.specs.Walk.{FREQ, NUM-NONZERO, flag, gain, walk};
-ghost use Rattle.hf_coeff_walk.specs.laws.Outcome.{Ready, Handed, spotPlaces};
-ghost use Rattle.hf_coeff_walk.specs.laws.Runs.{ZerosReady, Zeros};
+ghost use Rattle.coeff_walk.specs.Walk.{FREQ, NUM-NONZERO, flag, gain, walk};
+ghost use Rattle.coeff_walk.specs.laws.Outcome.{Ready, Handed, spotPlaces};
+ghost use Rattle.coeff_walk.specs.laws.Runs.{ZerosReady, Zeros};
 
 // x shifted, losing top bits.
 fn shifted(x: u32, shift: u32) -> u32

@@ -11,9 +11,9 @@ use Rattle.refusal.specs.Answer.{Answer, unless, answeredBy}
 use Rattle.dct_select.specs.Transforms.{wide, high}
 use Rattle.layout.specs.Walk.{walk}
 use Rattle.layout.specs.Grid.{at}
-use Rattle.filter_strength.specs.declared.Filter.{Filter}
-use Rattle.filter_strength.specs.declared.ScaledFilter.{ScaledFilter}
-use Rattle.filter_strength.specs.Strength.{scaledBy, dividedBy}
+use Rattle.layout_filter.specs.declared.Filter.{Filter}
+use Rattle.layout_filter.specs.declared.ScaledFilter.{ScaledFilter}
+use Rattle.layout_filter.specs.Strength.{scaledBy, dividedBy}
 use Rattle.layout_column.specs.Columns.{lowEight, hfMulOf, columnChecks}
 use Rattle.layout_reading.specs.Scan.{Scan, Taking, Left, scan}
 

@@ -1,15 +1,15 @@
 // The columns of a layout, placed one after the other.
 use crate::scan::Scanned;
 use crate::scan::scan;
-use filter_strength::ScaledFilter;
 use layout_column::Judged;
 use layout_column::JudgedColumn;
 use layout_column::judge;
+use layout_filter::ScaledFilter;
 use refusal::Refusal;
 ghost use mathlib.Core.Path.{_≡_};
 ghost use Prim.Native.Nat.{_+_, _*_, _≤_, _<_};
 ghost use lib.ListN.{length};
-ghost use Rattle.filter_strength.specs.laws.Finite.{ScaledBounded};
+ghost use Rattle.layout_filter.specs.laws.Finite.{ScaledBounded};
 ghost use Rattle.layout_reading.specs.Reading.{Going, place as placeOf, visit as visitOf, jobWith};
 ghost use Rattle.layout_reading.specs.laws.Outcome.{stateOf, stepped};
 

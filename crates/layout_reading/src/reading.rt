@@ -1,15 +1,15 @@
 // The reading of a layout: its blocks, visited row by row.
 use crate::column::Step;
 use crate::column::visit;
-use filter_strength::Filter;
-use filter_strength::ScaledFilter;
-use filter_strength::params_fit;
-use lf_group::counts_fit;
+use layout_filter::Filter;
+use layout_filter::ScaledFilter;
+use layout_filter::params_fit;
+use layout_sizes::counts_fit;
 use refusal::Refusal;
 ghost use mathlib.Core.Path.{_≡_};
 ghost use Prim.Native.Nat.{_*_, _≤_};
 ghost use lib.ListN.{length};
-ghost use Rattle.filter_strength.specs.laws.Finite.{ScaledBounded};
+ghost use Rattle.layout_filter.specs.laws.Finite.{ScaledBounded};
 ghost use Rattle.layout.specs.Walk.{walk};
 ghost use Rattle.layout_reading.specs.Reading.{Going, visit as visitOf, reading as readingOf, jobWith, jobBy};
 ghost use Rattle.layout_reading.specs.laws.Outcome.{stateOf, stepped, toldBy, handed, readOf};

@@ -5,10 +5,10 @@ use Prim.Native.Nat.{ℕ, _*_}
 use lib.ListN.{replicate}
 use lib.Ieee.{Float}
 use Rattle.refusal.specs.Answer.{Answer, answeredBy}
-use Rattle.lf_group.specs.Blocks.{bwIn, bhIn}
-use Rattle.filter_strength.specs.declared.Filter.the-variants.{Off}
-use Rattle.filter_strength.specs.Strength.{zero32}
-use Rattle.hf_metadata.specs.Call.{Outcome, Inputs, inputs, layoutOf}
+use Rattle.layout_sizes.specs.Blocks.{bwIn, bhIn}
+use Rattle.layout_filter.specs.declared.Filter.the-variants.{Off}
+use Rattle.layout_filter.specs.Strength.{zero32}
+use Rattle.layout_call.specs.Call.{Outcome, Inputs, inputs, layoutOf}
 use Rattle.lister.specs.Texts.{BAD-INPUT, acceptedText, refusedText}
 use Rattle.lister_job.specs.Job.{width, height, types, muls, hasSize, hasEnd}
 

@@ -1,8 +1,8 @@
 // The layout lister: from a job's bytes to the printed bytes (document 01, The lister).
 use crate::lines::put_accepted;
 use crate::lines::put_refused;
-use filter_strength::Filter;
-use hf_metadata::LayoutAnswer;
+use layout_call::LayoutAnswer;
+use layout_filter::Filter;
 ghost use mathlib.Core.Path.{_≡_};
 ghost use mathlib.Core.List.{_++_};
 ghost use Prim.Native.Nat.{_*_, _≤_};
@@ -37,7 +37,7 @@ fn list_layout(
     requires { ⌜ (bw ≡ bwOf width) × (bh ≡ bhOf height) × (bw ≤ 64) × (bh ≤ 64) × (now sharpness ≡ replicate (bh * bw) 0) × (now kinds ≡ replicate (bh * bw) 0) × (now «hf_mul» ≡ replicate (bh * bw) 0) × (now sigma ≡ replicate (bh * bw) 0) ⌝ }
     ensures { λ r. ⌜ Puts (now (out .entry)) 0 (layoutText width height (now (types .entry)) (now (muls .entry))) (now (out .exit)) r ⌝ }
 {
-    let answer = hf_metadata::layout(
+    let answer = layout_call::layout(
         width,
         height,
         [0, 0, 0],
@@ -72,7 +72,7 @@ fn list_buffers(
     requires { ⌜ (width ≤ 512) × (height ≤ 512) × (now sharpness ≡ replicate 4096 0) × (now kinds ≡ replicate 4096 0) × (now «hf_mul» ≡ replicate 4096 0) × (now sigma ≡ replicate 4096 0) ⌝ }
     ensures { λ r. ⌜ Puts (now (out .entry)) 0 (layoutText width height (now (types .entry)) (now (muls .entry))) (now (out .exit)) r ⌝ }
 {
-    let blocks = lf_group::blocks_of(width, height, [0, 0, 0]);
+    let blocks = layout_sizes::blocks_of(width, height, [0, 0, 0]);
     let bw = blocks.bw;
     let bh = blocks.bh;
     let n = bh * bw;

@@ -3,7 +3,7 @@ use mathlib.Core.Path.{_≡_}
 use mathlib.Core.List.{List, [], _∷_}
 use Prim.Native.Nat.{ℕ, _+_, _*_, _%_, _^_, _-_, _≤_}
 use lib.ListN.{length, getD, set}
-use Rattle.hf_coeff.specs.Call.{Lent, lent}
+use Rattle.coeff_call.specs.Call.{Lent, lent}
 use Rattle.one_to_one.specs.Plain.{plain}
 
 -- cell p of a grid gains v modulo 2^32

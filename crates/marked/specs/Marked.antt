@@ -9,18 +9,18 @@ use lib.Ieee.{Float, fin, mul}
 use Rattle.refusal.specs.declared.Refusal.the-variants.{Preset}
 use Rattle.refusal.specs.Said.{at, said}
 use Rattle.bits.specs.Bits.{Value}
-use Rattle.natural_order.specs.Natural.{natural}
+use Rattle.order_natural.specs.Natural.{natural}
 use Rattle.layout.specs.Varblocks.{varblock, varblocksOf, area}
-use Rattle.filter_strength.specs.declared.Filter.the-variants.{On}
-use Rattle.filter_strength.specs.Strength.{nearest}
+use Rattle.layout_filter.specs.declared.Filter.the-variants.{On}
+use Rattle.layout_filter.specs.Strength.{nearest}
 use Rattle.refusal.specs.Answer as answer
-use Rattle.hf_metadata.specs.Call.{Outcome, inputs, layoutOf}
-use Rattle.accepted_layout.specs.Marked.{off}
-use Rattle.hf_pass_store.specs.Store.{PLACES, stretch}
-use Rattle.hf_pass.specs.Call.{parsed}
-use Rattle.hf_coeff.specs.declared.CoeffAnswer.the-variants.{Accepted}
+use Rattle.layout_call.specs.Call.{Outcome, inputs, layoutOf}
+use Rattle.layout_accepted.specs.Marked.{off}
+use Rattle.order_store.specs.Store.{PLACES, stretch}
+use Rattle.order_call.specs.Call.{parsed}
+use Rattle.coeff_call.specs.declared.CoeffAnswer.the-variants.{Accepted}
 use Rattle.refusal.specs.Answer.{gives, refuses}
-use Rattle.hf_coeff.specs.Call.{leaves, outcome, refuse, readPreset, call, reading as readingWith}
+use Rattle.coeff_call.specs.Call.{leaves, outcome, refuse, readPreset, call, reading as readingWith}
 use Rattle.lister.specs.Listing.{textOf}
 use Rattle.marked.specs.Lines.{job, lines}
 use Rattle.marked.specs.Coefficients.{gains, dct8, dct16, Room}

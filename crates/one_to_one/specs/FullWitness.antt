@@ -4,18 +4,18 @@ use mathlib.Core.Bool.{true}
 use mathlib.Core.List.{List, [], _∷_, _++_}
 use Prim.Native.Nat.{ℕ, zero, suc, _+_, _^_, _-_}
 use lib.ListN.{set, drop, replicate}
-use Rattle.block_sizes.specs.BlockSizes.{BLOCK-SIZES}
-use Rattle.natural_order.specs.Places.{Place}
-use Rattle.natural_order.specs.Natural.{natural}
-use Rattle.permutation.specs.Digits.{ordered}
-use Rattle.hf_pass_store.specs.Store.{stored}
-use Rattle.hf_pass_naturals.specs.Naturals.{naturals}
-use Rattle.block_context.specs.declared.HfBlockContext.{HfBlockContext}
-use Rattle.thresholds.specs.Thresholds.{listsOf}
-use Rattle.hf_block_context.specs.Call as context
-use Rattle.hf_coeff_group.specs.Group.{Grids}
-use Rattle.hf_coeff_group.specs.Pass.{Pass}
-use Rattle.hf_coeff.specs.Call.{Lent}
+use Rattle.order_sizes.specs.BlockSizes.{BLOCK-SIZES}
+use Rattle.order_natural.specs.Places.{Place}
+use Rattle.order_natural.specs.Natural.{natural}
+use Rattle.order_permutation.specs.Digits.{ordered}
+use Rattle.order_store.specs.Store.{stored}
+use Rattle.order_naturals.specs.Naturals.{naturals}
+use Rattle.context_record.specs.declared.HfBlockContext.{HfBlockContext}
+use Rattle.context_thresholds.specs.Thresholds.{listsOf}
+use Rattle.context_call.specs.Call as context
+use Rattle.coeff_group.specs.Group.{Grids}
+use Rattle.coeff_group.specs.Pass.{Pass}
+use Rattle.coeff_call.specs.Call.{Lent}
 
 -- Orders: order 0 alone is used, channel 0 with digit 1, channel 1 with digits 2, 0, channel 2 with none.
 abbrev pub lists : List (List Place)

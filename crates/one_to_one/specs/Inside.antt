@@ -10,14 +10,14 @@ use lib.ListN.{length, getD, set}
 use Rattle.dct_select.specs.Transforms.{COUNT, orderOf}
 use Rattle.layout.specs.Grid.{at}
 use Rattle.layout.specs.Varblocks.{Varblock}
-use Rattle.block_context_index.specs.Lists.{used}
-use Rattle.block_context_index.specs.Contexts.{qfIndex, lfIndexOf, contextIndex}
-use Rattle.hf_coeff_walk.specs.Walk.{FREQ, NUM-NONZERO, coeffContext, flag, less, gain}
-use Rattle.hf_coeff_walk.specs.Item.{Item, predicted, countIndex, countCluster, coeffPart}
-use Rattle.hf_coeff_group.specs.Group.{Reading, going, refused, item, varblock, zeroRows}
-use Rattle.hf_coeff_group.specs.Pass.{Pass, varblocks, blocksOf, placesAt, channels}
-use Rattle.hf_coeff_group.specs.Work.{clustersOf}
-use Rattle.hf_coeff.specs.Call.{Lent, presetMap}
+use Rattle.context_index.specs.Lists.{used}
+use Rattle.context_index.specs.Contexts.{qfIndex, lfIndexOf, contextIndex}
+use Rattle.coeff_walk.specs.Walk.{FREQ, NUM-NONZERO, coeffContext, flag, less, gain}
+use Rattle.coeff_walk.specs.Item.{Item, predicted, countIndex, countCluster, coeffPart}
+use Rattle.coeff_group.specs.Group.{Reading, going, refused, item, varblock, zeroRows}
+use Rattle.coeff_group.specs.Pass.{Pass, varblocks, blocksOf, placesAt, channels}
+use Rattle.coeff_group.specs.Work.{clustersOf}
+use Rattle.coeff_call.specs.Call.{Lent, presetMap}
 
 module _ (shift blocks : ℕ) (part : List ℕ) where
   -- the entries of the two tables of 63 for place i, with n + 1 still due

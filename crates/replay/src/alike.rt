@@ -1,8 +1,8 @@
 // Call 5: the likeness of two layouts. Width and height of each; kinds and hf_mul of each.
 use crate::answer::refuse;
 use crate::lent::length;
-use likeness::LikeAnswer;
-use likeness::alike;
+use lent_likeness::LikeAnswer;
+use lent_likeness::alike;
 use recorded_lists::list::bytes;
 use recorded_lists::list::list;
 

@@ -1,7 +1,7 @@
 // Call 2: the column count. Width, height and three modes; the bytes.
 use crate::answer::refuse;
-use column_count::ColumnCount;
-use column_count::column_count;
+use layout_column_count::ColumnCount;
+use layout_column_count::column_count;
 use recorded_lists::list::bytes;
 use recorded_lists::list::number;
 

@@ -1,8 +1,8 @@
 // Call 6: the block contexts. The count; the bytes and the map.
 use crate::answer::refuse;
-use block_context::HfBlockContext;
-use hf_block_context::ContextAnswer;
-use hf_block_context::parse;
+use context_call::ContextAnswer;
+use context_call::parse;
+use context_record::HfBlockContext;
 use recorded_answers::digest::of_bytes;
 use recorded_answers::digest::of_words;
 use recorded_lists::list::bytes;

@@ -2,9 +2,9 @@
 use crate::answer::refuse;
 use crate::lent::fit_shorts;
 use crate::lent::length;
-use hf_pass::OrdersAnswer;
-use hf_pass::parse;
-use hf_pass_store::order;
+use order_call::OrdersAnswer;
+use order_call::parse;
+use order_store::order;
 use recorded_answers::digest::of_shorts;
 use recorded_lists::list::bytes;
 use recorded_lists::list::list;

@@ -1,6 +1,6 @@
 // A lent context record: count, four lengths, and the lists of thresholds and the map, which may be
 // shorter: then 0.
-use block_context::HfBlockContext;
+use context_record::HfBlockContext;
 use recorded_lists::list::bytes;
 use recorded_lists::list::list;
 use recorded_lists::list::number;

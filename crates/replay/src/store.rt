@@ -1,7 +1,7 @@
 // The lent store of a coefficient call: what an accepted order call writes, with one number changed.
 use crate::lent::length;
-use hf_pass::OrdersAnswer;
-use hf_pass::parse;
+use order_call::OrdersAnswer;
+use order_call::parse;
 use recorded_lists::list::bytes;
 use recorded_lists::list::list;
 use recorded_lists::list::number;

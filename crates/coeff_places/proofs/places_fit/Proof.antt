@@ -2,8 +2,8 @@ use Prim.Native.Nat.{_*_, _-_, _/_, _^_}
 use borrow.Author.Needs.{needs}
 use borrow.Author.Tests.{le-leb, lt-leb, eq-eqb, ne-eqb}
 use native.Mathlib.Omega.{arith}
-use Rattle.hf_coeff_walk.specs.laws.Counts.{shifted-left}
-use Rattle.hf_coeff_walk.specs.laws.Lent.{placesFit}
+use Rattle.coeff_walk.specs.laws.Counts.{shifted-left}
+use Rattle.coeff_walk.specs.laws.Lent.{placesFit}
 use Rattle.coeff_places.proofs.places_fit.Statement.{statement}
 use Rattle.coeff_places.proofs.places_fit.Tie as tie
 

@@ -5,9 +5,9 @@ use borrow.Author.Needs.{needs}
 use borrow.Author.Tests.{not-true, not-false, le-leb, lt-leb}
 use native.Mathlib.Omega.{arith}
 use lib.ListN.{length}
-use Rattle.hf_coeff_walk.specs.Walk.{FREQ, NUM-NONZERO}
-use Rattle.hf_coeff_walk.specs.laws.Counts.{shifted-left}
-use Rattle.hf_coeff_walk.specs.laws.Lent.{placesFit, fits-ready}
+use Rattle.coeff_walk.specs.Walk.{FREQ, NUM-NONZERO}
+use Rattle.coeff_walk.specs.laws.Counts.{shifted-left}
+use Rattle.coeff_walk.specs.laws.Lent.{placesFit, fits-ready}
 use Rattle.coeff_places.proofs.read_places.Statement.{statement}
 use Rattle.coeff_places.proofs.read_places.Tie as tie
 

@@ -9,7 +9,7 @@ use Rattle.laws.specs.laws.Cases.{le-or-lt}
 use Rattle.refusal.specs.declared.Said.{Said}
 use Rattle.refusal.specs.Said.{at}
 use Rattle.refusal.specs.Answer.{Answer, gives, refuses}
-use Rattle.block_sizes.specs.declared.Sides.{Sides}
+use Rattle.order_sizes.specs.declared.Sides.{Sides}
 use Rattle.dct_select.specs.declared.Carried.{Carried}
 use Rattle.dct_select.specs.declared.TransformType.{TransformType}
 use Rattle.dct_select.specs.Transforms.{wide, high, orderOf, turns}

@@ -12,9 +12,9 @@ use Rattle.layout_reading.specs.declared.column.Step.{Step}
 use Rattle.layout_reading.specs.declared.column.Step.the-variants.{Going as GoesOn, Stopped as Stops}
 use Rattle.layout_reading.specs.Reading.{Job, Going, visit, zeros, reading}
 use Rattle.layout_reading.specs.laws.Outcome.{stateOf, stepped, toldBy, handed, fits, readOf}
-use Rattle.filter_strength.specs.declared.Filter.{Filter}
-use Rattle.filter_strength.specs.Limits.{paramsFit}
-use Rattle.lf_group.specs.Blocks.{countsFit}
+use Rattle.layout_filter.specs.declared.Filter.{Filter}
+use Rattle.layout_filter.specs.Limits.{paramsFit}
+use Rattle.layout_sizes.specs.Blocks.{countsFit}
 
 module _ (J : Job) (k m s : List ℕ) (filter : Filter) (scale : ℕ) where
   pub read-params : paramsFit filter (J .lookups) scale ≡ false → handed (Stops 0 Parameter) k m s ≡ readOf J k m s filter scale

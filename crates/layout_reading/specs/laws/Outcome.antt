@@ -7,9 +7,9 @@ use lib.ListN.{length}
 use Rattle.refusal.specs.declared.Said.{Said}
 use Rattle.refusal.specs.Said.{said}
 use Rattle.refusal.specs.Answer.{Answer, gives, refuses, unless, passed, answeredBy}
-use Rattle.filter_strength.specs.declared.Filter.{Filter}
-use Rattle.filter_strength.specs.Limits.{paramsFit}
-use Rattle.lf_group.specs.Blocks.{countsFit}
+use Rattle.layout_filter.specs.declared.Filter.{Filter}
+use Rattle.layout_filter.specs.Limits.{paramsFit}
+use Rattle.layout_sizes.specs.Blocks.{countsFit}
 use Rattle.layout_reading.specs.declared.column.Step.{Step}
 use Rattle.layout_reading.specs.declared.column.Step.the-variants.{Going as GoesOn, Stopped as Stops}
 use Rattle.layout_reading.specs.Reading.{Job, Placed, Placing, Going, Stopped, reading}

@@ -12,9 +12,9 @@ use Rattle.refusal.specs.Answer.{Answer, gives, refuses, answeredBy}
 use Rattle.refusal.specs.laws.Answer.{answered-by}
 use Rattle.refusal.specs.declared.Refusal.{Refusal}
 use Rattle.layout.specs.Grid.{at}
-use Rattle.filter_strength.specs.declared.ScaledFilter.{ScaledFilter}
-use Rattle.filter_strength.specs.declared.DividedFilter.{DividedFilter}
-use Rattle.filter_strength.specs.Strength.{dividedBy}
+use Rattle.layout_filter.specs.declared.ScaledFilter.{ScaledFilter}
+use Rattle.layout_filter.specs.declared.DividedFilter.{DividedFilter}
+use Rattle.layout_filter.specs.Strength.{dividedBy}
 use Rattle.layout_reading.specs.declared.scan.Scanned.{Scanned}
 use Rattle.layout_column.specs.declared.Judged.{Judged}
 use Rattle.layout_reading.specs.declared.column.Step.{Step}

@@ -8,9 +8,9 @@ use lib.ListN.{set}
 use lib.Ieee.{Float}
 use borrow.Author.Tests.{lt-ltb, le-ltb, le-leb, lt-leb}
 use Rattle.layout.specs.Grid.{at}
-use Rattle.filter_strength.specs.declared.DividedFilter.{DividedFilter}
-use Rattle.filter_strength.specs.declared.DividedFilter.the-variants.{Off, On}
-use Rattle.filter_strength.specs.Strength.{timesLookUp, pattern}
+use Rattle.layout_filter.specs.declared.DividedFilter.{DividedFilter}
+use Rattle.layout_filter.specs.declared.DividedFilter.the-variants.{Off, On}
+use Rattle.layout_filter.specs.Strength.{timesLookUp, pattern}
 use Rattle.layout_reading.specs.declared.scan.Scanned.{Scanned}
 use Rattle.layout_reading.specs.declared.scan.Scanned.the-variants.{Taken, Outside, Overlap, Sharpness}
 use Rattle.layout_reading.specs.Scan.{Scan, Taking, Left, takeCell, scan}

@@ -1,5 +1,5 @@
 use Rattle.lister.specs.laws.ListSteps.{few-wide, few-high, few-blocks, cleared}
-use Rattle.lf_group.specs.declared.Blocks.{Blocks}
+use Rattle.layout_sizes.specs.declared.Blocks.{Blocks}
 use lib.Seq.{length-take-le}
 use lib.ListN.{length-replicate}
 use mathlib.Core.Path.{refl}

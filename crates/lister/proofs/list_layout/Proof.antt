@@ -1,8 +1,8 @@
 use Rattle.lister.specs.laws.ListSteps.{listed-is, accepts, refuses}
 use Rattle.lister.specs.Texts.{refusedText}
 use Rattle.text.specs.Text.{Puts}
-use Rattle.hf_metadata.specs.Call.{leaves}
-use Rattle.hf_metadata.specs.declared.LayoutAnswer.{LayoutAnswer}
+use Rattle.layout_call.specs.Call.{leaves}
+use Rattle.layout_call.specs.declared.LayoutAnswer.{LayoutAnswer}
 use Rattle.zeros.specs.laws.Filled.{zero-bits}
 use lib.ListN.{replicate}
 use lib.Ieee.{Float}

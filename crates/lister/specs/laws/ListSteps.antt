@@ -16,12 +16,12 @@ use Rattle.refusal.specs.declared.Refusal.{Refusal}
 use Rattle.refusal.specs.Said.{said}
 use Rattle.layout.specs.Valid.{Layout}
 use Rattle.layout.specs.Varblocks.{varblocksOf, area}
-use Rattle.lf_group.specs.Blocks.{blocks, bwIn, bhIn}
-use Rattle.hf_metadata.specs.declared.LayoutAnswer.the-variants.{Accepted, Refused}
-use Rattle.hf_metadata.specs.Call.{Outcome, leaves, inputs, layoutOf}
-use Rattle.accepted_layout.specs.laws.Theorems.{accepted-layout, accepted-area}
-use Rattle.filter_strength.specs.declared.Filter.the-variants.{Off}
-use Rattle.filter_strength.specs.Strength.{zero32}
+use Rattle.layout_sizes.specs.Blocks.{blocks, bwIn, bhIn}
+use Rattle.layout_call.specs.declared.LayoutAnswer.the-variants.{Accepted, Refused}
+use Rattle.layout_call.specs.Call.{Outcome, leaves, inputs, layoutOf}
+use Rattle.layout_accepted.specs.laws.Theorems.{accepted-layout, accepted-area}
+use Rattle.layout_filter.specs.declared.Filter.the-variants.{Off}
+use Rattle.layout_filter.specs.Strength.{zero32}
 use Rattle.lister_job.specs.laws.JobSteps.{prefixed}
 use Rattle.lister_job.specs.Job.{width, height, columnPlace, columns, types, muls, hasSize, hasEnd}
 use Rattle.lister.specs.Texts.{acceptedText, refusedText, BAD-INPUT}

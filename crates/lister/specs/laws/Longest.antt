@@ -16,7 +16,7 @@ use Rattle.layout.specs.Grid.{at}
 use Rattle.layout.specs.Valid.{Layout}
 use Rattle.layout.specs.Varblocks.{Varblock, varblocksOf, area, cornersRow, cornersFrom}
 use Rattle.refusal.specs.Answer.{Answer, gives, refuses}
-use Rattle.accepted_layout.specs.laws.Theorems.{accepted-layout}
+use Rattle.layout_accepted.specs.laws.Theorems.{accepted-layout}
 use Rattle.text.specs.laws.Decimal.{ten}
 use Rattle.text.specs.Text.{digitsOf, decimal, Puts}
 use Rattle.lister_job.specs.Job.{width, height, types, muls, hasSize, hasEnd}

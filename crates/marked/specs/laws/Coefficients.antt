@@ -17,19 +17,19 @@ use Rattle.layout.specs.Walk.{cells, rows}
 use Rattle.layout.specs.Grid.{fillFrom}
 use Rattle.layout.specs.Check.{clear, fitting, visitCell, checkRun}
 use Rattle.layout.specs.Varblocks.{cornersRow, cornersFrom}
-use Rattle.block_sides.specs.Limits.{inLimits}
-use Rattle.block_context.specs.Record.{fit, fitOf, bsizeOf}
-use Rattle.hf_block_context.specs.Call.{contextsOf}
-use Rattle.hf_pass_store.specs.Store.{PLACES}
-use Rattle.hf_coeff_walk.specs.Item.{counted}
+use Rattle.lent_sides.specs.Limits.{inLimits}
+use Rattle.context_record.specs.Record.{fit, fitOf, bsizeOf}
+use Rattle.context_call.specs.Call.{contextsOf}
+use Rattle.order_store.specs.Store.{PLACES}
+use Rattle.coeff_walk.specs.Item.{counted}
 use Rattle.refusal.specs.Answer.{gives, refuses}
-use Rattle.hf_coeff_group.specs.Group.{Reading, going, item, read, zeroRows}
-use Rattle.hf_coeff_group.specs.laws.GroupLaws.{group-items}
-use Rattle.hf_coeff_group.specs.Pass.{Pass, varblocks, itemOf, itemsOf}
-use Rattle.hf_coeff_checks.specs.Checks.{layoutFits, sidesFit}
-use Rattle.hf_coeff.specs.Call.{Outcome, leaves, lengthsFit, presetMap, reading, outcome, refuse, readPreset, call, Passed}
-use Rattle.hf_coeff.specs.laws.CallLaws.{checks-pass, call-preset, call-reads}
-use Rattle.hf_coeff.specs.declared.CoeffAnswer.the-variants.{Accepted}
+use Rattle.coeff_group.specs.Group.{Reading, going, item, read, zeroRows}
+use Rattle.coeff_group.specs.laws.GroupLaws.{group-items}
+use Rattle.coeff_group.specs.Pass.{Pass, varblocks, itemOf, itemsOf}
+use Rattle.coeff_checks.specs.Checks.{layoutFits, sidesFit}
+use Rattle.coeff_call.specs.Call.{Outcome, leaves, lengthsFit, presetMap, reading, outcome, refuse, readPreset, call, Passed}
+use Rattle.coeff_call.specs.laws.CallLaws.{checks-pass, call-preset, call-reads}
+use Rattle.coeff_call.specs.declared.CoeffAnswer.the-variants.{Accepted}
 use Rattle.one_to_one.specs.Plain.{store, plain}
 use Rattle.one_to_one.specs.laws.Computes.{reading-computes}
 use Rattle.one_to_one.specs.laws.Plain.{store-long, store-fits, order-0, order-2}

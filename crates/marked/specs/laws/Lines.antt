@@ -1,7 +1,7 @@
 -- Laws: M4 as the lister prints it: the bytes of document 01's job, and the five lines.
 use mathlib.Core.Path.{_≡_, refl}
 use Rattle.layout.specs.Varblocks.{area, cornersRow, cornersFrom}
-use Rattle.accepted_layout.specs.laws.Marked.{layout-computes}
+use Rattle.layout_accepted.specs.laws.Marked.{layout-computes}
 use Rattle.text.specs.Text.{digitsOf}
 use Rattle.lister_job.specs.Job.{countFrom}
 use Rattle.lister.specs.Texts.{linesOf}

@@ -3,9 +3,9 @@ use mathlib.Core.Path.{refl}
 use Prim.Native.Nat.{_-_}
 use lib.Ieee.{mul, div, ofInt, toBits, round, size, span, climb, units, odd}
 use lib.Count.{trailingZeros}
-use Rattle.filter_strength.specs.laws.Strength.{m8}
-use Rattle.accepted_layout.specs.laws.Marked.{layout-computes, m4, m4-varblocks, m4-area, m5, m5-refused, m6, m6-refused}
-use Rattle.hf_pass.specs.laws.Marked.{m1, m2}
+use Rattle.layout_filter.specs.laws.Strength.{m8}
+use Rattle.layout_accepted.specs.laws.Marked.{layout-computes, m4, m4-varblocks, m4-area, m5, m5-refused, m6, m6-refused}
+use Rattle.order_call.specs.laws.Marked.{m1, m2}
 use Rattle.marked.specs.laws.Lines.{five-lines}
 use Rattle.marked.specs.laws.Orders.{one-digit}
 use Rattle.marked.specs.laws.Coefficients.{passes-252, refuses-253, reads-two-bits, refuses-3, takes-others, six-symbols}

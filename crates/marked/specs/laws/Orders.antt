@@ -6,16 +6,16 @@ use native.Mathlib.Omega.{arith}
 use lib.ListN.{length, getD, take, drop}
 use borrow.Author.Tests.{eq-eqb}
 use Rattle.bits.specs.Bits.{readBits, readU32, bitsOf, valueOf}
-use Rattle.block_sizes.specs.BlockSizes.{BLOCK-SIZES}
-use Rattle.natural_order.specs.Places.{Place, flat}
-use Rattle.natural_order.specs.Natural.{natural}
-use Rattle.permutation.specs.Digits.{ordered}
-use Rattle.hf_pass_store.specs.Store.{PLACES, stored, stretch}
-use Rattle.hf_pass_naturals.specs.Naturals.{naturals}
-use Rattle.hf_pass.specs.declared.OrdersAnswer.the-variants.{Accepted}
-use Rattle.hf_pass.specs.Orders.{Given, digits, oneList, orders}
-use Rattle.hf_pass.specs.Call.{Outcome, outcome, parsed}
-use Rattle.hf_pass.specs.laws.Stretch.{stretch-list}
+use Rattle.order_sizes.specs.BlockSizes.{BLOCK-SIZES}
+use Rattle.order_natural.specs.Places.{Place, flat}
+use Rattle.order_natural.specs.Natural.{natural}
+use Rattle.order_permutation.specs.Digits.{ordered}
+use Rattle.order_store.specs.Store.{PLACES, stored, stretch}
+use Rattle.order_naturals.specs.Naturals.{naturals}
+use Rattle.order_call.specs.declared.OrdersAnswer.the-variants.{Accepted}
+use Rattle.order_call.specs.Orders.{Given, digits, oneList, orders}
+use Rattle.order_call.specs.Call.{Outcome, outcome, parsed}
+use Rattle.order_call.specs.laws.Stretch.{stretch-list}
 
 -- the lists of order 0 alone used, channel 0 with length 1 and digit 1, channels 1 and 2 with length 0
 abbrev lists : List (List Place)

@@ -4,21 +4,21 @@ use mathlib.Core.Logic.{_↔_}
 use mathlib.Core.List.{List}
 use Prim.Native.Nat.{ℕ}
 use Rattle.refusal.specs.Answer.{gives}
-use Rattle.block_check.specs.Calls.{checkOf}
-use Rattle.block_sides.specs.Limits.{Sided}
-use Rattle.block_sides.specs.laws.Limits.{limits-in}
-use Rattle.block_check.specs.laws.Theorems.{checked}
-use Rattle.block_record.specs.Calls.{group}
-use Rattle.block_record.specs.laws.Theorems.{cut-checks}
-use Rattle.hf_metadata.specs.Call.{layoutOf}
-use Rattle.accepted_layout.specs.Outcome.{bwOf, bhOf}
-use Rattle.hf_block_context.specs.laws.Accepted.{accepted-fit}
-use Rattle.hf_coeff_group.specs.Group.{Grids}
-use Rattle.hf_coeff.specs.Call.{Lent}
+use Rattle.lent_check.specs.Calls.{checkOf}
+use Rattle.lent_sides.specs.Limits.{Sided}
+use Rattle.lent_sides.specs.laws.Limits.{limits-in}
+use Rattle.lent_check.specs.laws.Theorems.{checked}
+use Rattle.lent_cut.specs.Calls.{group}
+use Rattle.lent_cut.specs.laws.Theorems.{cut-checks}
+use Rattle.layout_call.specs.Call.{layoutOf}
+use Rattle.layout_accepted.specs.Outcome.{bwOf, bhOf}
+use Rattle.context_call.specs.laws.Accepted.{accepted-fit}
+use Rattle.coeff_group.specs.Group.{Grids}
+use Rattle.coeff_call.specs.Call.{Lent}
 use Rattle.one_to_one.specs.Filling.{Fixed, Given, Filling, Fills, Fails}
 use Rattle.one_to_one.specs.laws.Demand3.{one-sequence, every-other}
-use Rattle.hf_coeff_walk.specs.Sent.{Words}
-use Rattle.hf_coeff_group.specs.Sequence.{theSequence}
+use Rattle.coeff_walk.specs.Sent.{Words}
+use Rattle.coeff_group.specs.Sequence.{theSequence}
 
 module _ (L : Lent) (given : Given L) where
   -- a group that an accepted cut call wrote is one that 18 lets pass, 1 to 32 blocks each way

@@ -11,26 +11,26 @@ use Rattle.bits.specs.Bits.{readBits, readU32, bitsOf, valueOf}
 use Rattle.coded_numbers.specs.Exponent.{exponentFrom}
 use Rattle.coded_numbers.specs.Signed.{unpackSigned, pack, symbol}
 use Rattle.dct_select.specs.Transforms.{TRANSFORMS, wide, high, orderOf, turns}
-use Rattle.natural_order.specs.Places.{paired}
-use Rattle.natural_order.specs.Natural.{natural}
+use Rattle.order_natural.specs.Places.{paired}
+use Rattle.order_natural.specs.Natural.{natural}
 use Rattle.layout.specs.Walk.{cells, rows}
 use Rattle.layout.specs.Varblocks.{cornersRow, cornersFrom}
 use Rattle.layout.specs.Grid.{rowOf, gridFrom, fillFrom}
 use Rattle.layout.specs.Cut.{cut, groupX, groupY}
 use Rattle.layout.specs.Check.{clear, fitting, visitCell, checkRun}
-use Rattle.lf_group.specs.Blocks.{bwIn, bhIn}
-use Rattle.block_sides.specs.Limits.{inLimits, lengthsFit}
-use Rattle.block_record.specs.Calls.{cutCheck}
-use Rattle.block_context_index.specs.Contexts.{sizeOf, above, lfIndexIn, placeOf}
-use Rattle.hf_block_context.specs.Call.{contextsOf}
-use Rattle.hf_coeff_walk.specs.Walk.{walk, coeffContext, FREQ, NUM-NONZERO}
-use Rattle.hf_coeff_walk.specs.Places.{placesOf}
-use Rattle.hf_coeff_walk.specs.Item.{counted}
-use Rattle.hf_coeff_group.specs.Group.{Grids, item, read}
-use Rattle.hf_coeff_group.specs.Pass.{itemOf, itemsOf}
+use Rattle.layout_sizes.specs.Blocks.{bwIn, bhIn}
+use Rattle.lent_sides.specs.Limits.{inLimits, lengthsFit}
+use Rattle.lent_cut.specs.Calls.{cutCheck}
+use Rattle.context_index.specs.Contexts.{sizeOf, above, lfIndexIn, placeOf}
+use Rattle.context_call.specs.Call.{contextsOf}
+use Rattle.coeff_walk.specs.Walk.{walk, coeffContext, FREQ, NUM-NONZERO}
+use Rattle.coeff_walk.specs.Places.{placesOf}
+use Rattle.coeff_walk.specs.Item.{counted}
+use Rattle.coeff_group.specs.Group.{Grids, item, read}
+use Rattle.coeff_group.specs.Pass.{itemOf, itemsOf}
 use Rattle.one_to_one.specs.Filling.{isLow, wanted}
-use Rattle.hf_coeff_group.specs.Sequence.{cell, sent, theSequence}
-use Rattle.hf_coeff_walk.specs.Sent.{nonZeros, upTo}
+use Rattle.coeff_group.specs.Sequence.{cell, sent, theSequence}
+use Rattle.coeff_walk.specs.Sent.{nonZeros, upTo}
 
 unfoldable pub cut-computes : Bool
 unfolding cutCheck inLimits lengthsFit bwIn bhIn groupX groupY checkRun rows cells visitCell fitting clear wide high TRANSFORMS fillFrom cut gridFrom rowOf

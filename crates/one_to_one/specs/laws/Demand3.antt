@@ -10,16 +10,16 @@ use Rattle.layout.specs.laws.Corners.{Apart, corners-apart}
 use Rattle.layout.specs.laws.Rectangles.{right, bottom, covers}
 use Rattle.layout.specs.laws.Theorems.{disjoint, layout-area}
 use Rattle.layout.specs.Varblocks.{Varblock, area}
-use Rattle.hf_coeff_group.specs.Group.{Grids, zeroRows}
-use Rattle.hf_coeff_group.specs.Pass.{varblocks, itemsOf}
-use Rattle.hf_coeff_group.specs.Work.{clustersOf}
-use Rattle.hf_coeff.specs.Call.{Lent, presetMap}
+use Rattle.coeff_group.specs.Group.{Grids, zeroRows}
+use Rattle.coeff_group.specs.Pass.{varblocks, itemsOf}
+use Rattle.coeff_group.specs.Work.{clustersOf}
+use Rattle.coeff_call.specs.Call.{Lent, presetMap}
 use Rattle.one_to_one.specs.Filling.{Disjoint, Fixed, Filling, Fills, Fails}
 use Rattle.one_to_one.specs.laws.OneToOne as over
 use Rattle.one_to_one.specs.laws.OneToOne.{sequence-words}
 use Rattle.one_to_one.specs.laws.OverCall.{group, same, fills-not, not-fills}
-use Rattle.hf_coeff_walk.specs.Sent.{Words}
-use Rattle.hf_coeff_group.specs.Sequence.{theSequence}
+use Rattle.coeff_walk.specs.Sent.{Words}
+use Rattle.coeff_group.specs.Sequence.{theSequence}
 
 module _ (L : Lent) (fixed : Fixed L) where
   module _ (W : Grids) (filling : Filling L W) where

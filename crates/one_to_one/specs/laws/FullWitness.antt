@@ -9,34 +9,34 @@ use lib.ListN.{length, getD, replicate, length-replicate}
 use borrow.Author.Tests.{eq-eqb}
 use Rattle.bits.specs.Bits.{Value}
 use Rattle.coded_numbers.specs.Signed.{unpackSigned}
-use Rattle.block_sizes.specs.BlockSizes.{BLOCK-SIZES}
-use Rattle.natural_order.specs.Places.{flat}
-use Rattle.natural_order.specs.Natural.{natural}
-use Rattle.filter_strength.specs.declared.Filter.the-variants.{Off}
-use Rattle.filter_strength.specs.Strength.{zero32}
-use Rattle.hf_metadata.specs.Call.{Inputs, inputs, layoutOf}
-use Rattle.hf_pass_store.specs.Store.{PLACES, stretch}
-use Rattle.hf_pass.specs.declared.OrdersAnswer.the-variants as orderAnswer
-use Rattle.hf_pass.specs.Orders.{Given as GivenLists, digits, oneList, orders}
-use Rattle.hf_pass.specs.Call as order
-use Rattle.hf_pass.specs.laws.Stretch.{store-length, stretch-list}
-use Rattle.hf_pass.specs.Call.{Wrote}
-use Rattle.block_context.specs.Record.{bsizeOf}
-use Rattle.thresholds.specs.Thresholds.{lfValue, qfValue, readValues, readList, readLists}
-use Rattle.hf_block_context.specs.Call as context
-use Rattle.hf_coeff.specs.Call.{lengthsFit, readPreset}
+use Rattle.order_sizes.specs.BlockSizes.{BLOCK-SIZES}
+use Rattle.order_natural.specs.Places.{flat}
+use Rattle.order_natural.specs.Natural.{natural}
+use Rattle.layout_filter.specs.declared.Filter.the-variants.{Off}
+use Rattle.layout_filter.specs.Strength.{zero32}
+use Rattle.layout_call.specs.Call.{Inputs, inputs, layoutOf}
+use Rattle.order_store.specs.Store.{PLACES, stretch}
+use Rattle.order_call.specs.declared.OrdersAnswer.the-variants as orderAnswer
+use Rattle.order_call.specs.Orders.{Given as GivenLists, digits, oneList, orders}
+use Rattle.order_call.specs.Call as order
+use Rattle.order_call.specs.laws.Stretch.{store-length, stretch-list}
+use Rattle.order_call.specs.Call.{Wrote}
+use Rattle.context_record.specs.Record.{bsizeOf}
+use Rattle.context_thresholds.specs.Thresholds.{lfValue, qfValue, readValues, readList, readLists}
+use Rattle.context_call.specs.Call as context
+use Rattle.coeff_call.specs.Call.{lengthsFit, readPreset}
 use Rattle.refusal.specs.Answer.{gives}
-use Rattle.block_record.specs.Calls.{group, outcome, cutOf}
-use Rattle.block_record.specs.laws.CutSteps.{cut-done}
-use Rattle.accepted_layout.specs.Outcome.{bwOf, bhOf}
-use Rattle.accepted_layout.specs.laws.Marked.{layout-computes}
+use Rattle.lent_cut.specs.Calls.{group, outcome, cutOf}
+use Rattle.lent_cut.specs.laws.CutSteps.{cut-done}
+use Rattle.layout_accepted.specs.Outcome.{bwOf, bhOf}
+use Rattle.layout_accepted.specs.laws.Marked.{layout-computes}
 use Rattle.one_to_one.specs.Filling.{wanted, Fixed, Filling, Fills, Given}
 use Rattle.one_to_one.specs.laws.Demand3.{one-sequence}
 use Rattle.one_to_one.specs.laws.Wanted.{wanted-filling}
 use Rattle.one_to_one.specs.laws.Chain.{fixed-by-calls}
 use Rattle.one_to_one.specs.laws.Computes.{cut-computes, bits-compute, sequence-computes, wanted-computes, below, cells-below}
 use Rattle.one_to_one.specs.FullWitness.{changed, contexts, full, kinds, lists, map, muls, pairs, start, store}
-use Rattle.hf_coeff_group.specs.Sequence.{cell, theSequence}
+use Rattle.coeff_group.specs.Sequence.{cell, theSequence}
 
 abbrev digitSymbols : List ℕ
 digitSymbols = 1 ∷ 1 ∷ 2 ∷ 2 ∷ 0 ∷ 0 ∷ []

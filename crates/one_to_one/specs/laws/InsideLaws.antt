@@ -10,14 +10,14 @@ use lib.ListN.{length, getD, set, drop, length-set, length-drop}
 use lib.Seq.{sets, length-sets, length-take-le}
 use borrow.Author.Tests.{leb-true, leb-false}
 use Rattle.refusal.specs.declared.Refusal.the-variants.{Count}
-use Rattle.hf_coeff_walk.specs.Walk.{FREQ, NUM-NONZERO, Walked, stopped, walk, coeffContext, flag, less, gain}
-use Rattle.hf_coeff_walk.specs.laws.Kept.{length-gain}
-use Rattle.hf_coeff_walk.specs.laws.Counts.{count-over}
-use Rattle.hf_coeff_walk.specs.Item.{Item, predicted, countIndex, countOver, rowOf, newRow, countCluster, coeffPart, counted}
-use Rattle.hf_coeff_group.specs.Group.{Grids, Reading, going, refused, after, item}
-use Rattle.hf_coeff_walk.specs.laws.Walks.{End, ends, stops, walkedBy, gains, length-gains, run}
-use Rattle.hf_coeff_group.specs.laws.Cells.{set-below, put-all, In}
-use Rattle.hf_coeff_group.specs.laws.Symbols.{symbolsIn}
+use Rattle.coeff_walk.specs.Walk.{FREQ, NUM-NONZERO, Walked, stopped, walk, coeffContext, flag, less, gain}
+use Rattle.coeff_walk.specs.laws.Kept.{length-gain}
+use Rattle.coeff_walk.specs.laws.Counts.{count-over}
+use Rattle.coeff_walk.specs.Item.{Item, predicted, countIndex, countOver, rowOf, newRow, countCluster, coeffPart, counted}
+use Rattle.coeff_group.specs.Group.{Grids, Reading, going, refused, after, item}
+use Rattle.coeff_walk.specs.laws.Walks.{End, ends, stops, walkedBy, gains, length-gains, run}
+use Rattle.coeff_group.specs.laws.Cells.{set-below, put-all, In}
+use Rattle.coeff_group.specs.laws.Symbols.{symbolsIn}
 use Rattle.one_to_one.specs.Inside.{WalkInside, countEntry, CountInside, ItemInside, ReadInside}
 
 -- Coefficients of one channel.

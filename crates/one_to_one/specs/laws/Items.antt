@@ -10,10 +10,10 @@ use native.Mathlib.Decide.{ℕ-discrete, decLt}
 use lib.Arith.{digits-lt}
 use lib.ListN.{length, getD, drop, List·getD-eq-default}
 use Rattle.dct_select.specs.Transforms.{wide, high, orderOf, turns}
-use Rattle.block_sizes.specs.BlockSizes.{widthOf, heightOf}
-use Rattle.natural_order.specs.Places.{Place, paired}
-use Rattle.natural_order.specs.laws.Flat.{paired-flat}
-use Rattle.natural_order.specs.Order.{Order}
+use Rattle.order_sizes.specs.BlockSizes.{widthOf, heightOf}
+use Rattle.order_natural.specs.Places.{Place, paired}
+use Rattle.order_natural.specs.laws.Flat.{paired-flat}
+use Rattle.order_natural.specs.Order.{Order}
 use Rattle.layout.specs.Grid.{at}
 use Rattle.layout.specs.Valid.{Covers}
 use Rattle.layout.specs.Varblocks.{Varblock, varblock}
@@ -21,19 +21,19 @@ use Rattle.layout.specs.Listed.{Among, first, later}
 use Rattle.layout.specs.laws.Corners.{Apart, corners-apart}
 use Rattle.layout.specs.laws.Rectangles.{known, type-is, right, bottom, few, covers, at-corner}
 use Rattle.layout.specs.laws.Theorems.{disjoint}
-use Rattle.hf_pass_store.specs.Store.{stretch}
-use Rattle.hf_pass.specs.Call.{Wrote}
-use Rattle.hf_pass.specs.laws.Wrote.{listOf, wrote-order, wrote-stretch}
-use Rattle.hf_coeff_walk.specs.Places.{across, down, cellOf}
-use Rattle.hf_coeff_walk.specs.laws.PlaceLaws.{length-places}
-use Rattle.hf_coeff_walk.specs.Item.{Item}
-use Rattle.hf_coeff_group.specs.Group.{Grids}
-use Rattle.hf_coeff_group.specs.Pass.{Pass, varblocks, blocksOf, placesAt, itemOf, itemsOf}
-use Rattle.hf_coeff_group.specs.laws.Sizes.{order-lt}
+use Rattle.order_store.specs.Store.{stretch}
+use Rattle.order_call.specs.Call.{Wrote}
+use Rattle.order_call.specs.laws.Wrote.{listOf, wrote-order, wrote-stretch}
+use Rattle.coeff_walk.specs.Places.{across, down, cellOf}
+use Rattle.coeff_walk.specs.laws.PlaceLaws.{length-places}
+use Rattle.coeff_walk.specs.Item.{Item}
+use Rattle.coeff_group.specs.Group.{Grids}
+use Rattle.coeff_group.specs.Pass.{Pass, varblocks, blocksOf, placesAt, itemOf, itemsOf}
+use Rattle.coeff_group.specs.laws.Sizes.{order-lt}
 use Rattle.one_to_one.specs.Filling.{many, Place as PlaceOf, LaidOut, Sized, Low, LowKept}
-use Rattle.hf_coeff_group.specs.laws.Cells.{Distinct, distinct-both, distinct-map, Fit, In}
+use Rattle.coeff_group.specs.laws.Cells.{Distinct, distinct-both, distinct-map, Fit, In}
 use Rattle.one_to_one.specs.laws.Spread.{Spread, spread-of, place-in, in-place, cell-row, cell-column, distinct-places}
-use Rattle.hf_coeff_group.specs.Sequence.{cell, Cell, cellsOf}
+use Rattle.coeff_group.specs.Sequence.{cell, Cell, cellsOf}
 
 -- each of the 39 stretches is an order of its size
 abbrev pub Ordered : Pass → Type 0

@@ -8,17 +8,17 @@ use native.Mathlib.Decide.{ℕ-discrete, decLt}
 use lib.ListN.{length, getD, set, length-set}
 use lib.Seq.{sets, set-out, getD-set-same, getD-set-other}
 use Rattle.layout.specs.laws.Theorems.{layout-iff}
-use Rattle.hf_coeff_group.specs.Group.{Grids}
-use Rattle.hf_coeff_group.specs.Pass.{Pass, varblocks, itemsOf}
-use Rattle.hf_coeff.specs.Call.{Lent, Outcome, outcome, call}
-use Rattle.hf_coeff.specs.laws.CallLaws.{lengths-fit}
+use Rattle.coeff_group.specs.Group.{Grids}
+use Rattle.coeff_group.specs.Pass.{Pass, varblocks, itemsOf}
+use Rattle.coeff_call.specs.Call.{Lent, Outcome, outcome, call}
+use Rattle.coeff_call.specs.laws.CallLaws.{lengths-fit}
 use Rattle.one_to_one.specs.Filling.{many, put, Place, LaidOut, Low, LowKept, Fixed, Filling}
-use Rattle.hf_coeff_group.specs.laws.Cells.{set-below, adds, adds-off, put-cell, put-shape}
-use Rattle.hf_coeff_group.specs.laws.Reads.{joined}
+use Rattle.coeff_group.specs.laws.Cells.{set-below, adds, adds-off, put-cell, put-shape}
+use Rattle.coeff_group.specs.laws.Reads.{joined}
 use Rattle.one_to_one.specs.laws.Items.{wrote-ordered, Ordered, low-or-held, low-not-held}
 use Rattle.one_to_one.specs.laws.Ways.{Way, before, work, way, did, outcome-by}
-use Rattle.hf_pass.specs.Call.{Wrote}
-use Rattle.hf_coeff_group.specs.Sequence.{cell, cellsOf}
+use Rattle.order_call.specs.Call.{Wrote}
+use Rattle.coeff_group.specs.Sequence.{cell, cellsOf}
 
 -- Whatever is lent, with orders as an accepted order call wrote them: no call, accepted or refused and of whatever shift, changes a
 -- low-frequency cell.

@@ -9,9 +9,9 @@ use native.Mathlib.Nat.{mul-le-mul, mul-mul-mul-comm, mul-suc, le-refl}
 use lib.Arith.{digits-lt}
 use lib.ListN.{length, getD, drop, replicate, length-drop}
 use lib.Seq.{length-take-le}
-use Rattle.block_sizes.specs.BlockSizes.{widthOf, heightOf}
+use Rattle.order_sizes.specs.BlockSizes.{widthOf, heightOf}
 use Rattle.dct_select.specs.Transforms.{wide, high, orderOf, turns}
-use Rattle.natural_order.specs.Places.{Place, paired}
+use Rattle.order_natural.specs.Places.{Place, paired}
 use Rattle.dct_select.specs.laws.Sides.{wide-some, inside}
 use Rattle.layout.specs.Grid.{at}
 use Rattle.layout.specs.laws.Grid.{place-lt}
@@ -19,31 +19,31 @@ use Rattle.layout.specs.Varblocks.{Varblock}
 use Rattle.layout.specs.Listed.{Among, first, later}
 use Rattle.layout.specs.laws.Rectangles.{has, known, right, bottom}
 use Rattle.layout.specs.laws.Theorems.{layout-iff}
-use Rattle.block_context.specs.Record.{fit}
-use Rattle.block_context.specs.laws.Bounds.{is-fit}
-use Rattle.block_context_index.specs.Lists.{used}
-use Rattle.block_context_index.specs.laws.Bounds.{block-index-lt, context-lt, used-size-le}
-use Rattle.hf_pass_store.specs.Store.{PLACES, stretch, placesFit}
-use Rattle.hf_pass_places.specs.Places.{Inside}
-use Rattle.hf_pass_places.specs.laws.Places.{fits-at}
-use Rattle.hf_coeff_walk.specs.Places.{across, down}
-use Rattle.hf_coeff_walk.specs.Item.{Item, countCluster}
-use Rattle.hf_coeff_group.specs.Group.{Grids, Reading, going, item, read, zeroRows}
-use Rattle.hf_coeff_group.specs.Pass.{Pass, varblocks, blocksOf, contextOf, placesAt, itemOf, channels, itemsOf}
-use Rattle.hf_coeff_group.specs.Work.{clustersOf}
-use Rattle.hf_coeff_group.specs.laws.Sizes.{order-lt}
-use Rattle.hf_coeff_group.specs.laws.Stored.{stretch-long}
-use Rattle.hf_coeff_checks.specs.Checks.{blocks}
-use Rattle.hf_coeff_checks.specs.laws.ChecksLaws.{sides-fit}
-use Rattle.hf_coeff.specs.Call.{Lent, presetMap, Passed}
-use Rattle.hf_coeff.specs.laws.CallLaws.{lengths-fit, grids-fit}
+use Rattle.context_record.specs.Record.{fit}
+use Rattle.context_record.specs.laws.Bounds.{is-fit}
+use Rattle.context_index.specs.Lists.{used}
+use Rattle.context_index.specs.laws.Bounds.{block-index-lt, context-lt, used-size-le}
+use Rattle.order_store.specs.Store.{PLACES, stretch, placesFit}
+use Rattle.order_places.specs.Places.{Inside}
+use Rattle.order_places.specs.laws.Places.{fits-at}
+use Rattle.coeff_walk.specs.Places.{across, down}
+use Rattle.coeff_walk.specs.Item.{Item, countCluster}
+use Rattle.coeff_group.specs.Group.{Grids, Reading, going, item, read, zeroRows}
+use Rattle.coeff_group.specs.Pass.{Pass, varblocks, blocksOf, contextOf, placesAt, itemOf, channels, itemsOf}
+use Rattle.coeff_group.specs.Work.{clustersOf}
+use Rattle.coeff_group.specs.laws.Sizes.{order-lt}
+use Rattle.coeff_group.specs.laws.Stored.{stretch-long}
+use Rattle.coeff_checks.specs.Checks.{blocks}
+use Rattle.coeff_checks.specs.laws.ChecksLaws.{sides-fit}
+use Rattle.coeff_call.specs.Call.{Lent, presetMap, Passed}
+use Rattle.coeff_call.specs.laws.CallLaws.{lengths-fit, grids-fit}
 use Rattle.one_to_one.specs.Filling.{LaidOut}
 use Rattle.one_to_one.specs.laws.Spread.{in-place}
 use Rattle.one_to_one.specs.laws.Items.{each-item}
-use Rattle.hf_coeff_group.specs.laws.Symbols.{symbolsIn, places-many, some-blocks, most-symbols}
+use Rattle.coeff_group.specs.laws.Symbols.{symbolsIn, places-many, some-blocks, most-symbols}
 use Rattle.one_to_one.specs.Inside.{countEntry, ReadInside, contextPlace, CornerInside, GroupInside, ReadingInside}
 use Rattle.one_to_one.specs.laws.InsideLaws.{Sound, Small, Sane, read-inside}
-use Rattle.hf_coeff_group.specs.laws.Cells.{In}
+use Rattle.coeff_group.specs.laws.Cells.{In}
 
 -- The entries that Inside names are those that the definitions read.
 pub entry-read : (clusters : ℕ) (stretch₀ : List ℕ) (it : Item) (row : List ℕ) → countCluster clusters stretch₀ it row ≡ getD stretch₀ (countEntry clusters it row) 0

@@ -8,17 +8,17 @@ use lib.ListN.{length, getD, take, drop, length-map, length-append}
 use lib.Seq.{sets, take-at, drop-at}
 use Rattle.coded_numbers.specs.laws.Signed.{symbol-lt}
 use Rattle.coded_numbers.specs.Signed.{symbol}
-use Rattle.hf_coeff_walk.specs.Walk.{less}
-use Rattle.hf_coeff_walk.specs.Item.{Item}
+use Rattle.coeff_walk.specs.Walk.{less}
+use Rattle.coeff_walk.specs.Item.{Item}
 use Rattle.refusal.specs.Answer.{gives}
-use Rattle.hf_coeff_group.specs.Group.{leftOf, Grids, Reading, going, refused, read}
-use Rattle.hf_coeff.specs.Call.{outcome}
-use Rattle.hf_coeff_walk.specs.laws.Walks.{nonZeros-le}
-use Rattle.hf_coeff_group.specs.laws.Cells.{Distinct, Shape, same-shape, adds, adds-shape, adds-off, Fit, change, only-symbols, symbols-turn, In}
-use Rattle.hf_coeff_group.specs.laws.Reads as run
-use Rattle.hf_coeff_group.specs.laws.Reads.{joined, Long, Sized, words-both}
-use Rattle.hf_coeff_group.specs.Sequence.{cell, sent, changes, Cell, cellsOf}
-use Rattle.hf_coeff_walk.specs.Sent.{Words, nonZeros, upTo}
+use Rattle.coeff_group.specs.Group.{leftOf, Grids, Reading, going, refused, read}
+use Rattle.coeff_call.specs.Call.{outcome}
+use Rattle.coeff_walk.specs.laws.Walks.{nonZeros-le}
+use Rattle.coeff_group.specs.laws.Cells.{Distinct, Shape, same-shape, adds, adds-shape, adds-off, Fit, change, only-symbols, symbols-turn, In}
+use Rattle.coeff_group.specs.laws.Reads as run
+use Rattle.coeff_group.specs.laws.Reads.{joined, Long, Sized, words-both}
+use Rattle.coeff_group.specs.Sequence.{cell, sent, changes, Cell, cellsOf}
+use Rattle.coeff_walk.specs.Sent.{Words, nonZeros, upTo}
 
 -- accepted, read to the last symbol, every count used up, these grids
 pub record Filled (r : Reading) (s : List ℕ) (W : Grids) : Type 0 where

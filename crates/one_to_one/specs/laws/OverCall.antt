@@ -10,18 +10,18 @@ use native.Mathlib.Decide.{ℕ-discrete, decLt}
 use borrow.Author.Tests.{le-leb}
 use lib.ListN.{length, getD, List·getD-eq-default}
 use Rattle.layout.specs.laws.Theorems.{layout-check}
-use Rattle.hf_pass.specs.laws.Wrote.{wrote-fits}
-use Rattle.hf_coeff_walk.specs.Item.{Item}
+use Rattle.order_call.specs.laws.Wrote.{wrote-fits}
+use Rattle.coeff_walk.specs.Item.{Item}
 use Rattle.refusal.specs.Answer.{Answer, gives, refuses}
-use Rattle.hf_coeff_group.specs.Group.{Grids, Reading, going, leftOf, zeroRows}
-use Rattle.hf_coeff_group.specs.laws.GroupLaws.{group-items}
-use Rattle.hf_coeff_group.specs.Pass.{Pass, varblocks, itemsOf}
-use Rattle.hf_coeff_group.specs.Work.{clustersOf}
-use Rattle.hf_coeff_checks.specs.Checks.{parametersFit}
-use Rattle.hf_coeff.specs.Call.{Lent, Outcome, presetMap, reading, outcome, leftoverAt, leftover, call}
-use Rattle.hf_coeff.specs.laws.CallLaws.{checks-pass, grids-fit, call-reads}
+use Rattle.coeff_group.specs.Group.{Grids, Reading, going, leftOf, zeroRows}
+use Rattle.coeff_group.specs.laws.GroupLaws.{group-items}
+use Rattle.coeff_group.specs.Pass.{Pass, varblocks, itemsOf}
+use Rattle.coeff_group.specs.Work.{clustersOf}
+use Rattle.coeff_checks.specs.Checks.{parametersFit}
+use Rattle.coeff_call.specs.Call.{Lent, Outcome, presetMap, reading, outcome, leftoverAt, leftover, call}
+use Rattle.coeff_call.specs.laws.CallLaws.{checks-pass, grids-fit, call-reads}
 use Rattle.one_to_one.specs.Filling.{Sized, Fixed, Filling, withSymbols, Fills, Fails, symbolsRead, refused, unread, leftOver, otherGrids}
-use Rattle.hf_coeff_group.specs.laws.Cells.{Shape}
+use Rattle.coeff_group.specs.laws.Cells.{Shape}
 use Rattle.one_to_one.specs.laws.Items.{wrote-ordered, Ordered, item-size, cells-apart, cells-fit, place-or-same}
 use Rattle.one_to_one.specs.laws.OneToOne as over
 use Rattle.one_to_one.specs.laws.SymbolsRead.{never-more}

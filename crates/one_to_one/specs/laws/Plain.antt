@@ -7,17 +7,17 @@ use native.Mathlib.Omega.{arith}
 use lib.ListN.{length, getD, replicate, length-replicate}
 use borrow.Author.Tests.{eq-eqb}
 use Rattle.bits.specs.Bits.{readBits, readU32, bitsOf, valueOf}
-use Rattle.block_sizes.specs.BlockSizes.{BLOCK-SIZES}
-use Rattle.natural_order.specs.Places.{flat}
-use Rattle.natural_order.specs.Natural.{natural}
-use Rattle.hf_pass_store.specs.Store.{PLACES, stretch, placesFit}
-use Rattle.hf_pass_naturals.specs.Naturals.{naturals}
-use Rattle.hf_pass.specs.declared.OrdersAnswer.the-variants as orderAnswer
-use Rattle.hf_pass.specs.Call as order
-use Rattle.hf_pass.specs.laws.Accepts.{orders-unused}
-use Rattle.hf_pass.specs.laws.Stretch.{store-length, stretch-list, accepted-fits}
-use Rattle.hf_pass.specs.Call.{Wrote}
-use Rattle.hf_block_context.specs.Call as context
+use Rattle.order_sizes.specs.BlockSizes.{BLOCK-SIZES}
+use Rattle.order_natural.specs.Places.{flat}
+use Rattle.order_natural.specs.Natural.{natural}
+use Rattle.order_store.specs.Store.{PLACES, stretch, placesFit}
+use Rattle.order_naturals.specs.Naturals.{naturals}
+use Rattle.order_call.specs.declared.OrdersAnswer.the-variants as orderAnswer
+use Rattle.order_call.specs.Call as order
+use Rattle.order_call.specs.laws.Accepts.{orders-unused}
+use Rattle.order_call.specs.laws.Stretch.{store-length, stretch-list, accepted-fits}
+use Rattle.order_call.specs.Call.{Wrote}
+use Rattle.context_call.specs.Call as context
 use Rattle.one_to_one.specs.Plain.{defaults, store}
 
 pub store-long : length store ≡ 2 * PLACES

@@ -11,18 +11,18 @@ use lib.Arith.{digits-div, digits-mod}
 use lib.Dec.{ltb}
 use lib.ListN.{length, drop, length-drop}
 use Rattle.dct_select.specs.Transforms.{wide, high, orderOf, turns}
-use Rattle.block_sizes.specs.BlockSizes.{widthOf, heightOf}
-use Rattle.natural_order.specs.Places.{Place, is, tally, count}
-use Rattle.natural_order.specs.laws.Bools.{tally-one}
-use Rattle.natural_order.specs.Order.{Size, Order}
-use Rattle.natural_order.specs.laws.Sizes.{size-of, width-eights, height-by}
-use Rattle.natural_order.specs.laws.Counts.{is-hit}
-use Rattle.natural_order.specs.laws.Listing.{hit-of, listing-length, self, inside-of}
-use Rattle.natural_order.specs.laws.Order.{skip-by}
-use Rattle.natural_order.specs.laws.Beyond.{beyond-count, corner-none, other-once}
-use Rattle.hf_coeff_walk.specs.Places.{across, down, cellOf, placesOf}
-use Rattle.hf_coeff_group.specs.laws.Sizes.{order-lt, Sides, swapped, straight, sides-of}
-use Rattle.hf_coeff_group.specs.laws.Cells.{Distinct, distinct-map, In}
+use Rattle.order_sizes.specs.BlockSizes.{widthOf, heightOf}
+use Rattle.order_natural.specs.Places.{Place, is, tally, count}
+use Rattle.order_natural.specs.laws.Bools.{tally-one}
+use Rattle.order_natural.specs.Order.{Size, Order}
+use Rattle.order_natural.specs.laws.Sizes.{size-of, width-eights, height-by}
+use Rattle.order_natural.specs.laws.Counts.{is-hit}
+use Rattle.order_natural.specs.laws.Listing.{hit-of, listing-length, self, inside-of}
+use Rattle.order_natural.specs.laws.Order.{skip-by}
+use Rattle.order_natural.specs.laws.Beyond.{beyond-count, corner-none, other-once}
+use Rattle.coeff_walk.specs.Places.{across, down, cellOf, placesOf}
+use Rattle.coeff_group.specs.laws.Sizes.{order-lt, Sides, swapped, straight, sides-of}
+use Rattle.coeff_group.specs.laws.Cells.{Distinct, distinct-map, In}
 
 in-count : (q : Place) (l : List Place) → In q l → 0 < count (q .0) (q .1) l
 in-count q (r ∷ rs) (here e) = rw e (self r rs)

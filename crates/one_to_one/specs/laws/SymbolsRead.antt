@@ -12,17 +12,17 @@ use Rattle.refusal.specs.Said.{said}
 use Rattle.refusal.specs.Said as refusals
 use Rattle.layout.specs.laws.Theorems.{layout-iff}
 use Rattle.refusal.specs.Answer.{Answer, refuses}
-use Rattle.hf_coeff_group.specs.Pass.{varblocks, itemsOf}
-use Rattle.hf_coeff_checks.specs.Checks.{blocks}
-use Rattle.hf_coeff.specs.Call.{Lent, Outcome, reading, outcome, refuse, call, Passed}
-use Rattle.hf_coeff.specs.laws.CallLaws.{lengths-fit}
-use Rattle.hf_coeff_group.specs.laws.Symbols.{most-symbols}
+use Rattle.coeff_group.specs.Pass.{varblocks, itemsOf}
+use Rattle.coeff_checks.specs.Checks.{blocks}
+use Rattle.coeff_call.specs.Call.{Lent, Outcome, reading, outcome, refuse, call, Passed}
+use Rattle.coeff_call.specs.laws.CallLaws.{lengths-fit}
+use Rattle.coeff_group.specs.laws.Symbols.{most-symbols}
 use Rattle.one_to_one.specs.Filling.{relent, withLog, told, symbolsRead}
-use Rattle.hf_coeff_walk.specs.laws.Walks.{symbolsEnd, count, tooManyZeros}
-use Rattle.hf_coeff_group.specs.laws.Cells.{adds}
-use Rattle.hf_coeff_group.specs.laws.Reads.{End, ends, stops, Tells, joined}
+use Rattle.coeff_walk.specs.laws.Walks.{symbolsEnd, count, tooManyZeros}
+use Rattle.coeff_group.specs.laws.Cells.{adds}
+use Rattle.coeff_group.specs.laws.Reads.{End, ends, stops, Tells, joined}
 use Rattle.one_to_one.specs.laws.Ways.{Way, before, work, way, did, answerBy, outcome-by}
-use Rattle.hf_coeff_group.specs.Sequence.{cellsOf}
+use Rattle.coeff_group.specs.Sequence.{cellsOf}
 
 -- What holds of every call, whatever the log held before.
 pub record Tied (L : Lent) : Type 0 where

@@ -14,15 +14,15 @@ use Rattle.layout.specs.Grid.{at}
 use Rattle.layout.specs.laws.Grid.{grid-length, grid-at, Cell, cell-at}
 use Rattle.layout.specs.Varblocks.{Varblock}
 use Rattle.layout.specs.Listed.{Among, first, later}
-use Rattle.hf_coeff_group.specs.Group.{Grids}
-use Rattle.hf_coeff_group.specs.Pass.{Pass, varblocks}
-use Rattle.hf_coeff.specs.Call.{Lent}
+use Rattle.coeff_group.specs.Group.{Grids}
+use Rattle.coeff_group.specs.Pass.{Pass, varblocks}
+use Rattle.coeff_call.specs.Call.{Lent}
 use Rattle.one_to_one.specs.Filling.{many, Low, LowKept, lowIn, lowInSome, isLow, Sized, Fixed, Filling, asked, gridWanted, wanted, Fills, Fails}
-use Rattle.hf_coeff_group.specs.laws.Cells.{same-shape}
+use Rattle.coeff_group.specs.laws.Cells.{same-shape}
 use Rattle.one_to_one.specs.laws.OverCall.{shapes, start-sized}
 use Rattle.one_to_one.specs.laws.Demand3.{one-sequence, every-other}
-use Rattle.hf_coeff_group.specs.Sequence.{cell, theSequence}
-use Rattle.hf_coeff_walk.specs.Sent.{Words}
+use Rattle.coeff_group.specs.Sequence.{cell, theSequence}
+use Rattle.coeff_walk.specs.Sent.{Words}
 
 -- The test is what it says.
 or-true : (a b : Bool) → a || b ≡ true → (a ≡ true) ⊎ (b ≡ true)

@@ -8,23 +8,23 @@ use native.Mathlib.Omega.{arith}
 use lib.ListN.{length, replicate}
 use borrow.Author.Tests.{eq-eqb}
 use Rattle.bits.specs.Bits.{Value}
-use Rattle.filter_strength.specs.declared.Filter.the-variants.{Off}
-use Rattle.filter_strength.specs.Strength.{zero32}
-use Rattle.hf_metadata.specs.Call.{Inputs, inputs, layoutOf}
-use Rattle.hf_pass_store.specs.Store.{PLACES}
-use Rattle.hf_block_context.specs.Call.{contextsOf}
+use Rattle.layout_filter.specs.declared.Filter.the-variants.{Off}
+use Rattle.layout_filter.specs.Strength.{zero32}
+use Rattle.layout_call.specs.Call.{Inputs, inputs, layoutOf}
+use Rattle.order_store.specs.Store.{PLACES}
+use Rattle.context_call.specs.Call.{contextsOf}
 use Rattle.layout.specs.laws.Theorems.{layout-check}
 use Rattle.refusal.specs.Answer.{gives}
-use Rattle.hf_coeff_group.specs.Group.{Grids, Reading, going, leftOf, read, zeroRows}
-use Rattle.hf_coeff_group.specs.laws.GroupLaws.{group-items}
-use Rattle.hf_coeff_group.specs.Pass.{varblocks, itemsOf}
-use Rattle.hf_coeff.specs.Call.{Lent, Outcome, lengthsFit, readPreset, presetMap, reading, outcome as outcomeOf, leftoverAt, leftover, call}
-use Rattle.hf_coeff.specs.laws.CallLaws.{checks-pass, call-reads}
-use Rattle.hf_pass.specs.laws.Wrote.{wrote-fits}
-use Rattle.block_record.specs.Calls.{group, outcome, cutOf}
-use Rattle.block_record.specs.laws.CutSteps.{cut-done}
-use Rattle.accepted_layout.specs.Outcome.{bwOf, bhOf}
-use Rattle.accepted_layout.specs.laws.Marked.{layout-computes}
+use Rattle.coeff_group.specs.Group.{Grids, Reading, going, leftOf, read, zeroRows}
+use Rattle.coeff_group.specs.laws.GroupLaws.{group-items}
+use Rattle.coeff_group.specs.Pass.{varblocks, itemsOf}
+use Rattle.coeff_call.specs.Call.{Lent, Outcome, lengthsFit, readPreset, presetMap, reading, outcome as outcomeOf, leftoverAt, leftover, call}
+use Rattle.coeff_call.specs.laws.CallLaws.{checks-pass, call-reads}
+use Rattle.order_call.specs.laws.Wrote.{wrote-fits}
+use Rattle.lent_cut.specs.Calls.{group, outcome, cutOf}
+use Rattle.lent_cut.specs.laws.CutSteps.{cut-done}
+use Rattle.layout_accepted.specs.Outcome.{bwOf, bhOf}
+use Rattle.layout_accepted.specs.laws.Marked.{layout-computes}
 use Rattle.one_to_one.specs.Filling.{wanted as wantedOf, withSymbols, Fixed, Filling, Fills, Fails, leftOver, Given}
 use Rattle.one_to_one.specs.laws.Demand3.{one-sequence}
 use Rattle.one_to_one.specs.laws.Wanted.{wanted-filling}
@@ -33,7 +33,7 @@ use Rattle.one_to_one.specs.laws.Computes.{cut-computes, bits-compute, r
 use Rattle.one_to_one.specs.Plain.{store}
 use Rattle.one_to_one.specs.laws.Plain.{store-long, order-0, store-wrote, defaults-read}
 use Rattle.one_to_one.specs.Witness.{one, wanted, zeros, leaving}
-use Rattle.hf_coeff_group.specs.Sequence.{cell, theSequence}
+use Rattle.coeff_group.specs.Sequence.{cell, theSequence}
 
 -- 8 × 8 pixels, modes 0, one column (0,0), filter off
 abbrev pub columns : Inputs

@@ -1,5 +1,5 @@
 use native.Mathlib.Omega.{arith}
-use Rattle.hf_coeff_walk.specs.laws.Outcome.{below-63}
+use Rattle.coeff_walk.specs.laws.Outcome.{below-63}
 use borrow.Author.Needs.{needs}
 use Rattle.coeff_places.proofs.context.place_entry.Statement.{statement}
 use Rattle.coeff_places.proofs.context.place_entry.Tie as tie

@@ -1,4 +1,4 @@
-use Rattle.hf_coeff_walk.specs.laws.PlaceLaws.{place-turned, place-straight, cell-fits}
+use Rattle.coeff_walk.specs.laws.PlaceLaws.{place-turned, place-straight, cell-fits}
 use borrow.Author.Needs.{needs}
 use native.Mathlib.Omega.{arith}
 use mathlib.Core.Path.{sym}

@@ -1,6 +1,6 @@
 use mathlib.Core.Path.{sym}
 use native.Mathlib.Omega.{arith}
-use Rattle.hf_coeff_walk.specs.laws.Outcome.{flag-one}
+use Rattle.coeff_walk.specs.laws.Outcome.{flag-one}
 use borrow.Author.Needs.{needs}
 use Rattle.coeff_places.proofs.walk.flag_of.Statement.{statement}
 use Rattle.coeff_places.proofs.walk.flag_of.Tie as tie

@@ -1,5 +1,5 @@
-use Rattle.hf_coeff_walk.specs.laws.Outcome.{spotPlaces, gain-out}
-use Rattle.hf_coeff_walk.specs.laws.Runs.{gain-sum}
+use Rattle.coeff_walk.specs.laws.Outcome.{spotPlaces, gain-out}
+use Rattle.coeff_walk.specs.laws.Runs.{gain-sum}
 use native.Mathlib.Omega.{arith}
 use mathlib.Core.Path.{sym}
 use lib.ListN.{getD}

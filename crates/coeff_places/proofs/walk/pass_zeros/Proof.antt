@@ -1,5 +1,5 @@
 use borrow.Author.Needs.{needs}
-use Rattle.hf_coeff_walk.specs.laws.Runs.{Zeros, zeros-start, zeros-turn, freq-at}
+use Rattle.coeff_walk.specs.laws.Runs.{Zeros, zeros-start, zeros-turn, freq-at}
 use native.Mathlib.Omega.{arith}
 use Prim.Native.Nat.{_-_}
 use Rattle.coeff_places.proofs.walk.pass_zeros.Statement.{statement}

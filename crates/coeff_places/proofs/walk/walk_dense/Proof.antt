@@ -1,11 +1,11 @@
 use borrow.Author.Needs.{needs}
 use mathlib.Core.Path.{refl, _≡_, _∙_, sym}
 use Prim.Native.Nat.{_^_, _≤_, _-_, _+_, _*_}
-use Rattle.hf_coeff_walk.specs.Walk.{walk}
-use Rattle.hf_coeff_walk.specs.laws.PlaceLaws.{places-count}
+use Rattle.coeff_walk.specs.Walk.{walk}
+use Rattle.coeff_walk.specs.laws.PlaceLaws.{places-count}
 use native.Mathlib.Omega.{arith}
 use lib.ListN.{length, drop, length-set}
-use Rattle.hf_coeff_walk.specs.laws.Outcome.{spotPlaces, walk-used, walk-done, walk-17, walk-15, walk-step, ends}
+use Rattle.coeff_walk.specs.laws.Outcome.{spotPlaces, walk-used, walk-done, walk-17, walk-15, walk-step, ends}
 use Rattle.coeff_places.proofs.walk.walk_dense.Statement.{statement}
 use Rattle.coeff_places.proofs.walk.walk_dense.Tie as tie
 

@@ -1,12 +1,12 @@
 use borrow.Author.Needs.{needs}
 use mathlib.Core.Path.{refl, _≡_, _∙_, ap, sym}
 use Prim.Native.Nat.{ℕ, _^_, _≤_, _<_, _-_, _+_, _*_}
-use Rattle.hf_coeff_walk.specs.Walk.{walk}
-use Rattle.hf_coeff_walk.specs.laws.PlaceLaws.{places-count}
+use Rattle.coeff_walk.specs.Walk.{walk}
+use Rattle.coeff_walk.specs.laws.PlaceLaws.{places-count}
 use native.Mathlib.Omega.{arith}
 use lib.ListN.{length, drop, length-set}
-use Rattle.hf_coeff_walk.specs.laws.Outcome.{spotPlaces, walk-used, walk-done, walk-15, walk-zero, walk-more, ends}
-use Rattle.hf_coeff_walk.specs.laws.Runs.{entry-at, entries-lent, entries-room, context-fits}
+use Rattle.coeff_walk.specs.laws.Outcome.{spotPlaces, walk-used, walk-done, walk-15, walk-zero, walk-more, ends}
+use Rattle.coeff_walk.specs.laws.Runs.{entry-at, entries-lent, entries-room, context-fits}
 use Rattle.coeff_places.proofs.walk.walk_sparse.Statement.{statement}
 use Rattle.coeff_places.proofs.walk.walk_sparse.Tie as tie
 

@@ -2,7 +2,7 @@ use borrow.Author.Needs.{needs}
 use Prim.Native.Nat.{_≤_, _-_}
 use Rattle.replay.proofs.orders.put_store.Statement.{statement}
 use Rattle.replay.proofs.orders.put_store.Tie as tie
-use Rattle.hf_pass_store.proofs.order.Reads as order-reads
+use Rattle.order_store.proofs.order.Reads as order-reads
 use Rattle.recorded_answers.proofs.digest.of_shorts.Reads as of-shorts-reads
 
 abbrev Inv-loop : tie.InvT-loop

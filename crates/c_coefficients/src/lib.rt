@@ -1,0 +1,88 @@
+// C interface: the coefficient call.
+use coeff_call::CoeffAnswer;
+use context_record::HfBlockContext;
+use lent_check::Group;
+ghost use Rattle.refusal.specs.Said.{at};
+ghost use Rattle.coeff_group.specs.Pass.{passWith};
+ghost use Rattle.coeff_call.specs.Call.{lent, call};
+ghost use Rattle.c_coefficients.specs.Coefficients.{groupOf, contextsOf, with, CoeffLeaves};
+
+// Beside a refusal the number of symbols read stays as it was.
+#[no_mangle]
+pub extern "C" fn netbuff_coefficients<'a, 'b>(
+    wide: usize,
+    high: usize,
+    kinds: &'a [u8],
+    hf_mul: &'a [u32],
+    num_block_clusters: u32,
+    lengths: &'a [u32; 4],
+    lf_thresholds: &'a [u32; 45],
+    qf_thresholds: &'a [u32; 15],
+    block_ctx_map: &'a [u8; 2496],
+    lf_there: bool,
+    lf0: &'a [u32],
+    lf1: &'a [u32],
+    lf2: &'a [u32],
+    store: &'a [u16],
+    presets: u32,
+    cluster_map: &'a [u8],
+    shift: u32,
+    bytes: &'a [u8],
+    symbols: &'a [u32],
+    log: &mut [u8],
+    grid0: &mut [u32],
+    grid1: &mut [u32],
+    grid2: &mut [u32],
+    read: &'b mut usize,
+    x: &'b mut usize,
+    y: &'b mut usize,
+) -> u32
+    ensures { λ r. ⌜ CoeffLeaves (with (at r (now (x .exit)) (now (y .exit))) (now (read .exit))) (now (log .exit)) (now (grid0 .exit)) (now (grid1 .exit)) (now (grid2 .exit)) (now (read .entry))
+        (call (lent (passWith (groupOf wide high) (now (kinds .entry)) (now («hf_mul» .entry)) (contextsOf «num_block_clusters» (now (lengths .entry)) (now («lf_thresholds» .entry)) (now («qf_thresholds» .entry)) (now («block_ctx_map» .entry))) «lf_there» (now (lf0 .entry)) (now (lf1 .entry)) (now (lf2 .entry)) (now (store .entry))) presets (now («cluster_map» .entry)) shift (now (bytes .entry)) (now (symbols .entry)) (now (log .entry)) (now (grid0 .entry)) (now (grid1 .entry)) (now (grid2 .entry)))) ⌝ }
+{
+    let list_lengths = *lengths;
+    let lf = *lf_thresholds;
+    let qf = *qf_thresholds;
+    let map = *block_ctx_map;
+    let contexts = HfBlockContext {
+        num_block_clusters,
+        lengths: list_lengths,
+        lf_thresholds: lf,
+        qf_thresholds: qf,
+        block_ctx_map: map,
+    };
+    let answer = coeff_call::write_hf_coeff(
+        Group { bw: wide, bh: high },
+        kinds,
+        hf_mul,
+        contexts,
+        lf_there,
+        lf0,
+        lf1,
+        lf2,
+        store,
+        presets,
+        cluster_map,
+        shift,
+        bytes,
+        symbols,
+        log,
+        grid0,
+        grid1,
+        grid2,
+    );
+    match answer {
+        CoeffAnswer::Accepted(symbols_read) => {
+            *read = symbols_read;
+            *x = 0;
+            *y = 0;
+            0
+        }
+        CoeffAnswer::Refused(refusal) => {
+            let said = refusal.numbers();
+            *x = said.x;
+            *y = said.y;
+            said.number
+        }
+    }
+}

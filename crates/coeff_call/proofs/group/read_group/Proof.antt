@@ -1,0 +1,255 @@
+use mathlib.Core.Path.{refl, _≡_, _∙_, sym}
+use mathlib.Core.List.{[], _∷_}
+use native.Mathlib.Nat.{mul-le-mul}
+use lib.Arith.{digits-lt}
+use Rattle.coeff_group.specs.Group.{Reading}
+use Rattle.coeff_group.specs.Pass.{Pass, passWith}
+use Rattle.coeff_group.specs.laws.Due.{Due, rowFrom, rowsFrom, wholeOf, due-start, due-row, due-next, due-skip, due-end, corner-asks, corner-stop, corner-step}
+use borrow.Author.Needs.{needs}
+use native.Mathlib.Omega.{arith}
+use Prim.Native.Nat.{ℕ, _<_, _≤_, _-_, _+_, _*_}
+use lib.ListN.{length}
+use Rattle.coeff_call.proofs.group.read_group.Statement.{statement}
+use Rattle.coeff_call.proofs.group.read_group.Tie as tie
+
+abbrev Inv-loop2 : tie.InvT-loop2
+Inv-loop2 group kinds hf-mul lf-there lf0 lf1 lf2 store preset-map shift symbols log₀ g0₀ g1₀ g2₀ contexts bw bh clusters lengths rows₀ at₀ y x₀ log g0 g1 g2 rows at x =
+    let P = passWith group kinds hf-mul contexts lf-there lf0 lf1 lf2 store in
+    (length log ≡ length log₀)
+    × (length g0 ≡ length g0₀)
+    × (length g1 ≡ length g1₀)
+    × (length g2 ≡ length g2₀)
+    × (x ≤ group .bw)
+    × ((whole : Reading) → Due shift (contexts .«num_block_clusters») preset-map P symbols (192 * (group .bw * group .bh)) whole (rowFrom P x₀ y) at₀ rows₀ log₀ (g0₀ ∷ g1₀ ∷ g2₀ ∷ [])
+    → Due shift (contexts .«num_block_clusters») preset-map P symbols (192 * (group .bw * group .bh)) whole (rowFrom P x y) at rows log (g0 ∷ g1 ∷ g2 ∷ []))
+
+abbrev μ-loop2 : tie.MeasureT-loop2
+μ-loop2 group kinds hf-mul lf-there lf0 lf1 lf2 store preset-map shift symbols log₀ g0₀ g1₀ g2₀ contexts bw bh clusters lengths rows₀ at₀ y x₀ log g0 g1 g2 rows at x = group .bw - x
+
+abbrev Inv-loop : tie.InvT-loop
+Inv-loop group kinds hf-mul lf-there lf0 lf1 lf2 store preset-map shift symbols log₀ g0₀ g1₀ g2₀ contexts bw bh clusters lengths rows₀ at₀ y₀ log g0 g1 g2 rows at y =
+    let P = passWith group kinds hf-mul contexts lf-there lf0 lf1 lf2 store in
+    (length log ≡ length log₀)
+    × (length g0 ≡ length g0₀)
+    × (length g1 ≡ length g1₀)
+    × (length g2 ≡ length g2₀)
+    × (y ≤ group .bh)
+    × Due shift (contexts .«num_block_clusters») preset-map P symbols (192 * (group .bw * group .bh)) (wholeOf shift (contexts .«num_block_clusters») preset-map P symbols log₀ (g0₀ ∷ g1₀ ∷ g2₀ ∷ [])) (rowsFrom P y) at rows log (g0 ∷ g1 ∷ g2 ∷ [])
+
+abbrev μ-loop : tie.MeasureT-loop
+μ-loop group kinds hf-mul lf-there lf0 lf1 lf2 store preset-map shift symbols log₀ g0₀ g1₀ g2₀ contexts bw bh clusters lengths rows₀ at₀ y₀ log g0 g1 g2 rows at y = group .bh - y
+
+less : (x n : ℕ) → x < n → n - (x + 1) < n - x
+less x n h = omega arith
+
+-- the group, and its whole reading
+abbrev passAt : tie.Start Inv-loop2 μ-loop2 Inv-loop μ-loop → Pass
+passAt c =
+    let a = c .args in
+    passWith (a .group) (a .kinds .now) (a .hf-mul .now) (a .t4) (a .lf-there) (a .lf0 .now) (a .lf1 .now) (a .lf2 .now) (a .store .now)
+
+abbrev wholeAt : tie.Start Inv-loop2 μ-loop2 Inv-loop μ-loop → Reading
+wholeAt c =
+    let a = c .args in
+    wholeOf (a .shift) (a .t4 .«num_block_clusters») (a .preset-map .now) (passAt c) (a .symbols .now) (a .log .now) (a .g0 .now ∷ a .g1 .now ∷ a .g2 .now ∷ [])
+
+-- rows above, and blocks of a row before
+few : (y w x : ℕ) → y < 32 → w ≤ 32 → x < 32 → y * w + x < 1024
+few y w x a b d = let m : y * w ≤ 31 * 32 = mul-le-mul (let e : y ≤ 31 = omega arith in e) b in omega arith
+
+cast-clusters : tie.Need-cast-clusters Inv-loop2 μ-loop2 Inv-loop μ-loop
+cast-clusters c = search needs
+
+loop-holds : tie.Need-loop-holds Inv-loop2 μ-loop2 Inv-loop μ-loop
+loop-holds c =
+    let s = c .before .before .before .before .before .before .before .before .before .before .before .before .before in
+    let a = s .args in
+    (refl, refl, refl, refl, omega arith, due-start (a .shift) (a .t4 .«num_block_clusters») (a .preset-map .now) (passAt s) (a .symbols .now) (a .log .now) (a .g0 .now ∷ a .g1 .now ∷ a .g2 .now ∷ []) (s .pre .layout))
+
+loop2-holds : tie.Need-loop2-holds Inv-loop2 μ-loop2 Inv-loop μ-loop
+loop2-holds c = (refl, refl, refl, refl, omega arith, λ whole d. d)
+
+mul-i : tie.Need-mul-i Inv-loop2 μ-loop2 Inv-loop μ-loop
+mul-i c =
+    let h = c .before .before .before .before .before .before .before .before .before .before .before .before .before .before .before .before .before .pre .below in
+    let k = c .before .before .before .before .before .before .before .before .before .before .before .before .before .before .before .before .before .pre .across in
+    omega (arith, few (c .before .before .before .loop .y) (c .before .before .before .before .before .before .before .before .before .before .before .before .before .before .before .before .before .args .group .bw) 0 (omega (arith, c .before .before .loop-test .taken)) k (omega arith))
+
+add-i : tie.Need-add-i Inv-loop2 μ-loop2 Inv-loop μ-loop
+add-i c =
+    let h = c .before .before .before .before .before .before .before .before .before .before .before .before .before .before .before .before .before .pre .below in
+    let k = c .before .before .before .before .before .before .before .before .before .before .before .before .before .before .before .before .before .pre .across in
+    omega (arith, few (c .before .before .before .loop .y) (c .before .before .before .before .before .before .before .before .before .before .before .before .before .before .before .before .before .args .group .bw) (c .before .loop2 .x) (omega (arith, c .before .before .loop-test .taken)) k (omega (arith, c .loop2-test .taken)))
+
+shared-slice-read-kind : tie.Need-shared-slice-read-kind Inv-loop2 μ-loop2 Inv-loop μ-loop
+shared-slice-read-kind c = rw (c .before .before .before .before .before .before .before .before .before .before .before .before .before .before .before .before .before .before .pre .layout .kindsLength) (digits-lt (c .before .before .before .loop-test .taken) (c .before .loop2-test .taken))
+
+add-x : tie.Need-add-x Inv-loop2 μ-loop2 Inv-loop μ-loop
+add-x c = search needs
+
+loop2-less : tie.Need-loop2-less Inv-loop2 μ-loop2 Inv-loop μ-loop
+loop2-less c = less (c .before .before .before .loop2 .x) (c .before .before .before .before .before .before .before .before .before .before .before .before .before .before .before .before .before .before .before .args .group .bw) (c .before .before .loop2-test .taken)
+
+loop2-again : tie.Need-loop2-again Inv-loop2 μ-loop2 Inv-loop μ-loop
+loop2-again c =
+    let s = c .before .before .before .before .before .before .before .before .before .before .before .before .before .before .before .before .before .before .before in
+    let a = s .args in
+    let o = c .before .before .before .before .before .loop in
+    let l = c .before .before .before .loop2 in
+    (l .inv .0, l .inv .1, l .inv .2, l .inv .3, omega (arith, c .before .before .loop2-test .taken), λ W d. due-skip (a .shift) (a .t4 .«num_block_clusters») (a .preset-map .now) (passAt s) (a .symbols .now) (192 * (a .group .bw * a .group .bh)) W (l .at) (l .rows) (l .log) (l .g0 ∷ l .g1 ∷ l .g2 ∷ []) (l .x) (o .y) (rowsFrom (passAt s) (o .y + 1)) (c .before .before .loop2-test .taken) (c .if1 .taken) (l .inv .5 W d))
+
+mul-plan-of : tie.Need-mul-plan-of Inv-loop2 μ-loop2 Inv-loop μ-loop
+mul-plan-of c =
+    let h = c .before .before .before .before .before .before .before .before .before .before .before .before .before .before .before .before .before .before .before .pre .below in
+    let k = c .before .before .before .before .before .before .before .before .before .before .before .before .before .before .before .before .before .before .before .pre .across in
+    omega (arith, few (c .before .before .before .before .before .loop .y) (c .before .before .before .before .before .before .before .before .before .before .before .before .before .before .before .before .before .before .before .args .group .bw) (c .before .before .before .loop2 .x) (omega (arith, c .before .before .before .before .loop-test .taken)) k (omega (arith, c .before .before .loop2-test .taken)))
+
+shared-slice-read-plan-of : tie.Need-shared-slice-read-plan-of Inv-loop2 μ-loop2 Inv-loop μ-loop
+shared-slice-read-plan-of c = rw (c .before .before .before .before .before .before .before .before .before .before .before .before .before .before .before .before .before .before .before .before .pre .layout .hfMulLength) (digits-lt (c .before .before .before .before .before .loop-test .taken) (c .before .before .before .loop2-test .taken))
+
+plan-of-requires : tie.Need-plan-of-requires Inv-loop2 μ-loop2 Inv-loop μ-loop
+plan-of-requires c κs =
+    let u = c .before .before .before .before .before .before .before .before .before .before .before .before .before .before .before .before .before .before .before .before .before .before .before .before .pre .across in
+    let v = c .before .before .before .before .before .before .before .before .before .before .before .before .before .before .before .before .before .before .before .before .before .before .before .before .pre .below in
+    (c .before .before .before .before .before .if1 .left, omega (arith, c .before .before .before .before .before .before .before .loop2-test .taken), omega (arith, c .before .before .before .before .before .before .before .before .before .loop-test .taken), u)
+
+step-varblock-requires : tie.Need-step-varblock-requires Inv-loop2 μ-loop2 Inv-loop μ-loop
+step-varblock-requires c κs =
+    let s = c .before .before .before .before .before .before .before .before .before .before .before .before .before .before .before .before .before .before .before .before .before .before .before .before .before .before .before .before .before .before in
+    let a = s .args in
+    let o = c .before .before .before .before .before .before .before .before .before .before .before .before .before .before .before .before .loop in
+    let l = c .before .before .before .before .before .before .before .before .before .before .before .before .before .before .loop2 in
+    let W = wholeAt s in
+    let d = due-row (a .shift) (a .t4 .«num_block_clusters») (a .preset-map .now) (passAt s) (a .symbols .now) (192 * (a .group .bw * a .group .bh)) W (o .at) (o .rows) (o .log) (o .g0 ∷ o .g1 ∷ o .g2 ∷ []) (o .y) (c .before .before .before .before .before .before .before .before .before .before .before .before .before .before .before .loop-test .taken) (o .inv .5) in
+    corner-asks (a .shift) (a .t4 .«num_block_clusters») (a .preset-map .now) (passAt s) (a .symbols .now) (length (a .log .now)) (s .pre) W (l .x) (o .y) (l .at) (l .rows) (l .log) (l .g0 ∷ l .g1 ∷ l .g2 ∷ []) (c .before .before .before .before .before .before .before .before .before .before .before .before .before .loop2-test .taken) (c .before .before .before .before .before .before .before .before .before .before .before .before .before .before .before .loop-test .taken) (c .before .before .before .before .before .before .before .before .before .before .before .if1 .left) (l .inv .5 W d) (c .before .before .before .before .before .plan-of .result) (c .before .before .before .before .before .plan-of .ensures) (l .inv .0 ∙ o .inv .0)
+
+is-stopped-requires : tie.Need-is-stopped-requires Inv-loop2 μ-loop2 Inv-loop μ-loop
+is-stopped-requires c κs = tt
+
+same-length : tie.Need-same-length Inv-loop2 μ-loop2 Inv-loop μ-loop
+same-length c = c .before .before .before .before .before .before .before .before .before .log .given ∙ c .before .before .before .before .before .before .before .before .before .before .before .before .before .before .before .before .before .before .before .before .before .before .before .before .before .loop2 .inv .0 ∙ c .before .before .before .before .before .before .before .before .before .before .before .before .before .before .before .before .before .before .before .before .before .before .before .before .before .before .before .loop .inv .0
+
+same-length-2 : tie.Need-same-length-2 Inv-loop2 μ-loop2 Inv-loop μ-loop
+same-length-2 c = c .before .before .before .before .before .before .before .g0 .given ∙ c .before .before .before .before .before .before .before .before .before .before .before .before .before .before .before .before .before .before .before .before .before .before .before .before .before .loop2 .inv .1 ∙ c .before .before .before .before .before .before .before .before .before .before .before .before .before .before .before .before .before .before .before .before .before .before .before .before .before .before .before .loop .inv .1
+
+same-length-3 : tie.Need-same-length-3 Inv-loop2 μ-loop2 Inv-loop μ-loop
+same-length-3 c = c .before .before .before .before .before .g1 .given ∙ c .before .before .before .before .before .before .before .before .before .before .before .before .before .before .before .before .before .before .before .before .before .before .before .before .before .loop2 .inv .2 ∙ c .before .before .before .before .before .before .before .before .before .before .before .before .before .before .before .before .before .before .before .before .before .before .before .before .before .before .before .loop .inv .2
+
+same-length-4 : tie.Need-same-length-4 Inv-loop2 μ-loop2 Inv-loop μ-loop
+same-length-4 c = c .before .before .before .g2 .given ∙ c .before .before .before .before .before .before .before .before .before .before .before .before .before .before .before .before .before .before .before .before .before .before .before .before .before .loop2 .inv .3 ∙ c .before .before .before .before .before .before .before .before .before .before .before .before .before .before .before .before .before .before .before .before .before .before .before .before .before .before .before .loop .inv .3
+
+returns : tie.Need-returns Inv-loop2 μ-loop2 Inv-loop μ-loop
+returns c =
+    let s = c .before .before .before .before .before .before .before .before .before .before .before .before .before .before .before .before .before .before .before .before .before .before .before .before .before .before .before .before .before .before .before .before .before .before .before .before .before .before .before .before .before in
+    let a = s .args in
+    let o = c .before .before .before .before .before .before .before .before .before .before .before .before .before .before .before .before .before .before .before .before .before .before .before .before .before .before .before .loop in
+    let l = c .before .before .before .before .before .before .before .before .before .before .before .before .before .before .before .before .before .before .before .before .before .before .before .before .before .loop2 in
+    let w = c .before .before .before .before .before .before .before .before .before .before .step-varblock in
+    let z = w .last .1 .1 .1 .1 .1 .1 .1 .1 in
+    let W = wholeAt s in
+    let d = due-row (a .shift) (a .t4 .«num_block_clusters») (a .preset-map .now) (passAt s) (a .symbols .now) (192 * (a .group .bw * a .group .bh)) W (o .at) (o .rows) (o .log) (o .g0 ∷ o .g1 ∷ o .g2 ∷ []) (o .y) (c .before .before .before .before .before .before .before .before .before .before .before .before .before .before .before .before .before .before .before .before .before .before .before .before .before .before .loop-test .taken) (o .inv .5) in
+    corner-stop (a .shift) (a .t4 .«num_block_clusters») (a .preset-map .now) (passAt s) (a .symbols .now) (length (a .log .now)) (s .pre) W (l .x) (o .y) (l .at) (l .rows) (l .log) (l .g0 ∷ l .g1 ∷ l .g2 ∷ []) (c .before .before .before .before .before .before .before .before .before .before .before .before .before .before .before .before .before .before .before .before .before .before .before .before .loop2-test .taken) (c .before .before .before .before .before .before .before .before .before .before .before .before .before .before .before .before .before .before .before .before .before .before .before .before .before .before .loop-test .taken) (c .before .before .before .before .before .before .before .before .before .before .before .before .before .before .before .before .before .before .before .before .before .before .if1 .left) (l .inv .5 W d) (c .before .before .before .before .before .before .before .before .before .before .before .before .before .before .before .before .plan-of .result) (c .before .before .before .before .before .before .before .before .before .before .before .before .before .before .before .before .plan-of .ensures) (w .result) (z .0) (z .1 .0) (z .1 .1 .0 ∷ z .1 .1 .1 .0 ∷ z .1 .1 .1 .1 .0 ∷ []) (w .ensures .1) (sym (c .before .is-stopped .ensures) ∙ c .if2 .taken)
+
+symbols-read-requires : tie.Need-symbols-read-requires Inv-loop2 μ-loop2 Inv-loop μ-loop
+symbols-read-requires c κs = tt
+
+add-x-2 : tie.Need-add-x-2 Inv-loop2 μ-loop2 Inv-loop μ-loop
+add-x-2 c = let u = c .before .before .before .before .before .before .before .before .before .before .before .before .before .before .before .before .before .before .before .before .before .before .before .before .before .before .before .before .before .before .before .before .before .before .before .before .before .before .before .before .before .before .pre .across in omega (arith, c .before .before .before .before .before .before .before .before .before .before .before .before .before .before .before .before .before .before .before .before .before .before .before .before .before .loop2-test .taken)
+
+loop2-less-2 : tie.Need-loop2-less-2 Inv-loop2 μ-loop2 Inv-loop μ-loop
+loop2-less-2 c = less (c .before .before .before .before .before .before .before .before .before .before .before .before .before .before .before .before .before .before .before .before .before .before .before .before .before .before .loop2 .x) (c .before .before .before .before .before .before .before .before .before .before .before .before .before .before .before .before .before .before .before .before .before .before .before .before .before .before .before .before .before .before .before .before .before .before .before .before .before .before .before .before .before .before .args .group .bw) (c .before .before .before .before .before .before .before .before .before .before .before .before .before .before .before .before .before .before .before .before .before .before .before .before .before .loop2-test .taken)
+
+loop2-again-2 : tie.Need-loop2-again-2 Inv-loop2 μ-loop2 Inv-loop μ-loop
+loop2-again-2 c =
+    let s = c .before .before .before .before .before .before .before .before .before .before .before .before .before .before .before .before .before .before .before .before .before .before .before .before .before .before .before .before .before .before .before .before .before .before .before .before .before .before .before .before .before .before in
+    let a = s .args in
+    let o = c .before .before .before .before .before .before .before .before .before .before .before .before .before .before .before .before .before .before .before .before .before .before .before .before .before .before .before .before .loop in
+    let l = c .before .before .before .before .before .before .before .before .before .before .before .before .before .before .before .before .before .before .before .before .before .before .before .before .before .before .loop2 in
+    let w = c .before .before .before .before .before .before .before .before .before .before .before .step-varblock in
+    let z = w .last .1 .1 .1 .1 .1 .1 .1 .1 in (
+      c .before .before .before .before .before .before .before .before .before .before .log .given ∙ l .inv .0,
+      c .before .before .before .before .before .before .before .before .g0 .given ∙ l .inv .1,
+      c .before .before .before .before .before .before .g1 .given ∙ l .inv .2,
+      c .before .before .before .before .g2 .given ∙ l .inv .3,
+      omega (arith, c .before .before .before .before .before .before .before .before .before .before .before .before .before .before .before .before .before .before .before .before .before .before .before .before .before .loop2-test .taken),
+      λ W d. corner-step (a .shift) (a .t4 .«num_block_clusters») (a .preset-map .now) (passAt s) (a .symbols .now) (length (a .log .now)) (s .pre) W (l .x) (o .y) (l .at) (l .rows) (l .log) (l .g0 ∷ l .g1 ∷ l .g2 ∷ []) (c .before .before .before .before .before .before .before .before .before .before .before .before .before .before .before .before .before .before .before .before .before .before .before .before .before .loop2-test .taken) (c .before .before .before .before .before .before .before .before .before .before .before .before .before .before .before .before .before .before .before .before .before .before .before .before .before .before .before .loop-test .taken) (c .before .before .before .before .before .before .before .before .before .before .before .before .before .before .before .before .before .before .before .before .before .before .before .if1 .left) (l .inv .5 W d) (c .before .before .before .before .before .before .before .before .before .before .before .before .before .before .before .before .before .plan-of .result) (c .before .before .before .before .before .before .before .before .before .before .before .before .before .before .before .before .before .plan-of .ensures) (w .result) (z .0) (z .1 .0) (z .1 .1 .0 ∷ z .1 .1 .1 .0 ∷ z .1 .1 .1 .1 .0 ∷ []) (w .ensures .1) (sym (c .before .before .is-stopped .ensures) ∙ c .before .if2 .left) (w .ensures .0) (c .symbols-read .result) (c .symbols-read .ensures),
+    )
+
+add-y : tie.Need-add-y Inv-loop2 μ-loop2 Inv-loop μ-loop
+add-y c = search needs
+
+loop-less : tie.Need-loop-less Inv-loop2 μ-loop2 Inv-loop μ-loop
+loop-less c = less (c .before .before .before .loop .y) (c .before .before .before .before .before .before .before .before .before .before .before .before .before .before .before .before .before .args .group .bh) (c .before .before .loop-test .taken)
+
+loop-again : tie.Need-loop-again Inv-loop2 μ-loop2 Inv-loop μ-loop
+loop-again c =
+    let s = c .before .before .before .before .before .before .before .before .before .before .before .before .before .before .before .before .before in
+    let a = s .args in
+    let o = c .before .before .before .loop in
+    let l = c .before .loop2 in (
+      l .inv .0 ∙ o .inv .0,
+      l .inv .1 ∙ o .inv .1,
+      l .inv .2 ∙ o .inv .2,
+      l .inv .3 ∙ o .inv .3,
+      omega (arith, c .before .before .loop-test .taken),
+      due-next (a .shift) (a .t4 .«num_block_clusters») (a .preset-map .now) (passAt s) (a .symbols .now) (192 * (a .group .bw * a .group .bh)) (wholeAt s) (l .at) (l .rows) (l .log) (l .g0 ∷ l .g1 ∷ l .g2 ∷ []) (l .x) (o .y) (c .loop2-test .left) (l .inv .5 (wholeAt s) (due-row (a .shift) (a .t4 .«num_block_clusters») (a .preset-map .now) (passAt s) (a .symbols .now) (192 * (a .group .bw * a .group .bh)) (wholeAt s) (o .at) (o .rows) (o .log) (o .g0 ∷ o .g1 ∷ o .g2 ∷ []) (o .y) (c .before .before .loop-test .taken) (o .inv .5))),
+    )
+
+same-length-5 : tie.Need-same-length-5 Inv-loop2 μ-loop2 Inv-loop μ-loop
+same-length-5 c = c .before .loop .inv .0
+
+same-length-6 : tie.Need-same-length-6 Inv-loop2 μ-loop2 Inv-loop μ-loop
+same-length-6 c = c .before .loop .inv .1
+
+same-length-7 : tie.Need-same-length-7 Inv-loop2 μ-loop2 Inv-loop μ-loop
+same-length-7 c = c .before .loop .inv .2
+
+same-length-8 : tie.Need-same-length-8 Inv-loop2 μ-loop2 Inv-loop μ-loop
+same-length-8 c = c .before .loop .inv .3
+
+returns-2 : tie.Need-returns-2 Inv-loop2 μ-loop2 Inv-loop μ-loop
+returns-2 c =
+    let s = c .before .before .before .before .before .before .before .before .before .before .before .before .before .before .before in
+    let a = s .args in
+    let o = c .before .loop in
+    due-end (a .shift) (a .t4 .«num_block_clusters») (a .preset-map .now) (passAt s) (a .symbols .now) (192 * (a .group .bw * a .group .bh)) (wholeAt s) (o .at) (o .rows) (o .log) (o .g0 ∷ o .g1 ∷ o .g2 ∷ []) (o .y) (c .loop-test .left) (o .inv .5)
+
+pub read-group-spec : {M : Type 1} → statement M
+read-group-spec =
+    tie.close
+    (tie.spec
+    Inv-loop2
+    μ-loop2
+    Inv-loop
+    μ-loop
+    cast-clusters
+    loop-holds
+    loop2-holds
+    mul-i
+    add-i
+    shared-slice-read-kind
+    add-x
+    loop2-less
+    loop2-again
+    mul-plan-of
+    shared-slice-read-plan-of
+    plan-of-requires
+    step-varblock-requires
+    is-stopped-requires
+    same-length
+    same-length-2
+    same-length-3
+    same-length-4
+    returns
+    symbols-read-requires
+    add-x-2
+    loop2-less-2
+    loop2-again-2
+    add-y
+    loop-less
+    loop-again
+    same-length-5
+    same-length-6
+    same-length-7
+    same-length-8
+    returns-2)

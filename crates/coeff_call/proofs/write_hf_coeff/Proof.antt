@@ -1,0 +1,107 @@
+use mathlib.Core.List.{[], _∷_}
+use lib.ListN.{length}
+use Prim.Native.Nat.{_*_}
+use Rattle.coeff_group.specs.Pass.{passWith}
+use Rattle.coeff_group.specs.Work.{clustersOf}
+use Rattle.coeff_group.specs.laws.WorkLaws.{WorkReady, part-long}
+use Rattle.coeff_call.specs.Call.{Lent, lent, Passed, reading}
+use Rattle.coeff_call.specs.laws.CallSteps.{checks-refused, checks-passed, preset-refused, below, work-ready, call-done}
+use borrow.Author.Needs.{needs}
+use mathlib.Core.Path.{_≡_, _∙_, ap, sym}
+use Rattle.coeff_call.proofs.write_hf_coeff.Statement.{statement}
+use Rattle.coeff_call.proofs.write_hf_coeff.Tie as tie
+
+abbrev lentAt : tie.Start → Lent
+lentAt c =
+    let a = c .args in
+    lent (passWith (a .group) (a .kinds .now) (a .hf-mul .now) (a .contexts) (a .lf-there) (a .lf0 .now) (a .lf1 .now) (a .lf2 .now) (a .store .now)) (a .presets) (a .cluster-map .now) (a .shift) (a .bytes .now) (a .symbols .now) (a .log .now) (a .g0 .now) (a .g1 .now) (a .g2 .now)
+
+-- The checks let it pass.
+passed : (c : tie.After-enum-told) → Passed (lentAt (c .before .before .before .before .before .before .before .before .before .before .before .before .before .before .before .before))
+passed c = checks-passed (lentAt (c .before .before .before .before .before .before .before .before .before .before .before .before .before .before .before .before)) (c .before .before .before-work .result) (c .before .before .before-work .ensures) (c .enum-told .given .1)
+
+-- What the work asks for, with the preset that was read.
+ready : (c : tie.After-known-told3) → WorkReady (lentAt (c .before .before .before .before .before .before .before .before .before .before .before .before .before .before .before .before .before .before .before .before) .pass) (length (lentAt (c .before .before .before .before .before .before .before .before .before .before .before .before .before .before .before .before .before .before .before .before) .clusterMap)) (lentAt (c .before .before .before .before .before .before .before .before .before .before .before .before .before .before .before .before .before .before .before .before) .shift) (length (lentAt (c .before .before .before .before .before .before .before .before .before .before .before .before .before .before .before .before .before .before .before .before) .log)) (c .before .chosen2 .given .0 .0)
+ready c =
+    let n = c .before .chosen2 .given in
+    let p = passed (c .before .before .before .before) in
+    work-ready (lentAt (c .before .before .before .before .before .before .before .before .before .before .before .before .before .before .before .before .before .before .before .before)) p (n .0 .0) (below (lentAt (c .before .before .before .before .before .before .before .before .before .before .before .before .before .before .before .before .before .before .before .before)) p (c .before .before .before .read-preset .result) (c .before .before .before .read-preset .ensures) (n .0 .0) (n .1))
+
+before-work-requires : tie.Need-before-work-requires
+before-work-requires c κs = tt
+
+enum-known-checked : tie.Need-enum-known-checked
+enum-known-checked c = search needs
+
+returns : tie.Need-returns
+returns c = let w = c .before .checked .given in checks-refused (lentAt (c .before .before .before .before .before .before .before .before .before .before .before .before .before .before .before .before .before)) (c .before .before .before .before-work .result) (c .before .before .before .before-work .ensures) (w .0 .0) (w .1)
+
+enum-told : tie.Need-enum-told
+enum-told c = search needs
+
+read-preset-requires : tie.Need-read-preset-requires
+read-preset-requires c κs = tt
+
+enum-known-chosen : tie.Need-enum-known-chosen
+enum-known-chosen c = search needs
+
+enum-known-chosen-2 : tie.Need-enum-known-chosen-2
+enum-known-chosen-2 c = search needs
+
+part-of-requires : tie.Need-part-of-requires
+part-of-requires c κs = let w = ready c in (w .clusters, w .number, w .part)
+
+read-group-requires : tie.Need-read-group-requires
+read-group-requires c κs =
+    let L = lentAt (c .before .before .before .before .before .before .before .before .before .before .before .before .before .before .before .before .before .before .before .before .before .before .before .before .before) in
+    let w = ready (c .before .before .before .before .before) in
+    w .ready _ (ap length (c .before .before .before .before .part-of .ensures) ∙ part-long (L .clusterMap) (495 * clustersOf (L .pass)) (c .before .before .before .before .before .before .chosen2 .given .0 .0) (w .part))
+
+answer-requires : tie.Need-answer-requires
+answer-requires c κs = tt
+
+returns-2 : tie.Need-returns-2
+returns-2 c =
+    let w = c .before .chosen .given in
+    preset-refused (lentAt (c .before .before .before .before .before .before .before .before .before .before .before .before .before .before .before .before .before .before .before .before)) (passed (c .before .before .before .before)) (c .before .before .before .read-preset .result) (c .before .before .before .read-preset .ensures) (w .0 .0) (w .1)
+
+same-length : tie.Need-same-length
+same-length c = c .before .before .before .before .before .before .before .before .log .given
+
+same-length-2 : tie.Need-same-length-2
+same-length-2 c = c .before .before .before .before .before .before .g0 .given
+
+same-length-3 : tie.Need-same-length-3
+same-length-3 c = c .before .before .before .before .g1 .given
+
+same-length-4 : tie.Need-same-length-4
+same-length-4 c = c .before .before .g2 .given
+
+returns-3 : tie.Need-returns-3
+unfolding reading
+returns-3 c =
+    let n = c .before .before .before .before .before .before .before .before .before .before .before .before .before .before .before .before .chosen2 .given in
+    let g = c .before .before .before .before .before .before .before .before .before .read-group in
+    let l = g .last .1 .1 .1 .1 .1 .1 .1 .1 .1 .1 .1 .1 in
+    call-done (lentAt (c .before .before .before .before .before .before .before .before .before .before .before .before .before .before .before .before .before .before .before .before .before .before .before .before .before .before .before .before .before .before .before .before .before .before .before)) (passed (c .before .before .before .before .before .before .before .before .before .before .before .before .before .before .before .before .before .before .before)) (c .before .before .before .before .before .before .before .before .before .before .before .before .before .before .before .before .before .before .read-preset .result) (c .before .before .before .before .before .before .before .before .before .before .before .before .before .before .before .before .before .before .read-preset .ensures) (n .0 .0) (n .1) (g .result) (c .answer .result) (l .0) (l .1 .0) (l .1 .1 .0) (l .1 .1 .1 .0) (c .answer .ensures) (rw (c .before .before .before .before .before .before .before .before .before .before .before .before .before .before .part-of .ensures) at (g .ensures))
+
+pub write-hf-coeff-spec : {M : Type 1} → statement M
+write-hf-coeff-spec =
+    tie.close
+    (tie.spec
+    before-work-requires
+    enum-known-checked
+    returns
+    enum-told
+    read-preset-requires
+    enum-known-chosen
+    enum-known-chosen-2
+    part-of-requires
+    read-group-requires
+    answer-requires
+    returns-2
+    same-length
+    same-length-2
+    same-length-3
+    same-length-4
+    returns-3)

@@ -1,0 +1,104 @@
+-- The coefficient call (document 01, Coefficients and Refused).
+use mathlib.Core.Bool.{Bool}
+use mathlib.Core.List.{List, [], _∷_}
+use Prim.Native.Nat.{ℕ}
+use lib.ListN.{length, getD}
+use Rattle.refusal.specs.declared.Said.{Said}
+use Rattle.refusal.specs.Said.{said}
+use Rattle.refusal.specs.Answer.{Answer, gives, refuses, answeredBy}
+use Rattle.bits.specs.Bits.{Read, Value, Ended, readBits}
+use Rattle.coded_numbers.specs.Exponent.{exponent}
+use Rattle.coeff_call.specs.declared.CoeffAnswer.{CoeffAnswer}
+use Rattle.coeff_call.specs.declared.CoeffAnswer.the-variants.{Accepted, Refused}
+use Rattle.coeff_group.specs.Pass.{Pass}
+use Rattle.coeff_group.specs.Group.{Grids, Reading, going, refused, leftOf}
+use Rattle.coeff_group.specs.Work.{presetMapOf, readingBy}
+use Rattle.coeff_checks.specs.Checks as checks
+use Rattle.coeff_preset.specs.Preset.{presetOf}
+
+-- what is lent
+pub record Lent : Type 0 where
+  pub pass : Pass
+  pub presets : ℕ
+  pub clusterMap : List ℕ
+  pub shift : ℕ
+  -- the bytes of the preset number
+  pub bytes : List ℕ
+  pub symbols : List ℕ
+  pub log : List ℕ
+  pub grids : Grids
+
+abbrev pub lent : Pass → (presets : ℕ) (clusterMap : List ℕ) (shift : ℕ) (bytes symbols log g0 g1 g2 : List ℕ) → Lent
+lent pass presets clusterMap shift bytes symbols log g0 g1 g2 =
+    record {
+      pass = pass;
+      presets = presets;
+      clusterMap = clusterMap;
+      shift = shift;
+      bytes = bytes;
+      symbols = symbols;
+      log = log;
+      grids = g0 ∷ g1 ∷ g2 ∷ [];
+    }
+
+-- symbols read, or a refusal's number and position
+abbrev pub answered : CoeffAnswer → Answer ℕ
+answered (Accepted at) = gives at
+answered (Refused why) = refuses (said why)
+
+-- the answer, and what is left in the log and in the grids
+pub record Outcome : Type 0 where
+  pub answer : Answer ℕ
+  pub log : List ℕ
+  pub grids : Grids
+
+abbrev pub leaves : CoeffAnswer → (log g0 g1 g2 : List ℕ) → Outcome
+leaves r log g0 g1 g2 = record { answer = answered r; log = log; grids = g0 ∷ g1 ∷ g2 ∷ [] }
+
+-- Checks before work: of log and grids the lengths alone (CallLaws, steady).
+abbrev pub lengthsFit : Lent → Bool
+lengthsFit L =
+    checks.lengthsBy (L .pass) (L .presets) (length (L .clusterMap)) (length (L .log)) (length (getD (L .grids) 0 [])) (length (getD (L .grids) 1 [])) (length (getD (L .grids) 2 []))
+
+abbrev pub beforeWork : Lent → Answer Unit
+beforeWork L =
+    checks.beforeWork (L .pass) (L .presets) (L .shift) (length (L .clusterMap)) (length (L .log)) (length (getD (L .grids) 0 [])) (length (getD (L .grids) 1 [])) (length (getD (L .grids) 2 []))
+
+-- what they leave
+abbrev pub Passed : Lent → Type 0
+Passed L =
+    checks.Passed (L .pass) (L .presets) (L .shift) (length (L .clusterMap)) (length (L .log)) (length (getD (L .grids) 0 [])) (length (getD (L .grids) 1 [])) (length (getD (L .grids) 2 []))
+
+-- The work.
+-- the preset's part of the cluster map
+abbrev pub presetMap : Lent → ℕ → List ℕ
+presetMap L preset = presetMapOf (L .pass) (L .clusterMap) preset
+
+unfoldable pub reading : Lent → ℕ → Reading
+reading L preset = readingBy (L .pass) (L .clusterMap) (L .shift) (L .symbols) (L .log) (L .grids) preset
+
+-- symbols read; 15 to 17 keep what was added and logged
+abbrev pub outcome : Reading → Outcome
+outcome (going us at log grids rows left) = record { answer = gives at; log = log; grids = grids }
+outcome (refused why at log grids) = record { answer = refuses (said (why at)); log = log; grids = grids }
+
+-- a refusal that writes nothing
+abbrev pub refuse : Lent → Said → Outcome
+refuse L s = record { answer = refuses s; log = L .log; grids = L .grids }
+
+abbrev pub readPreset : Lent → Read ℕ
+readPreset L = readBits (L .bytes) 0 (exponent (L .presets))
+
+abbrev pub withPreset : Lent → Read ℕ → Outcome
+withPreset L bits = answeredBy (presetOf (L .presets) bits) (refuse L) (λ preset. outcome (reading L preset))
+
+unfoldable pub call : Lent → Outcome
+call L = answeredBy (beforeWork L) (refuse L) (λ u. withPreset L (readPreset L))
+
+-- counts that were not used up, in all
+abbrev pub leftoverAt : Lent → Read ℕ → ℕ
+leftoverAt L (Ended at) = 0
+leftoverAt L (Value preset at) = leftOf (reading L preset)
+
+abbrev pub leftover : Lent → ℕ
+leftover L = leftoverAt L (readPreset L)

@@ -1,0 +1,64 @@
+-- The checks before work (document 01, Coefficients and Refused): 2, 11, 12, 1, 18, stored places (13).
+-- Of the cluster map, the log and the grids they look at the lengths alone.
+use mathlib.Core.Path.{_≡_}
+use mathlib.Core.Bool.{Bool, true, cond, _&&_}
+use Prim.Native.Nat.{ℕ, _*_}
+use lib.Dec.{leb, eqb}
+use lib.ListN.{length}
+use Rattle.refusal.specs.Answer.{Answer, unless, passed}
+use Rattle.layout.specs.Check.{isLayout}
+use Rattle.lent_sides.specs.Limits.{inLimits}
+use Rattle.order_store.specs.Store.{PLACES, placesFit}
+use Rattle.context_record.specs.Record.{fit}
+use Rattle.coeff_group.specs.Pass.{Pass}
+use Rattle.coeff_group.specs.Work.{clustersOf}
+
+abbrev pub blocks : Pass → ℕ
+blocks P = P .bh * P .bw
+
+abbrev pub sidesFit : Pass → Bool
+sidesFit P = inLimits 32 (P .bw) (P .bh)
+
+abbrev pub parametersFit : ℕ → ℕ → Bool
+parametersFit shift presets = leb shift 3 && leb presets 256
+
+-- three lengths of n
+abbrev pub threeFit : ℕ → ℕ → ℕ → ℕ → Bool
+threeFit a b c n = eqb a n && eqb b n && eqb c n
+
+-- the LF grids, if there are any
+abbrev pub lfFits : Pass → Bool
+lfFits P = cond (P .lfThere) (threeFit (length (P .lf0)) (length (P .lf1)) (length (P .lf2)) (blocks P)) true
+
+abbrev pub passFits : Pass → Bool
+passFits P = eqb (length (P .kinds)) (blocks P) && eqb (length (P .hfMul)) (blocks P) && lfFits P && eqb (length (P .store)) (2 * PLACES)
+
+-- with the lengths of the cluster map, the log and the three grids
+abbrev pub lengthsBy : Pass → (presets clusterMap log g0 g1 g2 : ℕ) → Bool
+lengthsBy P presets clusterMap log g0 g1 g2 =
+    passFits P
+    && eqb clusterMap (495 * clustersOf P * presets)
+    && threeFit g0 g1 g2 (64 * blocks P)
+    && leb (192 * blocks P) log
+
+-- 18: what passes is a layout (crate layout, Theorems, layout-iff)
+abbrev pub layoutFits : Pass → Bool
+layoutFits P = isLayout (P .bw) (P .bh) (P .kinds) (P .hfMul)
+
+unfoldable pub beforeWork : Pass → (presets shift clusterMap log g0 g1 g2 : ℕ) → Answer Unit
+beforeWork P presets shift clusterMap log g0 g1 g2 =
+    unless 2 (sidesFit P)
+    (unless 11 (parametersFit shift presets)
+    (unless 12 (fit (P .contexts))
+    (unless 1 (lengthsBy P presets clusterMap log g0 g1 g2)
+    (unless 18 (layoutFits P)
+    (unless 13 (placesFit (P .store)) passed)))))
+
+-- what they leave
+pub record Passed (P : Pass) (presets shift clusterMap log g0 g1 g2 : ℕ) : Type 0 where
+  pub sides : sidesFit P ≡ true
+  pub parameters : parametersFit shift presets ≡ true
+  pub contexts : fit (P .contexts) ≡ true
+  pub lengths : lengthsBy P presets clusterMap log g0 g1 g2 ≡ true
+  pub layout : layoutFits P ≡ true
+  pub places : placesFit (P .store) ≡ true

@@ -1,0 +1,139 @@
+-- The checks before work, outcome by outcome.
+use mathlib.Core.Path.{_≡_, refl, sym, _∙_}
+use mathlib.Core.Bool.{Bool, true, false, _&&_}
+use Prim.Native.Nat.{ℕ, _*_, _≤_}
+use native.Mathlib.Nat.{mul-le-mul}
+use native.Mathlib.Omega.{arith}
+use lib.Dec.{T, leb, eqb, leb→le, eqb→eq}
+use lib.ListN.{length}
+use Rattle.refusal.specs.Said as refusals
+use Rattle.refusal.specs.Answer.{Answer, gives, refuses, unless, passed}
+use Rattle.lent_sides.specs.Limits.{inLimits}
+use Rattle.order_store.specs.Store.{PLACES, placesFit}
+use Rattle.context_record.specs.declared.HfBlockContext.{HfBlockContext}
+use Rattle.context_record.specs.Record.{fit}
+use Rattle.context_record.specs.laws.Bounds.{is-fit}
+use Rattle.coeff_group.specs.Pass.{Pass}
+use Rattle.coeff_group.specs.Work.{clustersOf}
+use Rattle.coeff_checks.specs.Checks.{blocks, sidesFit, parametersFit, threeFit, lfFits, passFits, lengthsBy, layoutFits, beforeWork, Passed}
+use Rattle.coeff_checks.specs.laws.Tests.{readFit, writtenFit, groupPasses, two, three, four, truth, written-is, passes-is}
+
+pub record Sides (P : Pass) : Type 0 where
+  pub someWide : 1 ≤ P .bw
+  pub wide : P .bw ≤ 32
+  pub someHigh : 1 ≤ P .bh
+  pub high : P .bh ≤ 32
+
+pub sides-fit : (P : Pass) → sidesFit P ≡ true → Sides P
+unfolding inLimits
+sides-fit P e =
+    let t = two (leb 1 (P .bw) && leb (P .bw) 32) (leb 1 (P .bh) && leb (P .bh) 32) (truth (sidesFit P) e) in
+    let w = two (leb 1 (P .bw)) (leb (P .bw) 32) (t .0) in
+    let h = two (leb 1 (P .bh)) (leb (P .bh) 32) (t .1) in
+    record { someWide = leb→le 1 (P .bw) (w .0); wide = leb→le (P .bw) 32 (w .1); someHigh = leb→le 1 (P .bh) (h .0); high = leb→le (P .bh) 32 (h .1) }
+
+pub parameters-fit : (shift presets : ℕ) → parametersFit shift presets ≡ true → (shift ≤ 3) × (presets ≤ 256)
+parameters-fit shift presets e =
+    let t = two (leb shift 3) (leb presets 256) (truth (parametersFit shift presets) e) in
+    (leb→le shift 3 (t .0), leb→le presets 256 (t .1))
+
+pub most-blocks : (P : Pass) → sidesFit P ≡ true → blocks P ≤ 1024
+most-blocks P e = let s = sides-fit P e in mul-le-mul (s .high) (s .wide)
+
+pub few-clusters : (R : HfBlockContext) → fit R ≡ true → R .«num_block_clusters» ≤ 16
+few-clusters R e = is-fit R e .few
+
+module _ (P : Pass) (presets clusterMap log g0 g1 g2 : ℕ) where
+  pub record Lengths : Type 0 where
+    pub kinds : length (P .kinds) ≡ blocks P
+    pub hfMul : length (P .hfMul) ≡ blocks P
+    pub lf : P .lfThere ≡ true → (length (P .lf0) ≡ blocks P) × (length (P .lf1) ≡ blocks P) × (length (P .lf2) ≡ blocks P)
+    pub store : length (P .store) ≡ 2 * PLACES
+    pub map : clusterMap ≡ 495 * clustersOf P * presets
+    pub grids : (g0 ≡ 64 * blocks P) × (g1 ≡ 64 * blocks P) × (g2 ≡ 64 * blocks P)
+    pub room : 192 * blocks P ≤ log
+
+  equal : (a b c n : ℕ) → T (threeFit a b c n) → (a ≡ n) × (b ≡ n) × (c ≡ n)
+  equal a b c n t = let g = three (eqb a n) (eqb b n) (eqb c n) t in (eqb→eq a n (g .0), eqb→eq b n (g .1), eqb→eq c n (g .2))
+
+  pub lengths-fit : lengthsBy P presets clusterMap log g0 g1 g2 ≡ true → Lengths
+  lengths-fit e =
+      let n = blocks P in
+      let t = four (passFits P) (eqb clusterMap (495 * clustersOf P * presets)) (threeFit g0 g1 g2 (64 * n)) (leb (192 * n) log) (truth (lengthsBy P presets clusterMap log g0 g1 g2) e) in
+      let p = four (eqb (length (P .kinds)) n) (eqb (length (P .hfMul)) n) (lfFits P) (eqb (length (P .store)) (2 * PLACES)) (t .0) in
+      record {
+        kinds = eqb→eq (length (P .kinds)) n (p .0);
+        hfMul = eqb→eq (length (P .hfMul)) n (p .1);
+        lf = λ y. equal (length (P .lf0)) (length (P .lf1)) (length (P .lf2)) n (rw y at (p .2));
+        store = eqb→eq (length (P .store)) (2 * PLACES) (p .3);
+        map = eqb→eq clusterMap (495 * clustersOf P * presets) (t .1);
+        grids = equal g0 g1 g2 (64 * n) (t .2);
+        room = leb→le (192 * n) log (t .3);
+      }
+
+module _ (P : Pass) (presets shift clusterMap log g0 g1 g2 : ℕ) where
+  abbrev answer : Answer Unit
+  answer = beforeWork P presets shift clusterMap log g0 g1 g2
+
+  pub checks-pass : Passed P presets shift clusterMap log g0 g1 g2 → answer ≡ passed
+  unfolding beforeWork
+  checks-pass p = rw (p .sides, p .parameters, p .contexts, p .lengths, p .layout, p .places)
+
+  pub checks-2 : sidesFit P ≡ false → answer ≡ refuses (refusals.at 2 0 0)
+  unfolding beforeWork
+  checks-2 a = rw a
+
+  module _ (a : sidesFit P ≡ true) where
+    pub checks-11 : parametersFit shift presets ≡ false → answer ≡ refuses (refusals.at 11 0 0)
+    unfolding beforeWork
+    checks-11 b = rw (a, b)
+
+    module _ (b : parametersFit shift presets ≡ true) where
+      pub checks-12 : fit (P .contexts) ≡ false → answer ≡ refuses (refusals.at 12 0 0)
+      unfolding beforeWork
+      checks-12 c = rw (a, b, c)
+
+      module _ (c : fit (P .contexts) ≡ true) where
+        pub checks-1 : lengthsBy P presets clusterMap log g0 g1 g2 ≡ false → answer ≡ refuses (refusals.at 1 0 0)
+        unfolding beforeWork
+        checks-1 d = rw (a, b, c, d)
+
+        -- the lengths as the code compares them
+        pub lengths-are : (first r : Bool)
+            → first ≡ readFit (length (P .kinds)) (length (P .hfMul)) (P .lfThere) (length (P .lf0)) (length (P .lf1)) (length (P .lf2)) (length (P .store)) (blocks P)
+            → r ≡ writtenFit (clustersOf P) presets clusterMap g0 g1 g2 log (blocks P) first
+            → lengthsBy P presets clusterMap log g0 g1 g2 ≡ r
+        lengths-are first r e f =
+            sym (f
+            ∙ written-is (clustersOf P) presets clusterMap g0 g1 g2 log (blocks P) first (few-clusters (P .contexts) c) (parameters-fit shift presets b .1) (most-blocks P a)
+            ∙ rw e)
+
+        module _ (d : lengthsBy P presets clusterMap log g0 g1 g2 ≡ true) where
+          -- 18, once sides and lengths fit
+          pub layout-is : groupPasses (P .bw) (P .bh) (P .kinds) (P .hfMul) ≡ layoutFits P
+          layout-is = let l = lengths-fit P presets clusterMap log g0 g1 g2 d in passes-is (P .bw) (P .bh) (P .kinds) (P .hfMul) a (l .kinds) (l .hfMul)
+
+          pub checks-18 : layoutFits P ≡ false → answer ≡ refuses (refusals.at 18 0 0)
+          unfolding beforeWork
+          checks-18 e = rw (a, b, c, d, e)
+
+          pub checks-13 : layoutFits P ≡ true → placesFit (P .store) ≡ false → answer ≡ refuses (refusals.at 13 0 0)
+          unfolding beforeWork
+          checks-13 e f = rw (a, b, c, d, e, f)
+
+  -- a result comes after a test that passed
+  past : (n : ℕ) (b : Bool) (next : Answer Unit) → unless n b next ≡ passed → (b ≡ true) × (next ≡ passed)
+  past n true next e = (refl, e)
+  past n false next e = absurd (let z : _≡_ {A = ℕ} 0 1 = cc in omega arith)
+
+  -- nothing else leaves them
+  pub passed-by : answer ≡ passed → Passed P presets shift clusterMap log g0 g1 g2
+  unfolding beforeWork
+  passed-by e =
+      let a = past 2 (sidesFit P) _ e in
+      let b = past 11 (parametersFit shift presets) _ (a .1) in
+      let c = past 12 (fit (P .contexts)) _ (b .1) in
+      let d = past 1 (lengthsBy P presets clusterMap log g0 g1 g2) _ (c .1) in
+      let f = past 18 (layoutFits P) _ (d .1) in
+      let g = past 13 (placesFit (P .store)) _ (f .1) in
+      record { sides = a .0; parameters = b .0; contexts = c .0; lengths = d .0; layout = f .0; places = g .0 }

@@ -1,0 +1,112 @@
+// The checks before work.
+use lent_check::Group;
+use lent_check::check::check_group;
+use order_store::NUMBERS;
+use refusal::Checked;
+ghost use mathlib.Core.Path.{_≡_};
+ghost use Rattle.coeff_checks.specs.Checks.{parametersFit, threeFit};
+ghost use Rattle.coeff_checks.specs.laws.Tests.{lfLengthsFit, readFit, writtenFit, groupPasses};
+
+pub(crate) fn parameters_fit(shift: u32, presets: u32) -> bool
+    ensures { λ r. ⌜ r ≡ parametersFit shift presets ⌝ }
+{
+    if 3 < shift {
+        return false;
+    }
+    presets <= 256
+}
+
+// All three are n.
+fn three_fit(a: usize, b: usize, c: usize, n: usize) -> bool
+    ensures { λ r. ⌜ r ≡ threeFit a b c n ⌝ }
+{
+    if a != n {
+        return false;
+    }
+    if b != n {
+        return false;
+    }
+    c == n
+}
+
+// LF grids are asked for their lengths only if there are any.
+fn lf_fits(there: bool, lf0: usize, lf1: usize, lf2: usize, n: usize) -> bool
+    ensures { λ r. ⌜ r ≡ lfLengthsFit there lf0 lf1 lf2 n ⌝ }
+{
+    if !there {
+        return true;
+    }
+    three_fit(lf0, lf1, lf2, n)
+}
+
+// Lengths of what is lent to be read, for n blocks.
+pub(crate) fn read_fit(
+    kinds: usize,
+    hf_mul: usize,
+    there: bool,
+    lf0: usize,
+    lf1: usize,
+    lf2: usize,
+    store: usize,
+    n: usize,
+) -> bool
+    ensures { λ r. ⌜ r ≡ readFit kinds «hf_mul» there lf0 lf1 lf2 store n ⌝ }
+{
+    if kinds != n {
+        return false;
+    }
+    if hf_mul != n {
+        return false;
+    }
+    if !lf_fits(there, lf0, lf1, lf2, n) {
+        return false;
+    }
+    store == NUMBERS
+}
+
+// Lengths of the cluster map, the three grids and the log, once limits and the other lengths fit.
+pub(crate) fn written_fit(
+    clusters: usize,
+    presets: usize,
+    cluster_map: usize,
+    g0: usize,
+    g1: usize,
+    g2: usize,
+    log: usize,
+    n: usize,
+    first: bool,
+) -> bool
+    ensures { λ r. ⌜ r ≡ writtenFit clusters presets «cluster_map» g0 g1 g2 log n first ⌝ }
+{
+    if 16 < clusters {
+        return false;
+    }
+    if 256 < presets {
+        return false;
+    }
+    if 1024 < n {
+        return false;
+    }
+    if !first {
+        return false;
+    }
+    let bytes = 495 * clusters * presets;
+    if cluster_map != bytes {
+        return false;
+    }
+    if !three_fit(g0, g1, g2, 64 * n) {
+        return false;
+    }
+    192 * n <= log
+}
+
+// The check of a group lets it pass.
+pub(crate) fn layout_fits(group: Group, kinds: &[u8], hf_mul: &[u32]) -> bool
+    ensures { λ r. ⌜ r ≡ groupPasses (group .bw) (group .bh) (now (kinds .entry)) (now («hf_mul» .entry)) ⌝ }
+{
+    let checked = check_group(group, kinds, hf_mul);
+    match checked {
+        Checked::Fine => true,
+        Checked::Refused(_) => false,
+    }
+}

@@ -1,0 +1,52 @@
+-- Reading a pass group: its varblocks in turn (document 01, Coefficients; `write_hf_coeff`).
+use mathlib.Core.List.{List, [], _∷_}
+use Prim.Native.Nat.{ℕ, _+_}
+use lib.ListN.{getD, set, replicate}
+use Rattle.refusal.specs.declared.Refusal.{Refusal}
+use Rattle.layout.specs.Varblocks.{Varblock}
+use Rattle.coeff_walk.specs.Walk.{Walked, ended, stopped}
+use Rattle.coeff_walk.specs.Item.{Item, newRow, counted}
+use Rattle.coeff_group.specs.Pass.{Pass, channels}
+
+-- a list for each of the channels 0, 1, 2
+abbrev pub Grids : Type 0
+Grids = List (List ℕ)
+
+-- rows of counts before the first varblock: 32 numbers each, of which a group looks at as many as it is wide
+abbrev pub zeroRows : Grids
+zeroRows = replicate 32 0 ∷ replicate 32 0 ∷ replicate 32 0 ∷ []
+
+-- going: symbols left, symbols read, log, grids, rows of counts, counts left over so far
+pub data Reading : Type 0 where
+  going : (us : List ℕ) (at : ℕ) (log : List ℕ) (grids rows : Grids) (left : ℕ) → Reading
+  refused : (why : ℕ → Refusal) (at : ℕ) (log : List ℕ) (grids : Grids) → Reading
+
+-- a channel c that was walked
+abbrev pub after : ℕ → Grids → Grids → ℕ → Walked → Reading
+after c grids rows left (ended us at log g n) = going us at log (set grids c g) rows (left + n)
+after c grids rows left (stopped why at log g) = refused why at log (set grids c g)
+
+module _ (shift clusters : ℕ) (presetMap : List ℕ) where
+  unfoldable pub item : Item → Reading → Reading
+  item it (going us at log grids rows left) =
+      let c = it .channel in
+      let row = getD rows c [] in
+      after c grids (set rows c (newRow it row us)) left (counted shift clusters presetMap it row us at log (getD grids c []))
+  item it (refused why at log grids) = refused why at log grids
+
+  unfoldable pub read : List Item → Reading → Reading
+  read [] r = r
+  read (it ∷ its) r = read its (item it r)
+
+  module _ (P : Pass) where
+    abbrev pub varblock : Varblock → Reading → Reading
+    varblock v r = read (channels P v) r
+
+    unfoldable pub group : List Varblock → Reading → Reading
+    group [] r = r
+    group (v ∷ vs) r = group vs (varblock v r)
+
+-- what was left over of the counts, in all
+abbrev pub leftOf : Reading → ℕ
+leftOf (going us at log grids rows left) = left
+leftOf (refused why at log grids) = 0

@@ -1,0 +1,64 @@
+-- The stretches of a whole store: how long they are, and where the three of an order stand.
+use mathlib.Core.Path.{_≡_, ap, sym, _∙_}
+use mathlib.Core.List.{List}
+use Prim.Native.Nat.{ℕ, zero, suc, _+_, _*_, _/_, _<_, _≤_}
+use native.Mathlib.Omega.{arith}
+use lib.ListN.{length, take, drop, length-drop}
+use lib.Seq.{length-take-le}
+use borrow.Author.Tests.{lt-ltb, eq-eqb}
+use Rattle.order_sizes.specs.BlockSizes.{BLOCK-SIZES, widthOf, heightOf}
+use Rattle.order_store.specs.Store.{PLACES, thrice, before, stretch, from}
+use Rattle.order_store.specs.laws.Offsets.{from-step, from-most, from-channel, places-by}
+use Rattle.order_store.specs.LookedUp.{stretchFrom, stretchAt}
+use Rattle.order_store.specs.declared.Stretch.{Stretch}
+
+module _ (store : List ℕ) (whole : length store ≡ 2 * PLACES) (o c : ℕ) (h : o < 13) (l : c < 3) where
+  stretch-is : stretch store o c ≡ take (2 * (widthOf o * heightOf o)) (drop (2 * before (thrice BLOCK-SIZES) (3 * o + c)) store)
+  unfolding stretch
+  stretch-is = rw (lt-ltb o 13 h, lt-ltb c 3 l, eq-eqb (length store) (2 * PLACES) whole)
+
+  third : (3 * o + c) / 3 ≡ o
+  third = omega arith
+
+  pub stretch-long : length (stretch store o c) ≡ 2 * (widthOf o * heightOf o)
+  unfolding from
+  stretch-long =
+      let i = 3 * o + c in
+      let a : from (i + 1) ≡ from i + 2 * (widthOf (i / 3) * heightOf (i / 3)) = from-step i (omega arith) in
+      let b : from (i + 1) ≤ 787968 = from-most (i + 1) (omega arith) in
+      let e : widthOf (i / 3) * heightOf (i / 3) ≡ widthOf o * heightOf o = rw third in
+      let d = length-drop (2 * before (thrice BLOCK-SIZES) i) store in
+      ap length stretch-is ∙ length-take-le (2 * (widthOf o * heightOf o)) (drop (2 * before (thrice BLOCK-SIZES) i) store) (omega (arith, places-by))
+
+-- the lists of channels 0, 1, 2 stand one behind the other: `lists` is where that of channel 0 lies
+module _ (store : List ℕ) (whole : length store ≡ 2 * PLACES) (o : ℕ) (h : o < 13) (lists : Stretch) (e : lists ≡ stretchAt (length store) o 0) where
+  pub lists-are : lists ≡ stretchFrom (from (3 * o)) (2 * (widthOf o * heightOf o))
+  unfolding stretchAt
+  lists-are =
+      let z : 3 * o + 0 ≡ 3 * o = omega arith in
+      e ∙ rw (lt-ltb o 13 h, eq-eqb (length store) (2 * PLACES) whole, z)
+
+  -- channel c's begins behind c of them
+  first-is : (c : ℕ) → c < 3 → lists .first + c * lists .count ≡ from (3 * o + c)
+  first-is c l = rw lists-are (sym (from-channel o c h l))
+
+  pub lists-end : lists .first + 3 * lists .count ≤ length store
+  lists-end =
+      let i = 3 * o + 2 in
+      let t : i / 3 ≡ o = omega arith in
+      let n : lists .count ≡ 2 * (widthOf o * heightOf o) = ap (λ (s : Stretch). s .count) lists-are in
+      let f = rw t at (from-step i (omega arith)) in
+      omega (arith, first-is 2 (omega arith), from-most (i + 1) (omega arith), places-by)
+
+  pub list-is : (c : ℕ) → c < 3 → take (lists .count) (drop (lists .first + c * lists .count) store) ≡ stretch store o c
+  unfolding from
+  list-is c l =
+      let n : lists .count ≡ 2 * (widthOf o * heightOf o) = ap (λ (s : Stretch). s .count) lists-are in
+      rw (first-is c l, n) (sym (stretch-is store whole o c h l))
+
+-- the c-th of three ends within the three
+pub of-three : (c n : ℕ) → c < 3 → c * n + n ≤ 3 * n
+of-three zero n h = omega arith
+of-three (suc zero) n h = omega arith
+of-three (suc (suc zero)) n h = omega arith
+of-three (suc (suc (suc c))) n h = absurd (omega arith)

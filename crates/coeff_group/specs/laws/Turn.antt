@@ -1,0 +1,177 @@
+-- The turn of one channel of a varblock, as the code takes it.
+use mathlib.Core.Path.{_≡_, refl, ap, sym, subst, _∙_}
+use mathlib.Core.Bool.{true, false}
+use mathlib.Core.List.{List, [], _∷_}
+use Prim.Native.Nat.{ℕ, suc, _+_, _*_, _^_, _-_, _<_, _≤_}
+use native.Mathlib.Omega.{arith}
+use native.Mathlib.Decide.{decLt, decLe}
+use lib.ListN.{length, getD, set, drop, length-drop}
+use lib.Seq.{drop-cons, drop-drop}
+use lib.Pow.{pow-pos}
+use Rattle.refusal.specs.declared.Refusal.{Refusal}
+use Rattle.refusal.specs.declared.Refusal.the-variants.{SymbolsEnd, Count}
+use Rattle.lent_check.specs.declared.Group.{Group}
+use Rattle.coeff_walk.specs.declared.Walk.{Walk}
+use Rattle.coeff_walk.specs.declared.Walk.the-variants.{Ended, Stopped}
+use Rattle.coeff_walk.specs.Walk.{Walked, ended, stopped}
+use Rattle.coeff_walk.specs.laws.Outcome.{isStopped, answerOf, logOf, gridOf}
+use Rattle.coeff_walk.specs.Item.{Item, newRow, countOver, countCluster, counted}
+use Rattle.coeff_walk.specs.declared.shape.Shape.{Shape}
+use Rattle.order_natural.specs.Places.{paired}
+use Rattle.order_natural.specs.laws.Flat.{length-paired}
+use Rattle.coeff_walk.specs.laws.PlaceLaws.{length-places}
+use Rattle.coeff_walk.specs.laws.Items.{itemAt, ItemReady, counted-15, counted-16}
+use Rattle.coeff_walk.specs.laws.Kept.{KeptBy, counted-kept}
+use Rattle.coeff_group.specs.Group.{Grids, Reading, going, after, item}
+use Rattle.coeff_group.specs.laws.Steps.{InGrid, rowBy, Shown}
+use Rattle.coeff_group.specs.laws.Plans.{inChannel, itemBy, channelWalked, Planned}
+use Rattle.coeff_group.specs.declared.plan.Plan.{Plan}
+use Rattle.order_store.specs.Store.{stretch}
+
+-- what the turn of the n-th channel walked hands back: how it ended, and its count over the varblock's blocks; whatever rows the reading
+-- has for the other channels, and whatever was left over of the counts before
+pub record TurnShown (p : Plan) (group : Group) (clusters : ℕ) (presetMap store symbols : List ℕ) (at shift : ℕ) (rows : Grids) (log : List ℕ) (G : Grids) (n : ℕ) (w : Walk) (count : ℕ) (log₁ : List ℕ) (G₁ : Grids) : Type 0 where
+  pub shown : (R : Grids) (left : ℕ) → getD R (channelWalked n) [] ≡ getD rows (channelWalked n) []
+      → Shown symbols (at + 64 * 2 ^ (p .shape .exponent)) w (rowBy R (channelWalked n) (p .shape .x) (p .shape .wide) count) log₁ G₁
+      (item shift clusters presetMap (itemBy p group store n (channelWalked n)) (going (drop at symbols) at log G R left))
+
+-- the channel's number decides nothing in its reading
+counted-in : (shift clusters : ℕ) (presetMap : List ℕ) (c : ℕ) (it : Item) (row us : List ℕ) (at : ℕ) (log g : List ℕ)
+    → counted shift clusters presetMap (inChannel c it) row us at log g ≡ counted shift clusters presetMap it row us at log g
+unfolding counted
+counted-in shift clusters presetMap c it row [] at log g = refl
+counted-in shift clusters presetMap c it row (n ∷ us) at log g = refl
+
+module _ (shift clusters : ℕ) (presetMap : List ℕ) (c : ℕ) (it : Item) (row symbols : List ℕ) (at : ℕ) (log : List ℕ) (G : Grids) (r : Walk) (log₁ : List ℕ) (G₁ : Grids)
+    (got : InGrid c G r log₁ G₁ (λ g. counted shift clusters presetMap it row (drop at symbols) at log g)) where
+  abbrev w : Walked
+  w = counted shift clusters presetMap it row (drop at symbols) at log (getD G c [])
+
+  -- the walk ended: the count was read
+  read-count : isStopped r ≡ false → (at < length symbols) × (getD symbols at 0 ≤ 63 * it .blocks)
+  read-count e = first (decLt at (length symbols))
+    where
+      never : (why : ℕ → Refusal) (at′ : ℕ) (log′ g : List ℕ) → w ≡ stopped why at′ log′ g → ⊥
+      never why at′ log′ g q =
+          let z : true ≡ false = ap isStopped (sym (got .answer ∙ ap answerOf q)) ∙ e in
+          let y : _≡_ {A = ℕ} 0 1 = cc in omega arith
+
+      small : at < length symbols → Dec (getD symbols at 0 ≤ 63 * it .blocks) → (at < length symbols) × (getD symbols at 0 ≤ 63 * it .blocks)
+      small h (yes k) = (h, k)
+      small h (no k) =
+          absurd (never Count (at + 1) (set log at (countCluster clusters presetMap it row)) (getD G c [])
+          (counted-16 shift clusters presetMap it row symbols at log (getD G c []) h (omega arith)))
+
+      first : Dec (at < length symbols) → (at < length symbols) × (getD symbols at 0 ≤ 63 * it .blocks)
+      first (yes h) = small h (decLe (getD symbols at 0) (63 * it .blocks))
+      first (no h) = absurd (never SymbolsEnd at log (getD G c []) (counted-15 shift clusters presetMap it row symbols at log (getD G c []) (omega arith)))
+
+  module _ (most : ℕ) (R : Grids) (left : ℕ) (same : getD R c [] ≡ row) where
+    abbrev stepped : Reading
+    stepped = item shift clusters presetMap (inChannel c it) (going (drop at symbols) at log G R left)
+
+    stepped-is : stepped ≡ after c G (set R c (newRow (inChannel c it) row (drop at symbols))) left w
+    unfolding item
+    stepped-is = rw (same, counted-in shift clusters presetMap c it row (drop at symbols) at log (getD G c []))
+
+    -- the walk stopped
+    item-stops : isStopped r ≡ true → (rows₁ : Grids) → Shown symbols most r rows₁ log₁ G₁ stepped
+    item-stops e rows₁ = rw stepped-is (go w refl)
+      where
+        go : (x : Walked) → w ≡ x → Shown symbols most r rows₁ log₁ G₁ (after c G (set R c (newRow (inChannel c it) row (drop at symbols))) left x)
+        go (ended us at′ log′ g n) q = absurd (let a : r ≡ Ended at′ = got .answer ∙ ap answerOf q in let z : isStopped r ≡ false = ap isStopped a in let y : _≡_ {A = ℕ} 0 1 = cc in omega arith)
+        go (stopped why at′ log′ g) q = record {
+          it = record {
+            answer = got .answer ∙ ap answerOf q;
+            logged = sym (got .logged ∙ ap logOf q);
+            cells = sym (got .cells ∙ ap (λ (x : Walked). set G c (gridOf x)) q);
+          };
+        }
+
+    -- the walk ended: the row is rewritten
+    item-goes : isStopped r ≡ false → suc (length (it .places)) ≤ most - at → at ≤ most
+        → Shown symbols most r (rowBy R c (it .x) (it .wide) (countOver (getD symbols at 0) (it .blocks))) log₁ G₁ stepped
+    item-goes e room start = rw stepped-is (go w refl (counted-kept shift clusters presetMap it row (drop at symbols) at log (getD G c [])))
+      where
+        rows-are : set R c (newRow (inChannel c it) row (drop at symbols)) ≡ rowBy R c (it .x) (it .wide) (countOver (getD symbols at 0) (it .blocks))
+        rows-are = rw (drop-cons symbols at 0 (read-count e .0), same)
+
+        go : (x : Walked) → w ≡ x → KeptBy (suc (length (it .places))) (drop at symbols) at log (getD G c []) x
+            → Shown symbols most r (rowBy R c (it .x) (it .wide) (countOver (getD symbols at 0) (it .blocks))) log₁ G₁ (after c G (set R c (newRow (inChannel c it) row (drop at symbols))) left x)
+        go (stopped why at′ log′ g) q k =
+            absurd (let a : r ≡ Stopped (why at′) = got .answer ∙ ap answerOf q in let z : isStopped r ≡ true = ap isStopped a in let y : _≡_ {A = ℕ} 0 1 = cc in omega arith)
+        go (ended us at′ log′ g n) q k =
+            let m = k .most in let f = k .read in
+            record {
+              it = record {
+                answer = got .answer ∙ ap answerOf q;
+                rest = k .rest ∙ drop-drop (k .k) at symbols ∙ ap (λ (j : ℕ). drop j symbols) (sym f);
+                few = omega arith;
+                counts = rows-are;
+                logged = sym (got .logged ∙ ap logOf q);
+                cells = sym (got .cells ∙ ap (λ (x : Walked). set G c (gridOf x)) q);
+              };
+            }
+
+-- an item has 63 places for each block
+item-size : (v : Shape) (width context : ℕ) (order : List ℕ) → length order ≡ 128 * 2 ^ (v .exponent) → length (itemAt v width context order .places) ≡ 63 * 2 ^ (v .exponent)
+item-size v width context order h =
+    let e = length-paired order in
+    length-places (v .turn) (8 * width) (8 * v .x) (8 * v .y) (drop (2 ^ (v .exponent)) (paired order)) ∙ length-drop (2 ^ (v .exponent)) (paired order) ∙ omega arith
+
+-- channel c, walked n-th, by its list of the order
+module _ (p : Plan) (group : Group) (clusters : ℕ) (presetMap store symbols : List ℕ) (shift : ℕ) (planned : Planned p group clusters presetMap store shift) (n at : ℕ) (rows : Grids) (log : List ℕ) (G : Grids)
+    (hn : n < 3) (room : at + 64 * 2 ^ (p .shape .exponent) ≤ length log) (c : ℕ) (below : c < 3) (ec : c ≡ channelWalked n) (order : List ℕ) (eo : order ≡ stretch store (p .order) c) where
+  abbrev K : ℕ
+  K = 2 ^ (p .shape .exponent)
+
+  long : length order ≡ 128 * K
+  long = rw eo (planned .places c below)
+
+  -- what the channel's walk is asked
+  pub turn-asks : (c < 3) × ItemReady (p .shape) (group .bw) (getD (p .contexts) n 0) clusters (length presetMap) (length order) at shift (length log)
+  turn-asks = (
+    below,
+    record {
+      left = planned .left;
+      top = planned .top;
+      exponent = planned .exponent;
+      across = planned .across;
+      cluster = planned .cluster n hn;
+      few = planned .few;
+      entries = planned .entries;
+      places = long;
+      shifts = planned .shifts;
+      room = room;
+    },
+  )
+
+  abbrev it : Item
+  it = itemAt (p .shape) (group .bw) (getD (p .contexts) n 0) order
+
+  same-item : inChannel c it ≡ itemBy p group store n (channelWalked n)
+  same-item = rw (eo, ec)
+
+  module _ (r : Walk) (log₁ : List ℕ) (G₁ : Grids) (got : InGrid c G r log₁ G₁ (λ g. counted shift clusters presetMap it (getD rows c []) (drop at symbols) at log g)) where
+    pub turn-count : isStopped r ≡ false → (at < length symbols) × (getD symbols at 0 ≤ 63 * K)
+    turn-count = read-count shift clusters presetMap c it (getD rows c []) symbols at log G r log₁ G₁ got
+
+    module _ (R : Grids) (left : ℕ) (same : getD R (channelWalked n) [] ≡ getD rows (channelWalked n) []) where
+      here : getD R c [] ≡ getD rows c []
+      here = rw ec same
+
+    -- the reading stopped in this channel
+    pub turn-stops : isStopped r ≡ true → (count : ℕ) → TurnShown p group clusters presetMap store symbols at shift rows log G n r count log₁ G₁
+    turn-stops e count = record {
+      shown = λ R left same. subst (λ (i : Item). Shown symbols (at + 64 * K) r (rowBy R (channelWalked n) (p .shape .x) (p .shape .wide) count) log₁ G₁ (item shift clusters presetMap i (going (drop at symbols) at log G R left))) same-item
+          (item-stops shift clusters presetMap c it (getD rows c []) symbols at log G r log₁ G₁ got (at + 64 * K) R left (here R left same) e (rowBy R (channelWalked n) (p .shape .x) (p .shape .wide) count));
+    }
+
+    -- the channel was read
+    pub turn-goes : isStopped r ≡ false → (count : ℕ) → count ≡ countOver (getD symbols at 0) K → TurnShown p group clusters presetMap store symbols at shift rows log G n r count log₁ G₁
+    turn-goes e count ev =
+        let l = item-size (p .shape) (group .bw) (getD (p .contexts) n 0) order long in
+        record {
+          shown = λ R left same. subst (λ (i : Item). Shown symbols (at + 64 * K) r (rowBy R (channelWalked n) (p .shape .x) (p .shape .wide) count) log₁ G₁ (item shift clusters presetMap i (going (drop at symbols) at log G R left))) same-item
+              (rw (ev, ← ec) (item-goes shift clusters presetMap c it (getD rows c []) symbols at log G r log₁ G₁ got (at + 64 * K) R left (here R left same) e (omega (arith, pow-pos (p .shape .exponent))) (omega arith)));
+        }

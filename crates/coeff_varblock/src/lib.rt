@@ -1,0 +1,281 @@
+// One varblock: the counts and coefficients of its three channels (`hf_coeff.rs`).
+use crate::channel::walk_channel;
+use crate::count::count_over;
+use coeff_group::plan::Plan;
+use coeff_walk::Walk;
+use coeff_walk::walked::is_stopped;
+use coeff_walk::walked::symbols_read;
+use lent_check::Group;
+use order_store::Stretch;
+use order_store::stretch_of;
+use refusal::Refusal;
+
+pub mod channel;
+pub mod count;
+
+ghost use mathlib.Core.Path.{_≡_};
+ghost use mathlib.Core.List.{[], _∷_};
+ghost use Prim.Native.Nat.{ℕ, _+_, _*_, _^_, _<_, _≤_};
+ghost use lib.ListN.{length, take, drop};
+ghost use Rattle.order_store.specs.LookedUp.{stretchAt};
+ghost use Rattle.coeff_group.specs.Group.{going, read};
+ghost use Rattle.coeff_group.specs.laws.Rewritten.{three, VarblockShown};
+ghost use Rattle.coeff_group.specs.laws.Plans.{channelWalked, itemsBy, Planned};
+ghost use Rattle.coeff_group.specs.laws.Turn.{TurnShown};
+ghost use Rattle.coeff_group.specs.laws.Lent.{varblockFits, varblockRead};
+
+fn to_usize(x: u32) -> usize
+    ensures { λ r. ⌜ r ≡ x ⌝ }
+{
+    x as usize
+}
+
+// The channel that is walked n-th. A `match`, since a constant array is laid out anew wherever it is named.
+fn channel_walked(n: usize) -> usize
+    requires { ⌜ n < 3 ⌝ }
+    ensures { λ r. ⌜ (r < 3) × (r ≡ channelWalked n) ⌝ }
+{
+    match n {
+        0 => 1,
+        1 => 0,
+        _ => 2,
+    }
+}
+
+// The list of channel c, where `lists` is that of channel 0: the three stand one behind the other.
+fn list_of(store: &[u16], lists: Stretch, c: usize) -> &[u16]
+    requires { ⌜ (c < 3) × (lists .first + 3 * lists .count ≤ length (now store)) ⌝ }
+    ensures { λ r. ⌜ now r ≡ take (lists .count) (drop (lists .first + c * lists .count) (now (store .entry))) ⌝ }
+{
+    let n = lists.count;
+    let a = lists.first + c * n;
+    let e = a + n;
+    &store[a..e]
+}
+
+// How the turn of a channel ended, and what its count comes to over the varblock's blocks; 0 where it was stopped.
+struct TurnRead {
+    walk: Walk,
+    count: u32,
+}
+
+// The turn of the channel that is walked n-th, of what fits. `lists` is where the order's list of channel 0 lies.
+fn read_turn<'a>(
+    n: usize,
+    lists: Stretch,
+    plan: Plan,
+    group: Group,
+    clusters: usize,
+    preset_map: &'a [u8],
+    store: &'a [u16],
+    symbols: &'a [u32],
+    at: usize,
+    shift: u32,
+    rows: &'a [[u32; 32]; 3],
+    log: &mut [u8],
+    g0: &mut [u32],
+    g1: &mut [u32],
+    g2: &mut [u32],
+) -> TurnRead
+    requires { ⌜ (n < 3) × (lists ≡ stretchAt (length (now store)) (plan .order) 0) × Planned plan group clusters (now «preset_map») (now store) shift × (at + 64 * 2 ^ (plan .shape .exponent) ≤ length (now log)) ⌝ }
+    ensures { λ r. ⌜ TurnShown plan group clusters (now («preset_map» .entry)) (now (store .entry)) (now (symbols .entry)) at shift (now (rows .entry)) (now (log .entry)) (now (g0 .entry) ∷ now (g1 .entry) ∷ now (g2 .entry) ∷ []) n (r .walk) (r .count) (now (log .exit)) (now (g0 .exit) ∷ now (g1 .exit) ∷ now (g2 .exit) ∷ []) ⌝ }
+{
+    let c = channel_walked(n);
+    let walk = walk_channel(
+        c,
+        plan.shape,
+        group.bw,
+        plan.contexts[n],
+        clusters,
+        preset_map,
+        list_of(store, lists, c),
+        &rows[c],
+        symbols,
+        at,
+        shift,
+        log,
+        g0,
+        g1,
+        g2,
+    );
+    if is_stopped(walk) {
+        return TurnRead { walk, count: 0 };
+    }
+    let count = count_over(to_usize(symbols[at]), plan.shape.exponent);
+    TurnRead { walk, count }
+}
+
+// How the reading of a varblock ended, and what the counts of channels 0, 1, 2 come to over its blocks; 0 where it was
+// stopped.
+pub struct VarblockRead {
+    pub walk: Walk,
+    pub counts: [u32; 3],
+}
+
+// The three channels in turn, of what fits. `lists` is where the order's list of channel 0 lies.
+fn read_turns<'a>(
+    lists: Stretch,
+    plan: Plan,
+    group: Group,
+    clusters: usize,
+    preset_map: &'a [u8],
+    store: &'a [u16],
+    symbols: &'a [u32],
+    at: usize,
+    shift: u32,
+    rows: &'a [[u32; 32]; 3],
+    log: &mut [u8],
+    g0: &mut [u32],
+    g1: &mut [u32],
+    g2: &mut [u32],
+) -> VarblockRead
+    requires { ⌜ (lists ≡ stretchAt (length (now store)) (plan .order) 0) × Planned plan group clusters (now «preset_map») (now store) shift × (at + 192 * 2 ^ (plan .shape .exponent) ≤ length (now log)) ⌝ }
+    ensures { λ r. ⌜ ((left : ℕ) → VarblockShown plan (now (symbols .entry)) (at + 192 * 2 ^ (plan .shape .exponent)) (r .walk) (r .counts) (now (rows .entry)) (now (log .exit)) (now (g0 .exit) ∷ now (g1 .exit) ∷ now (g2 .exit) ∷ []) (read shift clusters (now («preset_map» .entry)) (itemsBy plan group (now (store .entry))) (going (drop at (now (symbols .entry))) at (now (log .entry)) (now (g0 .entry) ∷ now (g1 .entry) ∷ now (g2 .entry) ∷ []) (three (now (rows .entry))) left))) ⌝ }
+{
+    let mut counts = [0u32; 3];
+    let mut at = at;
+    let mut n = 0;
+    while n < 3 {
+        let turn = read_turn(
+            n,
+            lists,
+            plan,
+            group,
+            clusters,
+            preset_map,
+            store,
+            symbols,
+            at,
+            shift,
+            rows,
+            log,
+            g0,
+            g1,
+            g2,
+        );
+        let walk = turn.walk;
+        if is_stopped(walk) {
+            return VarblockRead {
+                walk,
+                counts: [0; 3],
+            };
+        }
+        let c = channel_walked(n);
+        counts[c] = turn.count;
+        at = symbols_read(walk);
+        n += 1;
+    }
+    VarblockRead {
+        walk: Walk::Ended(at),
+        counts,
+    }
+}
+
+// What is lent for a varblock fits: lengths and limits, with `list` the numbers in each list of its order.
+fn varblock_fits(
+    plan: Plan,
+    group: Group,
+    clusters: usize,
+    preset_map: usize,
+    list: usize,
+    at: usize,
+    shift: u32,
+    log: usize,
+) -> bool
+    ensures { λ r. ⌜ r ≡ varblockFits plan group clusters «preset_map» list at shift log ⌝ }
+{
+    if 32 <= plan.shape.x {
+        return false;
+    }
+    if 32 <= plan.shape.y {
+        return false;
+    }
+    if 10 < plan.shape.exponent {
+        return false;
+    }
+    if 32 < group.bw {
+        return false;
+    }
+    if clusters <= plan.contexts[0] {
+        return false;
+    }
+    if clusters <= plan.contexts[1] {
+        return false;
+    }
+    if clusters <= plan.contexts[2] {
+        return false;
+    }
+    if 16 < clusters {
+        return false;
+    }
+    if 3 < shift {
+        return false;
+    }
+    if preset_map != 495 * clusters {
+        return false;
+    }
+    if list != 128 << plan.shape.exponent {
+        return false;
+    }
+    if log < at {
+        return false;
+    }
+    if log - at < 192 << plan.shape.exponent {
+        return false;
+    }
+    1 <= plan.shape.wide
+}
+
+// The three channels of a varblock, 1, 0, 2 in turn: refused where what is lent does not fit. No channel looks at another's
+// row, so the rows are lent for reading alone: whoever holds them rewrites them by the counts. `preset_map` is the preset's
+// part of the cluster map, `at` the symbols read.
+pub fn read_varblock<'a>(
+    plan: Plan,
+    group: Group,
+    clusters: usize,
+    preset_map: &'a [u8],
+    store: &'a [u16],
+    symbols: &'a [u32],
+    at: usize,
+    shift: u32,
+    rows: &'a [[u32; 32]; 3],
+    log: &mut [u8],
+    g0: &mut [u32],
+    g1: &mut [u32],
+    g2: &mut [u32],
+) -> VarblockRead
+    ensures { λ r. ⌜ ((left : ℕ) → VarblockShown plan (now (symbols .entry)) (at + 192 * 2 ^ (plan .shape .exponent)) (r .walk) (r .counts) (now (rows .entry)) (now (log .exit)) (now (g0 .exit) ∷ now (g1 .exit) ∷ now (g2 .exit) ∷ []) (varblockRead plan group clusters (now («preset_map» .entry)) (now (store .entry)) (now (rows .entry)) (now (symbols .entry)) at shift (now (log .entry)) (now (g0 .entry) ∷ now (g1 .entry) ∷ now (g2 .entry) ∷ []) left)) ⌝ }
+{
+    let lists = stretch_of(store.len(), plan.order, 0);
+    if !varblock_fits(
+        plan,
+        group,
+        clusters,
+        preset_map.len(),
+        lists.count,
+        at,
+        shift,
+        log.len(),
+    ) {
+        return VarblockRead {
+            walk: Walk::Stopped(Refusal::Length),
+            counts: [0; 3],
+        };
+    }
+    read_turns(
+        lists,
+        plan,
+        group,
+        clusters,
+        preset_map,
+        store,
+        symbols,
+        at,
+        shift,
+        rows,
+        log,
+        g0,
+        g1,
+        g2,
+    )
+}

@@ -1,0 +1,91 @@
+-- Runs of zeros within the walk, and counts for which no context is too large.
+use mathlib.Core.Path.{_≡_, refl, sym, _∙_}
+use mathlib.Core.List.{List}
+use Prim.Native.Nat.{ℕ, zero, suc, _+_, _*_, _-_, _/_, _%_, _^_, _<_, _≤_}
+use native.Mathlib.Omega.{arith}
+use native.Mathlib.Nat.{div-lt-iff-lt-mul}
+use lib.Pow.{pow-pos}
+use lib.Dec.{leb, leb→le}
+use lib.ListN.{length, getD, set, take, drop, length-set, length-drop}
+use lib.Seq.{set-getD, getD-drop}
+use Rattle.laws.specs.laws.Lists.{tail-all}
+use Rattle.laws.specs.laws.Tables.{at-each, each-at}
+use Rattle.coded_numbers.specs.Signed.{unpackSigned}
+use Rattle.coeff_walk.specs.Walk.{walk, coeffContext, FREQ, NUM-NONZERO, gain}
+use Rattle.coeff_walk.specs.laws.Outcome.{walk-zero, below-63}
+
+-- the largest entries: of the table by counts below 32 for each block, and of the table by places
+entry-most : (k : ℕ) → k < 32 → getD NUM-NONZERO k 0 ≤ 180
+unfolding NUM-NONZERO
+entry-most k h = leb→le (getD NUM-NONZERO k 0) 180 (each-at (λ (n : ℕ). leb (getD NUM-NONZERO n 0) 180) 32 0 tt k (omega arith) (omega arith))
+
+freq-most : (k : ℕ) → k < 63 → getD FREQ k 0 ≤ 30
+unfolding FREQ
+freq-most k h = leb→le (getD FREQ k 0) 30 (at-each (λ (n : ℕ). leb n 30) FREQ tt 0 k h)
+
+pub entry-at : (exponent n : ℕ) → n < 32 * 2 ^ exponent → getD NUM-NONZERO (n / 2 ^ exponent) 0 ≤ 180
+entry-at exponent n h = entry-most (n / 2 ^ exponent) (div-lt-iff-lt-mul {k = 2 ^ exponent} {x = n} {y = 32} (pow-pos exponent) .1 h)
+
+pub freq-at : (exponent i : ℕ) → i < 63 * 2 ^ exponent → getD FREQ (i / 2 ^ exponent) 0 ≤ 30
+freq-at exponent i h = freq-most (i / 2 ^ exponent) (below-63 exponent i h)
+
+pub context-fits : (exponent n i prev : ℕ) → n < 32 * 2 ^ exponent → i < 63 * 2 ^ exponent → prev ≤ 1 → coeffContext (2 ^ exponent) n i prev < 458
+unfolding coeffContext
+context-fits exponent n i prev h g f = omega (arith, entry-at exponent n h, freq-at exponent i g)
+
+-- the clusters of coefficients from the entry of a count on of which `left` are left
+abbrev pub entriesFor : ℕ → List ℕ → ℕ → List ℕ
+entriesFor exponent part left = drop (2 * getD NUM-NONZERO ((left - 1) / 2 ^ exponent) 0) part
+
+-- the same as they are lent
+module _ (exponent : ℕ) (part : List ℕ) (left x : ℕ) (e : x ≡ 2 * getD NUM-NONZERO ((left - 1) / 2 ^ exponent) 0) where
+  pub entries-lent : take (length part - x) (drop x part) ≡ entriesFor exponent part left
+  entries-lent = tail-all part x ∙ rw e
+
+  pub entries-room : left - 1 < 32 * 2 ^ exponent → length part ≡ 458 → 60 < length (take (length part - x) (drop x part))
+  entries-room h l = rw (tail-all part x, length-drop x part) (omega (arith, entry-at exponent (left - 1) h))
+
+-- what a run of zeros below place `stop` requires
+pub record ZerosReady (exponent symbols start from stop entries log : ℕ) : Type 0 where
+  pub small : exponent ≤ 10
+  pub begins : from ≤ stop
+  pub places : stop ≤ 63 * 2 ^ exponent
+  pub lent : start + stop ≤ symbols
+  pub room : start + stop ≤ log
+  pub enough : 60 < entries
+
+-- places from `from` to below r are zeros and logged: the walk is the same from r on
+pub record Zeros (exponent : ℕ) (entries symbols : List ℕ) (start from stop : ℕ) (log₀ : List ℕ) (r : ℕ) (log : List ℕ) : Type 0 where
+  pub lower : from ≤ r
+  pub upper : r ≤ stop
+  pub long : length log ≡ length log₀
+  pub passed : (shift : ℕ) (part places : List ℕ) (left : ℕ) (g : List ℕ) → 0 < left → left ≤ 32 * 2 ^ exponent → entries ≡ entriesFor exponent part left → stop ≤ length places
+      → walk shift (2 ^ exponent) part (drop r places) r 0 left (drop (start + r) symbols) (start + r) log g
+      ≡ walk shift (2 ^ exponent) part (drop from places) from 0 left (drop (start + from) symbols) (start + from) log₀ g
+
+module _ (exponent : ℕ) (entries symbols : List ℕ) (start from stop : ℕ) (log₀ : List ℕ) where
+  pub zeros-start : from ≤ stop → Zeros exponent entries symbols start from stop log₀ from log₀
+  zeros-start h = record { lower = omega arith; upper = h; long = refl; passed = λ shift part places left g l m e s. refl }
+
+  pub zeros-turn : (k : ℕ) (log : List ℕ) → k < stop → stop ≤ 63 * 2 ^ exponent → start + stop ≤ length symbols → getD symbols (start + k) 0 ≡ 0
+      → Zeros exponent entries symbols start from stop log₀ k log
+      → Zeros exponent entries symbols start from stop log₀ (k + 1) (set log (start + k) (getD entries (getD FREQ (k / 2 ^ exponent) 0 * 2) 0))
+  zeros-turn k log h b n u z =
+      record {
+        lower = omega (arith, z .lower);
+        upper = omega arith;
+        long = length-set log (start + k) (getD entries (getD FREQ (k / 2 ^ exponent) 0 * 2) 0) ∙ z .long;
+        passed = λ shift part places left g l m e s.
+            let x : ℕ = getD NUM-NONZERO ((left - 1) / 2 ^ exponent) 0 in
+            let y : ℕ = getD FREQ (k / 2 ^ exponent) 0 in
+            let c : coeffContext (2 ^ exponent) (left - 1) k 0 ≡ 2 * x + y * 2 = unfold coeffContext in omega arith in
+            let d : getD entries (y * 2) 0 ≡ getD part (coeffContext (2 ^ exponent) (left - 1) k 0) 0 = rw (e, c) (getD-drop (2 * x) part (y * 2) 0) in
+            let a : start + (k + 1) ≡ start + k + 1 = omega arith in
+            rw (d, a) (sym (walk-zero shift (2 ^ exponent) part places symbols k 0 left (start + k) log g (omega arith) l (context-fits exponent (left - 1) k 0 (omega arith) (omega arith) (omega arith)) (omega arith) u) ∙ z .passed shift part places left g l m e s);
+      }
+
+-- a sum in the cell, also for a symbol 0
+pub gain-sum : (shift : ℕ) (g : List ℕ) (p u v : ℕ) → v ≡ (getD g p 0 + unpackSigned u * 2 ^ shift % 2 ^ 32) % 2 ^ 32 → (unpackSigned u * 2 ^ shift % 2 ^ 32 ≡ 0 → v ≡ getD g p 0)
+    → set g p v ≡ gain shift g p u
+gain-sum shift g p zero v e z = let n : unpackSigned 0 * 2 ^ shift % 2 ^ 32 ≡ 0 = unfold unpackSigned in omega arith in rw (z n) (set-getD g p 0)
+gain-sum shift g p (suc u) v e z = rw e

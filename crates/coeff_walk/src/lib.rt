@@ -1,0 +1,14 @@
+// One channel of a varblock: what its reading means (`hf_coeff.rs`), and how it ended. The reading's code is in
+// `coeff_varblock`.
+use refusal::Refusal;
+
+pub mod place;
+pub mod shape;
+pub mod walked;
+
+// How a reading ended.
+pub enum Walk {
+    // Symbols read so far.
+    Ended(usize),
+    Stopped(Refusal),
+}

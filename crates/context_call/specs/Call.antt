@@ -1,0 +1,92 @@
+-- The context call (document 01, Block contexts and Refused).
+use mathlib.Core.Bool.{cond}
+use mathlib.Core.List.{List, [], _∷_, _++_}
+use Prim.Native.Nat.{ℕ, _*_}
+use lib.Dec.{eqb, leb}
+use lib.ListN.{length}
+use Rattle.refusal.specs.declared.Refusal.the-variants.{BitsEnd}
+use Rattle.refusal.specs.declared.Said.{Said}
+use Rattle.refusal.specs.Said.{said}
+use Rattle.refusal.specs.Answer.{Answer, gives, refuses, unless, passed, answeredBy}
+use Rattle.bits.specs.Bits.{Read, Value, Ended, readBits}
+use Rattle.context_record.specs.declared.HfBlockContext.{HfBlockContext}
+use Rattle.context_record.specs.Record.{bsizeOf}
+use Rattle.bytes_below.specs.Below.{bytesBelow}
+use Rattle.context_call.specs.declared.ContextAnswer.{ContextAnswer}
+use Rattle.context_call.specs.declared.ContextAnswer.the-variants.{Accepted, Refused}
+use Rattle.context_call.specs.declared.ContextResult.{ContextResult}
+use Rattle.context_thresholds.specs.Thresholds.{Lists, listsOf, readLists, pad}
+
+abbrev pub lengthsOf : Lists → List ℕ
+lengthsOf l = length (l .lf0) ∷ length (l .lf1) ∷ length (l .lf2) ∷ length (l .qf) ∷ []
+
+abbrev pub recordOf : ℕ → List ℕ → List ℕ → List ℕ → List ℕ → HfBlockContext
+recordOf count lengths lf qf map =
+    record {
+      «num_block_clusters» = count;
+      lengths = lengths;
+      «lf_thresholds» = lf;
+      «qf_thresholds» = qf;
+      «block_ctx_map» = map;
+    }
+
+-- the record of a count, lists and a map
+unfoldable pub contextsOf : ℕ → Lists → List ℕ → HfBlockContext
+contextsOf count l map =
+    recordOf count (lengthsOf l) (pad 15 (l .lf0) ++ (pad 15 (l .lf1) ++ pad 15 (l .lf2))) (pad 15 (l .qf)) (pad 2496 map)
+
+abbrev pub noLists : Lists
+noLists = listsOf [] [] [] []
+
+-- the 39-entry map of `lf.rs`
+abbrev pub DEFAULT-MAP : List ℕ
+DEFAULT-MAP =
+    0 ∷ 1 ∷ 2 ∷ 2 ∷ 3 ∷ 3 ∷ 4 ∷ 5 ∷ 6 ∷ 6 ∷ 6 ∷ 6 ∷ 6 ∷ 7 ∷ 8 ∷ 9 ∷ 9 ∷ 10 ∷ 11 ∷ 12 ∷ 13 ∷ 14 ∷ 14 ∷ 14 ∷ 14 ∷ 14 ∷ 7 ∷ 8 ∷ 9 ∷ 9 ∷ 10 ∷ 11 ∷ 12 ∷ 13 ∷ 14 ∷ 14 ∷ 14 ∷ 14 ∷ 14 ∷ []
+
+-- the bits read, or a refusal
+abbrev pub answered : ContextAnswer → Answer ℕ
+answered (Accepted at) = gives at
+answered (Refused why) = refuses (said why)
+
+-- the answer, and the record handed back
+pub record Outcome : Type 0 where
+  pub answer : Answer ℕ
+  pub contexts : HfBlockContext
+
+-- what the code hands back
+abbrev pub handed : ContextResult → Outcome
+handed r = record { answer = answered (r .answer); contexts = r .contexts }
+
+abbrev pub accepted : ℕ → HfBlockContext → Outcome
+accepted at contexts = record { answer = gives at; contexts = contexts }
+
+-- all zero beside a refusal
+abbrev pub refused : Said → Outcome
+refused s = record { answer = refuses s; contexts = contextsOf 0 noLists [] }
+
+-- all bits are read: bsize (12), map length (1), count (12), map bytes (12)
+unfoldable pub judged : ℕ → List ℕ → List ℕ → Answer Unit
+judged count map lengths =
+    unless 12 (leb (bsizeOf lengths) 64)
+    (unless 1 (eqb (length map) (39 * bsizeOf lengths))
+    (unless 12 (leb 1 count)
+    (unless 12 (leb count 16)
+    (unless 12 (bytesBelow count map) passed))))
+
+abbrev pub judgedAs : ℕ → List ℕ → List ℕ → HfBlockContext → ℕ → Outcome
+judgedAs count map lengths contexts at = answeredBy (judged count map lengths) refused (λ (u : Unit). accepted at contexts)
+
+abbrev pub judgedLists : ℕ → List ℕ → Lists → ℕ → Outcome
+judgedLists count map l at = judgedAs count map (lengthsOf l) (contextsOf count l map) at
+
+abbrev pub orEnded : {A : Type 0} → Read A → (A → ℕ → Outcome) → Outcome
+orEnded (Value l at) k = k l at
+orEnded (Ended at) k = refused (said (BitsEnd at))
+
+-- first bit 1: 15 clusters, the 39-entry map, no thresholds
+abbrev pub byFirst : List ℕ → ℕ → List ℕ → ℕ → ℕ → Outcome
+byFirst bytes count map first at =
+    cond (eqb first 1) (accepted at (contextsOf 15 noLists DEFAULT-MAP)) (orEnded (readLists bytes at) (judgedLists count map))
+
+unfoldable pub parsed : List ℕ → ℕ → List ℕ → Outcome
+parsed bytes count map = orEnded (readBits bytes 0 1) (byFirst bytes count map)

@@ -1,0 +1,67 @@
+-- Block contexts (document 01, Block contexts and Coefficients; `HfBlockContext` of `lf.rs`, `write_hf_coeff` of `hf_coeff.rs`).
+use mathlib.Core.Bool.{Bool, cond}
+use mathlib.Core.List.{List, [], _∷_}
+use Prim.Native.Nat.{ℕ, _+_, _*_, _%_, _^_}
+use lib.Dec.{ltb}
+use lib.ListN.{length, getD}
+use Rattle.context_record.specs.Record.{bsizeOf}
+
+-- Signed 32-bit numbers are given as their bit patterns.
+pub record Contexts : Type 0 where
+  -- thresholds of the LF numbers of channels 0, 1 and 2
+  pub lf0 : List ℕ
+  pub lf1 : List ℕ
+  pub lf2 : List ℕ
+  -- thresholds of hf_mul
+  pub qf : List ℕ
+  -- block context of each index
+  pub map : List ℕ
+
+-- the product of the three (length + 1), the number of LF indices
+unfoldable pub sizeOf : List ℕ → List ℕ → List ℕ → ℕ
+sizeOf t0 t1 t2 = (length t0 + 1) * (length t1 + 1) * (length t2 + 1)
+
+abbrev pub lfSize : Contexts → ℕ
+lfSize C = sizeOf (C .lf0) (C .lf1) (C .lf2)
+
+-- bsize of these lists
+abbrev pub bsize : Contexts → ℕ
+bsize C = bsizeOf (length (C .lf0) ∷ length (C .lf1) ∷ length (C .lf2) ∷ length (C .qf) ∷ [])
+
+-- a > b as signed numbers (Bounds, greater-signed)
+abbrev pub greater : ℕ → ℕ → Bool
+greater a b = ltb ((b + 2 ^ 31) % 2 ^ 32) ((a + 2 ^ 31) % 2 ^ 32)
+
+-- how many thresholds q is greater than
+unfoldable pub above : List ℕ → ℕ → ℕ
+above [] q = 0
+above (t ∷ ts) q = cond (greater q t) 1 0 + above ts q
+
+-- of hf_mul
+abbrev pub qfIndex : Contexts → ℕ → ℕ
+qfIndex C mul = above (C .qf) mul
+
+-- LF numbers q0, q1, q2 against lists t0, t1, t2: channels in the order 0, 2, 1
+unfoldable pub lfIndexIn : List ℕ → List ℕ → List ℕ → ℕ → ℕ → ℕ → ℕ
+lfIndexIn t0 t1 t2 q0 q1 q2 = (above t0 q0 * (length t2 + 1) + above t2 q2) * (length t1 + 1) + above t1 q1
+
+abbrev pub lfIndex : Contexts → ℕ → ℕ → ℕ → ℕ
+lfIndex C = lfIndexIn (C .lf0) (C .lf1) (C .lf2)
+
+-- 0 where there are no LF grids
+abbrev pub lfIndexOf : Contexts → Bool → ℕ → ℕ → ℕ → ℕ
+lfIndexOf C there q0 q1 q2 = cond there (lfIndex C q0 q1 q2) 0
+
+-- place in the map: n-th channel walked (from 0), order, qf index of so many, LF index of so many
+unfoldable pub placeOf : ℕ → ℕ → ℕ → ℕ → ℕ → ℕ → ℕ
+placeOf qfs lfs n order qf lf = ((n * 13 + order) * qfs + qf) * lfs + lf
+
+abbrev pub contextIndex : Contexts → ℕ → ℕ → ℕ → ℕ → ℕ
+contextIndex C = placeOf (length (C .qf) + 1) (lfSize C)
+
+abbrev pub contextAt : Contexts → ℕ → ℕ → ℕ → ℕ → ℕ
+contextAt C n order qf lf = getD (C .map) (contextIndex C n order qf lf) 0
+
+-- of the n-th channel walked, in a varblock of an order with hf_mul mul and LF numbers q0, q1, q2, if there are any
+abbrev pub blockContext : Contexts → ℕ → ℕ → ℕ → Bool → ℕ → ℕ → ℕ → ℕ
+blockContext C n order mul there q0 q1 q2 = contextAt C n order (qfIndex C mul) (lfIndexOf C there q0 q1 q2)

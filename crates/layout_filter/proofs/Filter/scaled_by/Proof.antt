@@ -1,0 +1,19 @@
+use Rattle.layout_filter.specs.Strength.{scaledBy}
+use borrow.Author.Needs.{needs}
+use Rattle.layout_filter.proofs.Filter.scaled_by.Statement.{statement}
+use Rattle.layout_filter.proofs.Filter.scaled_by.Tie as tie
+
+enum-told : tie.Need-enum-told
+enum-told c = search needs
+
+returns : tie.Need-returns
+unfolding scaledBy
+returns c = rw (c .enum-told .given .1)
+
+returns-2 : tie.Need-returns-2
+unfolding scaledBy
+returns-2 c = rw (c .before .before .self .given .1, c .scaled-multiplier .ensures)
+
+pub scaled-by-spec : {M : Type 1} → statement M
+scaled-by-spec =
+    tie.close (tie.spec enum-told (λ c. search needs) (λ c κs. search needs) returns returns-2)

@@ -1,0 +1,41 @@
+use mathlib.Core.Path.{_≡_, _∙_, ap, sym}
+use Prim.Native.Nat.{ℕ, _+_}
+use borrow.Author.Tests.{eq-eqb, ne-eqb}
+use lib.Dec.{ltb}
+use native.Mathlib.Omega.{arith}
+use borrow.Author.Needs.{needs}
+use Rattle.lent_check.specs.laws.Flaws.{flagOf}
+use Rattle.lent_check.specs.laws.TwoSteps.{oneBlock, gapOf}
+use Rattle.lent_check.proofs.rows.gap.Statement.{statement}
+use Rattle.lent_check.proofs.rows.gap.Tie as tie
+
+within-requires : tie.Need-within-requires
+within-requires c κs = search needs
+
+within-requires-2 : tie.Need-within-requires-2
+within-requires-2 c κs = search needs
+
+add-one : tie.Need-add-one
+add-one c = search needs
+
+below-requires : tie.Need-below-requires
+below-requires c κs = search needs
+
+returns : tie.Need-returns
+unfolding gapOf oneBlock
+returns c =
+    let a = c .before .before .before .before .args in
+    (rw (eq-eqb (flagOf (ltb (a .y) (a .u))) (oneBlock (a .kind)) (omega (arith, c .before .below .ensures, c .before .before .before .within .ensures .0, c .before .before .within2 .ensures .0, c .if1 .taken))), omega arith)
+
+returns-2 : tie.Need-returns-2
+unfolding gapOf oneBlock
+returns-2 c =
+    let a = c .before .before .before .before .args in
+    let l = c .if1 .left in
+    let w = c .before .before .before .within .ensures .0 in
+    let v = c .before .before .within2 .ensures .0 in
+    let b = c .before .below .ensures in
+    (rw (ne-eqb (flagOf (ltb (a .y) (a .u))) (oneBlock (a .kind)) (λ e. omega arith)), omega arith)
+
+pub gap-spec : {M : Type 1} → statement M
+gap-spec = tie.close (tie.spec within-requires within-requires-2 add-one below-requires returns returns-2)

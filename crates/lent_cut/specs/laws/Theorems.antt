@@ -1,0 +1,68 @@
+-- What the cut promises (document 01, Layout, "Added by us").
+use mathlib.Core.Path.{_≡_, refl, ap, sym, _∙_}
+use mathlib.Core.Bool.{Bool, true, false}
+use mathlib.Core.List.{List}
+use Prim.Native.Nat.{ℕ}
+use native.Mathlib.Omega.{arith}
+use lib.ListN.{length}
+use Rattle.refusal.specs.declared.Said.{Said}
+use Rattle.layout.specs.Valid.{Layout}
+use Rattle.layout.specs.Check.{isLayout}
+use Rattle.layout.specs.Cut.{hasGroup, groupBw, groupBh, cut}
+use Rattle.layout.specs.laws.CutLaws.{cut-layout, starts-x, starts-y}
+use Rattle.layout.specs.laws.Theorems.{layout-iff}
+use Rattle.lent_check.specs.declared.Group.{Group}
+use Rattle.refusal.specs.Answer.{Answer, gives, refuses, unless}
+use Rattle.lent_check.specs.Calls.{checkOf}
+use Rattle.lent_sides.specs.Limits.{inLimits, lengthsFit}
+use Rattle.lent_sides.specs.laws.Limits.{lengths-fit}
+use Rattle.lent_cut.specs.Calls.{group, Outcome, outcome, cutCheck, cutBy, cutOf}
+use Rattle.lent_check.specs.laws.Theorems.{checks}
+use Rattle.lent_cut.specs.laws.CutSteps.{Passed, passed, cut-done, cut-refused}
+
+-- a refusal's number, 0 for a result
+abbrev numberOf : Answer Group → ℕ
+numberOf (gives g) = 0
+numberOf (refuses s) = s .number
+
+-- The cut.
+module _ (bw bh : ℕ) (kinds hfMul : List ℕ) (g : ℕ) (outKinds outHfMul : List ℕ) where
+  -- a layout is never refused with 18, at whatever position
+  pub cut-not-18 : Layout bw bh kinds hfMul → (why : Said) → (cutOf bw bh kinds hfMul g outKinds outHfMul) .answer ≡ refuses why → why .number ≡ 18 → ⊥
+  unfolding cutOf cutCheck
+  cut-not-18 ok why e n = go (inLimits 256 bw bh) (hasGroup bw bh g) (lengthsFit bw bh (length kinds) (length hfMul)) (lengthsFit (groupBw bw g) (groupBh bw bh g) (length outKinds) (length outHfMul)) (isLayout bw bh kinds hfMul)
+      (layout-iff bw bh kinds hfMul (ok .kindsLength) (ok .hfMulLength) .1 ok) (ap numberOf e ∙ n)
+    where
+      go : (p q r s t : Bool) → t ≡ true
+          → numberOf ((cutBy (unless 2 p (unless 2 q (unless 1 r (unless 1 s (unless 18 t (gives tt)))))) (outcome (gives (group (groupBw bw g) (groupBh bw bh g))) (cut bw bh g kinds) (cut bw bh g hfMul)) outKinds outHfMul) .answer) ≡ 18 → ⊥
+      go false q r s t f z = let y : _≡_ {A = ℕ} 2 18 = z in omega arith
+      go true false r s t f z = let y : _≡_ {A = ℕ} 2 18 = z in omega arith
+      go true true false s t f z = let y : _≡_ {A = ℕ} 1 18 = z in omega arith
+      go true true true false t f z = let y : _≡_ {A = ℕ} 1 18 = z in omega arith
+      go true true true true true f z = let y : _≡_ {A = ℕ} 0 18 = z in omega arith
+      go true true true true false f z = let y : _≡_ {A = ℕ} 0 1 = cc in omega arith
+
+  -- what an accepted cut wrote is a group that the check passes
+  pub cut-checks : (r : Group) → (cutOf bw bh kinds hfMul g outKinds outHfMul) .answer ≡ gives r
+      → checkOf 32 (r .bw) (r .bh) ((cutOf bw bh kinds hfMul g outKinds outHfMul) .kinds) ((cutOf bw bh kinds hfMul g outKinds outHfMul) .hfMul) ≡ gives tt
+  cut-checks r e = go (cutCheck bw bh kinds hfMul g (length outKinds) (length outHfMul)) refl
+    where
+      O : Outcome
+      O = cutOf bw bh kinds hfMul g outKinds outHfMul
+
+      written : Passed bw bh kinds hfMul g (length outKinds) (length outHfMul) → checkOf 32 (groupBw bw g) (groupBh bw bh g) (cut bw bh g kinds) (cut bw bh g hfMul) ≡ gives tt
+      written p =
+          let l = lengths-fit bw bh (length kinds) (length hfMul) (p .lent) in
+          let ok = layout-iff bw bh kinds hfMul (l .0) (l .1) .0 (p .layout) in
+          let x = starts-x bw bh g (p .index) in
+          let y = starts-y bw bh g (p .index) in
+          checks 32 (groupBw bw g) (groupBh bw bh g) (cut bw bh g kinds) (cut bw bh g hfMul)
+          (record { bwFrom = omega arith; bwTo = omega arith; bhFrom = omega arith; bhTo = omega arith }) (cut-layout bw bh g kinds hfMul ok)
+
+      go : (a : Answer Unit) → cutCheck bw bh kinds hfMul g (length outKinds) (length outHfMul) ≡ a → checkOf 32 (r .bw) (r .bh) (O .kinds) (O .hfMul) ≡ gives tt
+      go (refuses s) c = absurd (let d : refuses s ≡ gives r = ap (λ (o : Outcome). o .answer) (sym (cut-refused bw bh kinds hfMul g outKinds outHfMul s c)) ∙ e in let z : _≡_ {A = ℕ} 0 1 = cc in omega arith)
+      go (gives t) c =
+          let d = cut-done bw bh kinds hfMul g outKinds outHfMul c in
+          let q : gives (group (groupBw bw g) (groupBh bw bh g)) ≡ gives r = ap (λ (o : Outcome). o .answer) (sym d) ∙ e in
+          let k : group (groupBw bw g) (groupBh bw bh g) ≡ r = cc in
+          rw (← k, d) (written (passed bw bh kinds hfMul g (length outKinds) (length outHfMul) c))

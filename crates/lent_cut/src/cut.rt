@@ -1,0 +1,187 @@
+// The cut of a lent layout into pass groups, counted row by row from 0.
+use lent_check::Group;
+use lent_check::check::is_layout;
+use lent_sides::limits::in_limits;
+use lent_sides::limits::lengths_fit;
+use refusal::Checked;
+use refusal::Refusal;
+ghost use mathlib.Core.Path.{_≡_};
+ghost use mathlib.Core.Bool.{true};
+ghost use Prim.Native.Nat.{_+_, _*_, _≤_, _<_};
+ghost use lib.ListN.{length};
+ghost use Rattle.layout.specs.Grid.{at, gridOf};
+ghost use Rattle.layout.specs.Cut.{groups, groupX, groupY, hasGroup, side, groupBw, groupBh};
+ghost use Rattle.refusal.specs.laws.Answer.{checked};
+ghost use Rattle.lent_sides.specs.Limits.{inLimits};
+ghost use Rattle.lent_cut.specs.Calls.{saidCut, group, outcome, cutCheck, cutOf};
+
+// What the cut answers: the sides of the group.
+pub enum CutAnswer {
+    Accepted(Group),
+    Refused(Refusal),
+}
+
+// Groups along a side of n blocks.
+fn groups_along(n: usize) -> usize
+    requires { ⌜ n ≤ 256 ⌝ }
+    ensures { λ r. ⌜ r ≡ groups n ⌝ }
+{
+    (n + 31) / 32
+}
+
+// The layout has a group of this index.
+fn has_group(bw: usize, bh: usize, index: usize) -> bool
+    requires { ⌜ (bw ≤ 256) × (bh ≤ 256) ⌝ }
+    ensures { λ r. ⌜ r ≡ hasGroup bw bh index ⌝ }
+{
+    let down = groups_along(bh);
+    let across = groups_along(bw);
+    index < down * across
+}
+
+// Column of a group among the groups.
+fn group_x(bw: usize, index: usize) -> usize
+    requires { ⌜ (1 ≤ bw) × (bw ≤ 256) ⌝ }
+    ensures { λ r. ⌜ r ≡ groupX bw index ⌝ }
+{
+    let across = groups_along(bw);
+    index % across
+}
+
+// Row of a group among the groups.
+fn group_y(bw: usize, index: usize) -> usize
+    requires { ⌜ (1 ≤ bw) × (bw ≤ 256) ⌝ }
+    ensures { λ r. ⌜ r ≡ groupY bw index ⌝ }
+{
+    let across = groups_along(bw);
+    index / across
+}
+
+// Blocks of the q-th group along a side of n blocks.
+fn blocks_along(n: usize, q: usize) -> usize
+    requires { ⌜ (32 * q ≤ n) × (n ≤ 256) ⌝ }
+    ensures { λ r. ⌜ r ≡ side n q ⌝ }
+{
+    let left = n - 32 * q;
+    if left < 32 {
+        return left;
+    }
+    32
+}
+
+// The sides of a group that the layout has.
+fn sides_of(bw: usize, bh: usize, index: usize) -> Group
+    requires { ⌜ (inLimits 256 bw bh ≡ true) × (hasGroup bw bh index ≡ true) ⌝ }
+    ensures { λ r. ⌜ r ≡ group (groupBw bw index) (groupBh bw bh index) ⌝ }
+{
+    let gx = group_x(bw, index);
+    let gy = group_y(bw, index);
+    let wide = blocks_along(bw, gx);
+    let high = blocks_along(bh, gy);
+    Group { bw: wide, bh: high }
+}
+
+// What comes before the cut: sides and index (2), lengths (1), 18.
+fn cut_check(
+    bw: usize,
+    bh: usize,
+    kinds: &[u8],
+    hf_mul: &[u32],
+    index: usize,
+    out_kinds: usize,
+    out_hf_mul: usize,
+) -> Checked
+    ensures { λ r. ⌜ checked r ≡ cutCheck bw bh (now (kinds .entry)) (now («hf_mul» .entry)) index «out_kinds» «out_hf_mul» ⌝ }
+{
+    if !in_limits(256, bw, bh) {
+        return Checked::Refused(Refusal::Size);
+    }
+    if !has_group(bw, bh, index) {
+        return Checked::Refused(Refusal::Size);
+    }
+    if !lengths_fit(bw, bh, kinds.len(), hf_mul.len()) {
+        return Checked::Refused(Refusal::Length);
+    }
+    let group = sides_of(bw, bh, index);
+    if !lengths_fit(group.bw, group.bh, out_kinds, out_hf_mul) {
+        return Checked::Refused(Refusal::Length);
+    }
+    if !is_layout(bw, bh, kinds, hf_mul) {
+        return Checked::Refused(Refusal::Layout);
+    }
+    Checked::Fine
+}
+
+// The wide x high cells from (left, top) on are copied.
+fn copy_cells(
+    bw: usize,
+    kinds: &[u8],
+    hf_mul: &[u32],
+    left: usize,
+    top: usize,
+    wide: usize,
+    high: usize,
+    out_kinds: &mut [u8],
+    out_hf_mul: &mut [u32],
+)
+    requires { ⌜ (left + wide ≤ bw) × (top + high ≤ 256) × ((top + high) * bw ≤ length (now kinds)) × (length (now «hf_mul») ≡ length (now kinds)) × (length (now «out_kinds») ≡ high * wide) × (length (now «out_hf_mul») ≡ high * wide) ⌝ }
+    ensures { λ r. ⌜ (now («out_kinds» .exit) ≡ gridOf (λ x y. at (now (kinds .entry)) bw (left + x) (top + y)) wide high) × (now («out_hf_mul» .exit) ≡ gridOf (λ x y. at (now («hf_mul» .entry)) bw (left + x) (top + y)) wide high) ⌝ }
+{
+    let mut y = 0;
+    while y < high {
+        let mut x = 0;
+        while x < wide {
+            let i = (top + y) * bw + (left + x);
+            let j = y * wide + x;
+            out_kinds[j] = kinds[i];
+            out_hf_mul[j] = hf_mul[i];
+            x += 1;
+        }
+        y += 1;
+    }
+}
+
+// Group `index` of a lent layout: its sides, its kinds and hf_mul into buffers of exactly its cells. A refusal writes nothing.
+pub fn cut(
+    bw: usize,
+    bh: usize,
+    kinds: &[u8],
+    hf_mul: &[u32],
+    index: usize,
+    out_kinds: &mut [u8],
+    out_hf_mul: &mut [u32],
+) -> CutAnswer
+    ensures { λ r. ⌜ outcome (saidCut r) (now («out_kinds» .exit)) (now («out_hf_mul» .exit)) ≡ cutOf bw bh (now (kinds .entry)) (now («hf_mul» .entry)) index (now («out_kinds» .entry)) (now («out_hf_mul» .entry)) ⌝ }
+{
+    let checked = cut_check(
+        bw,
+        bh,
+        kinds,
+        hf_mul,
+        index,
+        out_kinds.len(),
+        out_hf_mul.len(),
+    );
+    match checked {
+        Checked::Refused(r) => CutAnswer::Refused(r),
+        Checked::Fine => {
+            let gx = group_x(bw, index);
+            let gy = group_y(bw, index);
+            let group = sides_of(bw, bh, index);
+            let wide = group.bw;
+            let high = group.bh;
+            copy_cells(
+                bw,
+                kinds,
+                hf_mul,
+                32 * gx,
+                32 * gy,
+                wide,
+                high,
+                out_kinds,
+                out_hf_mul,
+            );
+            CutAnswer::Accepted(group)
+        }
+    }
+}

@@ -1,0 +1,111 @@
+-- The ends of the likeness test, and its loop.
+use mathlib.Core.Path.{_≡_, ap, _∙_}
+use mathlib.Core.Bool.{Bool, true, false, _&&_}
+use mathlib.Core.Logic.{_⊎_, inl, inr}
+use mathlib.Core.List.{List}
+use Prim.Native.Nat.{ℕ, _+_, _-_, _*_, _≤_, _<_}
+use native.Mathlib.Omega.{arith}
+use lib.Dec.{ltb, leb, eqb}
+use lib.ListN.{length, getD}
+use borrow.Author.Tests.{lt-ltb, le-ltb, le-leb, lt-leb, eq-eqb, ne-eqb}
+use Rattle.laws.specs.laws.Cases.{le-or-lt}
+use Rattle.refusal.specs.Said.{at}
+use Rattle.layout.specs.Kinds.{wideOf, highOf}
+use Rattle.layout.specs.laws.WalkSteps.{left-suc}
+use Rattle.layout.specs.Like.{Lent, bySort, alikeCorners, alikeCell, alikeFrom, alike}
+use Rattle.refusal.specs.Answer.{gives, refuses}
+use Rattle.lent_likeness.specs.Calls.{sided, filled, holdsLayout, likeOf}
+
+module _ (k m k′ m′ : ℕ) where
+  pub cell-plain : k < 2 → alikeCell k m k′ m′ ≡ ltb k′ 2
+  unfolding alikeCell
+  cell-plain h = go (le-or-lt 2 k′)
+    where
+      go : (2 ≤ k′) ⊎ (k′ < 2) → bySort (leb 2 k) (leb 2 k′) (alikeCorners k m k′ m′) ≡ ltb k′ 2
+      go (inl l) = rw (lt-leb 2 k h, le-leb 2 k′ l, le-ltb k′ 2 l)
+      go (inr l) = rw (lt-leb 2 k h, lt-leb 2 k′ l, lt-ltb k′ 2 l)
+
+  module _ (h : 2 ≤ k) where
+    pub cell-odd : k′ < 2 → alikeCell k m k′ m′ ≡ false
+    unfolding alikeCell
+    cell-odd l = rw (le-leb 2 k h, lt-leb 2 k′ l)
+
+    module _ (l : 2 ≤ k′) where
+      pub cell-mul : (m ≡ m′ → ⊥) → alikeCell k m k′ m′ ≡ false
+      unfolding alikeCell alikeCorners
+      cell-mul n = rw (le-leb 2 k h, le-leb 2 k′ l, ne-eqb m m′ n)
+
+      pub cell-wide : m ≡ m′ → (wideOf k ≡ wideOf k′ → ⊥) → alikeCell k m k′ m′ ≡ false
+      unfolding alikeCell alikeCorners
+      cell-wide e n = rw (le-leb 2 k h, le-leb 2 k′ l, eq-eqb m m′ e, ne-eqb (wideOf k) (wideOf k′) n)
+
+      pub cell-high : m ≡ m′ → wideOf k ≡ wideOf k′ → alikeCell k m k′ m′ ≡ eqb (highOf k) (highOf k′)
+      unfolding alikeCell alikeCorners
+      cell-high e f = rw (le-leb 2 k h, le-leb 2 k′ l, eq-eqb m m′ e, eq-eqb (wideOf k) (wideOf k′) f)
+
+module _ (kinds hfMul kinds′ hfMul′ : List ℕ) where
+  abbrev pub left : ℕ → Bool
+  left i = alikeFrom kinds hfMul kinds′ hfMul′ (length kinds - i) i
+
+  pub like-start : alikeFrom kinds hfMul kinds′ hfMul′ (length kinds) 0 ≡ left 0
+  like-start = ap (λ (n : ℕ). alikeFrom kinds hfMul kinds′ hfMul′ n 0) (let e : length kinds ≡ length kinds - 0 = omega arith in e)
+
+  step : (i : ℕ) → i < length kinds → left i ≡ alikeCell (getD kinds i 0) (getD hfMul i 0) (getD kinds′ i 0) (getD hfMul′ i 0) && left (i + 1)
+  unfolding alikeFrom
+  step i h = ap (λ (n : ℕ). alikeFrom kinds hfMul kinds′ hfMul′ n i) (left-suc i (length kinds) h)
+
+  pub like-next : (i : ℕ) → i < length kinds → alikeCell (getD kinds i 0) (getD hfMul i 0) (getD kinds′ i 0) (getD hfMul′ i 0) ≡ true → left i ≡ left (i + 1)
+  like-next i h e = step i h ∙ ap (λ (b : Bool). b && left (i + 1)) e
+
+  pub like-stop : (i : ℕ) → i < length kinds → alikeCell (getD kinds i 0) (getD hfMul i 0) (getD kinds′ i 0) (getD hfMul′ i 0) ≡ false → left i ≡ false
+  like-stop i h e = step i h ∙ ap (λ (b : Bool). b && left (i + 1)) e
+
+  pub like-end : (i : ℕ) → length kinds ≤ i → left i ≡ true
+  unfolding alikeFrom
+  like-end i h = ap (λ (n : ℕ). alikeFrom kinds hfMul kinds′ hfMul′ n i) (let e : length kinds - i ≡ 0 = omega arith in e)
+
+module _ (L N : Lent) where
+  pub like-size : sided L ≡ false → likeOf L N ≡ refuses (at 2 0 0)
+  unfolding likeOf
+  like-size a = rw a
+
+  module _ (a : sided L ≡ true) where
+    pub like-size-2 : sided N ≡ false → likeOf L N ≡ refuses (at 2 0 0)
+    unfolding likeOf
+    like-size-2 b = rw (a, b)
+
+    module _ (b : sided N ≡ true) where
+      pub like-length : filled L ≡ false → likeOf L N ≡ refuses (at 1 0 0)
+      unfolding likeOf
+      like-length c = rw (a, b, c)
+
+      module _ (c : filled L ≡ true) where
+        pub like-length-2 : filled N ≡ false → likeOf L N ≡ refuses (at 1 0 0)
+        unfolding likeOf
+        like-length-2 d = rw (a, b, c, d)
+
+        module _ (d : filled N ≡ true) where
+          pub like-fault : holdsLayout L ≡ false → likeOf L N ≡ refuses (at 18 0 0)
+          unfolding likeOf
+          like-fault e = rw (a, b, c, d, e)
+
+          module _ (e : holdsLayout L ≡ true) where
+            pub like-fault-2 : holdsLayout N ≡ false → likeOf L N ≡ refuses (at 18 0 0)
+            unfolding likeOf
+            like-fault-2 f = rw (a, b, c, d, e, f)
+
+            pub like-says : holdsLayout N ≡ true → (r : Bool) → alike L N ≡ r → likeOf L N ≡ gives r
+            unfolding likeOf
+            like-says f r g = rw (a, b, c, d, e, f, g)
+
+  pub unlike-wide : (L .bw ≡ N .bw → ⊥) → alike L N ≡ false
+  unfolding alike
+  unlike-wide n = rw (ne-eqb (L .bw) (N .bw) n)
+
+  pub unlike-high : L .bw ≡ N .bw → (L .bh ≡ N .bh → ⊥) → alike L N ≡ false
+  unfolding alike
+  unlike-high e n = rw (eq-eqb (L .bw) (N .bw) e, ne-eqb (L .bh) (N .bh) n)
+
+  pub alike-cells : L .bw ≡ N .bw → L .bh ≡ N .bh → alike L N ≡ alikeFrom (L .kinds) (L .hfMul) (N .kinds) (N .hfMul) (L .bh * L .bw) 0
+  unfolding alike
+  alike-cells e f = rw (eq-eqb (L .bw) (N .bw) e, eq-eqb (L .bh) (N .bh) f)

@@ -1,0 +1,221 @@
+// The natural order of a block size (`hf_pass.rs`).
+use order_sizes::block_size;
+ghost use mathlib.Core.Path.{_≡_};
+ghost use Prim.Native.Nat.{ℕ, _+_, _-_, _*_, _/_, _≤_, _<_};
+ghost use lib.ListN.{length};
+ghost use lib.Seq.{sets};
+ghost use Rattle.order_natural.specs.Places.{flat};
+ghost use Rattle.order_natural.specs.Natural.{rows, diagonal, square, keep, natural};
+ghost use Rattle.order_natural.specs.Order.{Size};
+ghost use Rattle.order_natural.specs.laws.Filling.{roomFor, filled};
+ghost use Rattle.order_natural.specs.laws.Turns.{restOfRow};
+ghost use Rattle.order_natural.specs.laws.Slants.{multiples, ups, downs, near};
+
+// y / s; the constants spare a division for the ratios that the 13 sizes have.
+fn quotient(y: usize, s: usize) -> usize
+    requires { ⌜ 0 < s ⌝ }
+    ensures { λ r. ⌜ r ≡ y / s ⌝ }
+{
+    if s == 1 {
+        return y;
+    }
+    if s == 2 {
+        return y / 2;
+    }
+    if s == 4 {
+        return y / 4;
+    }
+    y / s
+}
+
+fn margin(dist: usize, b: usize) -> usize
+    ensures { λ r. ⌜ r ≡ dist - b ⌝ }
+{
+    if b < dist { dist - b } else { 0 }
+}
+
+// How many multiples of s are below u.
+fn multiples_below(u: usize, s: usize) -> usize
+    requires { ⌜ (0 < s) × (s ≤ 256) × (u < 512) ⌝ }
+    ensures { λ r. ⌜ r ≡ multiples s u ⌝ }
+{
+    quotient(u + (s - 1), s)
+}
+
+// x - s and x + s, where they are numbers; anything behind the last cell of a diagonal.
+fn less(x: u16, s: u16) -> u16
+    ensures { λ r. ⌜ (s ≤ x → r ≡ x - s) ⌝ }
+{
+    std::num::wrapping_sub_u16(x, s)
+}
+
+fn more(x: u16, s: u16) -> u16
+    ensures { λ r. ⌜ (x + s < 65536 → r ≡ x + s) ⌝ }
+{
+    std::num::wrapping_add_u16(x, s)
+}
+
+// Of the diagonal x + y = t the cells in n rows q * s, q upwards from `first`.
+fn put_up(list: &mut [u16], start: usize, t: u16, s: u16, first: u16, n: usize) -> usize
+    requires { ⌜ (start + 2 * n ≤ length (now list)) × (first + n ≤ 1024) × ((q : ℕ) → q < first + n → q * s ≤ t) ⌝ }
+    ensures { λ r. ⌜ (r ≡ start + 2 * n) × (now (list .exit) ≡ sets (now (list .entry)) start (flat (ups t s n first))) ⌝ }
+{
+    if n == 0 {
+        return start;
+    }
+    let mut at = start;
+    let mut q = first;
+    let mut x = t - q * s;
+    let mut j = 0;
+    while j < n {
+        list[at] = x;
+        list[at + 1] = q;
+        at += 2;
+        q += 1;
+        x = less(x, s);
+        j += 1;
+    }
+    at
+}
+
+// The same downwards from below `end`.
+fn put_down(list: &mut [u16], start: usize, t: u16, s: u16, end: u16, n: usize) -> usize
+    requires { ⌜ (start + 2 * n ≤ length (now list)) × (n ≤ end) × (end ≤ 1024) × ((q : ℕ) → q < end → q * s ≤ t) ⌝ }
+    ensures { λ r. ⌜ (r ≡ start + 2 * n) × (now (list .exit) ≡ sets (now (list .entry)) start (flat (downs t s n end))) ⌝ }
+{
+    if n == 0 {
+        return start;
+    }
+    let mut at = start;
+    let mut row = end - 1;
+    let mut x = t - row * s;
+    let mut j = 0;
+    while j < n {
+        list[at] = x;
+        list[at + 1] = row;
+        at += 2;
+        row = less(row, 1);
+        x = more(x, s);
+        j += 1;
+    }
+    at
+}
+
+// A diagonal that crosses the corner: the rows on both sides of it.
+fn put_near(list: &mut [u16], start: usize, w: usize, s: usize, dist: usize) -> usize
+    requires { ⌜ (0 < s) × (s ≤ 256) × (0 < dist) × (w ≤ dist) × (dist < 512) × (start + length (flat (near w s dist)) ≤ length (now list)) ⌝ }
+    ensures { λ r. ⌜ (r ≡ start + length (flat (near w s dist))) × (now (list .exit) ≡ sets (now (list .entry)) start (flat (near w s dist))) ⌝ }
+{
+    let rest = multiples_below(dist - w, s);
+    let lowest = multiples_below(w, s);
+    let highest = multiples_below(dist, s);
+    let t = (dist - 1) as u16;
+    let k = s as u16;
+    let n = highest - lowest;
+    if dist % 2 == 1 {
+        let at = put_down(&mut list[..], start, t, k, highest as u16, n);
+        return put_down(&mut list[..], at, t, k, rest as u16, rest);
+    }
+    let at = put_up(&mut list[..], start, t, k, 0, rest);
+    put_up(&mut list[..], at, t, k, lowest as u16, n)
+}
+
+// A diagonal that passes the corner: all its rows.
+fn put_far(list: &mut [u16], start: usize, w: usize, s: usize, b: usize, dist: usize) -> usize
+    requires { ⌜ (0 < s) × (s ≤ 256) × (2 * w ≤ dist) × (0 < dist) × (dist < 512) × (dist ≤ 2 * b) × (start + length (flat (keep w s (diagonal b dist))) ≤ length (now list)) ⌝ }
+    ensures { λ r. ⌜ (r ≡ start + length (flat (keep w s (diagonal b dist)))) × (now (list .exit) ≡ sets (now (list .entry)) start (flat (keep w s (diagonal b dist)))) ⌝ }
+{
+    let m = margin(dist, b);
+    let lowest = multiples_below(m, s);
+    let highest = multiples_below(dist - m, s);
+    let t = (dist - 1) as u16;
+    let n = highest - lowest;
+    if dist % 2 == 0 {
+        return put_up(&mut list[..], start, t, s as u16, lowest as u16, n);
+    }
+    put_down(&mut list[..], start, t, s as u16, highest as u16, n)
+}
+
+// A diagonal: in the corner there is nothing to write, and outside there is a place for each row divisible by s.
+fn put_diagonal(list: &mut [u16], start: usize, w: usize, s: usize, b: usize, dist: usize) -> usize
+    requires { ⌜ (0 < s) × (s ≤ 256) × (0 < w) × (2 * w ≤ b) × (b ≤ 256) × (0 < dist) × (dist < 512) × (dist ≤ 2 * b) × (start + length (flat (keep w s (diagonal b dist))) ≤ length (now list)) ⌝ }
+    ensures { λ r. ⌜ (r ≡ start + length (flat (keep w s (diagonal b dist)))) × (now (list .exit) ≡ sets (now (list .entry)) start (flat (keep w s (diagonal b dist)))) ⌝ }
+{
+    if dist <= w {
+        return start;
+    }
+    if dist < 2 * w {
+        return put_near(&mut list[..], start, w, s, dist);
+    }
+    put_far(&mut list[..], start, w, s, b, dist)
+}
+
+fn put_square(list: &mut [u16], start: usize, w: usize, s: usize, b: usize) -> usize
+    requires { ⌜ (0 < s) × (s ≤ 256) × (0 < w) × (2 * w ≤ b) × (b ≤ 256) × (start + length (flat (keep w s (square b))) ≤ length (now list)) ⌝ }
+    ensures { λ r. ⌜ (r ≡ start + length (flat (keep w s (square b)))) × (now (list .exit) ≡ sets (now (list .entry)) start (flat (keep w s (square b)))) ⌝ }
+{
+    let mut at = start;
+    let mut dist = 1;
+    let e = 2 * b;
+    while dist < e {
+        at = put_diagonal(&mut list[..], at, w, s, b, dist);
+        dist += 1;
+    }
+    at
+}
+
+fn put_row(list: &mut [u16], start: usize, w: usize, y: usize) -> usize
+    requires { ⌜ (w < 512) × (y < 512) × (start + length (restOfRow w y 0) ≤ length (now list)) ⌝ }
+    ensures { λ r. ⌜ (r ≡ start + length (restOfRow w y 0)) × (now (list .exit) ≡ sets (now (list .entry)) start (restOfRow w y 0)) ⌝ }
+{
+    let mut at = start;
+    let mut x = 0;
+    while x < w {
+        list[at] = x as u16;
+        list[at + 1] = y as u16;
+        at += 2;
+        x += 1;
+    }
+    at
+}
+
+fn put_corner(list: &mut [u16], start: usize, w: usize, h: usize) -> usize
+    requires { ⌜ (w < 512) × (h < 512) × (start + length (flat (rows w h)) ≤ length (now list)) ⌝ }
+    ensures { λ r. ⌜ (r ≡ start + length (flat (rows w h))) × (now (list .exit) ≡ sets (now (list .entry)) start (flat (rows w h))) ⌝ }
+{
+    let mut at = start;
+    let mut y = 0;
+    while y < h {
+        at = put_row(&mut list[..], at, w, y);
+        y += 1;
+    }
+    at
+}
+
+fn put_natural(list: &mut [u16], width: usize, height: usize)
+    requires { ⌜ (Size width height) × (width ≤ 256) × (length (now list) ≡ 2 * (width * height)) ⌝ }
+    ensures { λ r. ⌜ now (list .exit) ≡ flat (natural width height) ⌝ }
+{
+    let w = width / 8;
+    let h = height / 8;
+    let s = width / height;
+    let at = put_corner(&mut list[..], 0, w, h);
+    put_square(&mut list[..], at, w, s, width);
+}
+
+// The natural order of one of the 13 sizes; false, and nothing written, if there is no such order or the list is not as long.
+pub fn fill_natural_order(list: &mut [u16], order: usize) -> bool
+    ensures { λ r. ⌜ (r ≡ roomFor (now (list .entry)) order) × (now (list .exit) ≡ filled (now (list .entry)) order) ⌝ }
+{
+    if 13 <= order {
+        return false;
+    }
+    let size = block_size(order);
+    let width = size.wide;
+    let height = size.high;
+    if list.len() != 2 * (width * height) {
+        return false;
+    }
+    put_natural(&mut list[..], width, height);
+    true
+}

@@ -1,0 +1,66 @@
+-- The check of stored places, list by list.
+use mathlib.Core.Path.{_≡_, sym, _∙_}
+use mathlib.Core.Bool.{Bool, true, false, _&&_}
+use mathlib.Core.List.{List, _∷_}
+use Prim.Native.Nat.{ℕ, suc, _+_, _*_, _-_, _/_, _<_, _≤_}
+use native.Mathlib.Numerals.{add-one}
+use native.Mathlib.Omega.{arith}
+use lib.ListN.{length, getD, take, drop, drop-of-length-le}
+use lib.Seq.{drop-cons, drop-drop}
+use borrow.Author.Tests.{eq-eqb, ne-eqb}
+use Rattle.order_sizes.specs.declared.Sides.{Sides}
+use Rattle.order_sizes.specs.BlockSizes.{BLOCK-SIZES, widthOf, heightOf}
+use Rattle.order_sizes.specs.laws.BlockSizes.{blockSize}
+use Rattle.order_store.specs.Store.{PLACES, thrice, insideAll, listsFit, placesFit, from}
+use Rattle.order_store.specs.laws.Offsets.{from-step, from-start, from-most, lists-39, list-size, places-by}
+use Rattle.order_places.specs.laws.Powers.{Power, width-power, height-power}
+
+-- the lists from i on
+unfoldable pub fitFrom : List ℕ → ℕ → Bool
+fitFrom store i = listsFit (drop i (thrice BLOCK-SIZES)) (drop (from i) store)
+
+pub fit-start : (store : List ℕ) → length store ≡ 787968 → fitFrom store 0 ≡ placesFit store
+unfolding fitFrom placesFit
+fit-start store n = rw (from-start, eq-eqb (length store) (2 * PLACES) (n ∙ sym places-by))
+
+pub fit-length : (store : List ℕ) → (length store ≡ 787968 → ⊥) → false ≡ placesFit store
+unfolding placesFit
+fit-length store n = rw (ne-eqb (length store) (2 * PLACES) (λ e. n (e ∙ places-by)))
+
+pub fit-end : (store : List ℕ) (i : ℕ) → 39 ≤ i → fitFrom store i ≡ true
+unfolding fitFrom
+fit-end store i h = let k : length (thrice BLOCK-SIZES) ≤ i = omega (arith, lists-39) in rw (drop-of-length-le (thrice BLOCK-SIZES) k)
+
+-- list i, and those behind it
+pub fit-next : (store : List ℕ) (i : ℕ) → i < 39
+    → fitFrom store i ≡ (insideAll (widthOf (i / 3)) (heightOf (i / 3)) (take (2 * (widthOf (i / 3) * heightOf (i / 3))) (drop (from i) store)) && fitFrom store (i + 1))
+unfolding fitFrom widthOf heightOf
+fit-next store i h =
+    let m = 2 * (widthOf (i / 3) * heightOf (i / 3)) in
+    let p : drop i (thrice BLOCK-SIZES) ≡ getD BLOCK-SIZES (i / 3) (0, 0) ∷ drop (suc i) (thrice BLOCK-SIZES) = drop-cons (thrice BLOCK-SIZES) i (0, 0) (omega (arith, lists-39)) ∙ rw (list-size i h) in
+    let q : drop (from (i + 1)) store ≡ drop m (drop (from i) store) = rw (from-step i h) (sym (drop-drop m (from i) store)) in
+    rw (p, q, add-one i)
+
+module _ (store : List ℕ) (i : ℕ) (h : i < 39) (s : Sides) (e : s ≡ blockSize (i / 3)) (start : ℕ) (b : start ≡ from i) where
+  -- what the code knows of list i
+  pub record ListAt : Type 0 where
+    pub next : start + 2 * (s .wide * s .high) ≡ from (i + 1)
+    pub room : start + 2 * (s .wide * s .high) ≤ 787968
+    pub wide : Power (s .wide)
+    pub high : Power (s .high)
+
+  pub list-at : ListAt
+  list-at =
+      let n : start + 2 * (s .wide * s .high) ≡ from (i + 1) = rw (e, b) (sym (from-step i h)) in
+      record { next = n; room = omega (arith, from-most (i + 1) (omega arith)); wide = rw e (width-power (i / 3) (omega arith)); high = rw e (height-power (i / 3) (omega arith)) }
+
+  abbrev pub part : List ℕ
+  part = take (start + 2 * (s .wide * s .high) - start) (drop start store)
+
+  pub fit-turn : fitFrom store i ≡ (insideAll (s .wide) (s .high) part && fitFrom store (i + 1))
+  fit-turn =
+      let z : start + 2 * (s .wide * s .high) - start ≡ 2 * (s .wide * s .high) = omega arith in
+      rw (z, b, e) (fit-next store i h)
+
+  pub fit-stop : insideAll (s .wide) (s .high) part ≡ false → fitFrom store i ≡ false
+  fit-stop f = fit-turn ∙ rw f
