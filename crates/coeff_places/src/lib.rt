@@ -27,23 +27,25 @@ fn to_usize(b: bool) -> usize
 }
 
 // What is lent fits: lengths and limits.
-fn places_fit(
-    exponent: usize,
-    order: usize,
-    start: usize,
-    part: usize,
-    shift: u32,
-    log: usize,
-) -> bool
-    ensures { λ r. ⌜ r ≡ placesFit exponent order start part shift log ⌝ }
+fn places_fit(spot: Spot, order: usize, start: usize, part: usize, shift: u32, log: usize) -> bool
+    ensures { λ r. ⌜ r ≡ placesFit spot order start part shift log ⌝ }
 {
-    if 10 < exponent {
+    if 256 < spot.row {
+        return false;
+    }
+    if 256 < spot.x {
+        return false;
+    }
+    if 256 < spot.y {
+        return false;
+    }
+    if 10 < spot.exponent {
         return false;
     }
     if 3 < shift {
         return false;
     }
-    if 63 << exponent < order / 2 {
+    if 63 << spot.exponent < order / 2 {
         return false;
     }
     if part != 458 {
@@ -72,14 +74,7 @@ pub fn read_places(
 ) -> Walk
     ensures { λ r. ⌜ Handed r (now (log .exit)) (now (grid .exit)) (placesRead spot (now (order .entry)) (now (symbols .entry)) start count few (now (part .entry)) shift (now (log .entry)) (now (grid .entry))) ⌝ }
 {
-    if !places_fit(
-        spot.exponent,
-        order.len(),
-        start,
-        part.len(),
-        shift,
-        log.len(),
-    ) {
+    if !places_fit(spot, order.len(), start, part.len(), shift, log.len()) {
         return Walk::Stopped(Refusal::Length);
     }
     if 63 << spot.exponent < count {

@@ -13,18 +13,15 @@ fn to_usize(x: u16) -> usize
 
 // The cell of place k.
 pub(crate) fn cell(order: &[u16], k: usize, spot: Spot) -> usize
-    requires { ⌜ k < length (now order) / 2 ⌝ }
+    requires { ⌜ (k < length (now order) / 2) × (spot .row ≤ 256) × (spot .x ≤ 256) × (spot .y ≤ 256) ⌝ }
     ensures { λ r. ⌜ r ≡ getD (spotPlaces spot (now (order .entry))) k 0 ⌝ }
 {
     let i = 2 * k;
     let a = to_usize(order[i]);
     let j = i + 1;
     let b = to_usize(order[j]);
-    let x = to_usize(spot.x);
-    let y = to_usize(spot.y);
-    let row = to_usize(spot.row);
     if spot.turn {
-        return (y + a) * row + (x + b);
+        return (spot.y + a) * spot.row + (spot.x + b);
     }
-    (y + b) * row + (x + a)
+    (spot.y + b) * spot.row + (spot.x + a)
 }

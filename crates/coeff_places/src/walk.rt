@@ -32,7 +32,7 @@ fn sum(a: u32, b: u32) -> u32
 // The cell of place k gains what symbol u says, shifted, if the grid has that cell. A symbol 0 adds 0: there is no test of
 // it, so that a walk over many that are not 0 has nothing to guess.
 fn gain_at(order: &[u16], k: usize, spot: Spot, u: u32, shift: u32, grid: &mut [u32])
-    requires { ⌜ (k < length (now order) / 2) × (shift ≤ 3) ⌝ }
+    requires { ⌜ (k < length (now order) / 2) × (spot .row ≤ 256) × (spot .x ≤ 256) × (spot .y ≤ 256) × (shift ≤ 3) ⌝ }
     ensures { λ r. ⌜ now (grid .exit) ≡ gain shift (now (grid .entry)) (getD (spotPlaces spot (now (order .entry))) k 0) u ⌝ }
 {
     let p = cell(order, k, spot);

@@ -27,9 +27,9 @@ fn spot_of(v: Shape, width: usize) -> Spot
     ensures { λ r. ⌜ r ≡ spotOf v width ⌝ }
 {
     Spot {
-        row: (8 * width) as u16,
-        x: (8 * v.x) as u16,
-        y: (8 * v.y) as u16,
+        row: 8 * width,
+        x: 8 * v.x,
+        y: 8 * v.y,
         exponent: v.exponent,
         turn: v.turn,
     }

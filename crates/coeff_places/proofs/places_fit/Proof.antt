@@ -9,38 +9,50 @@ use Rattle.coeff_places.proofs.places_fit.Tie as tie
 
 returns : tie.Need-returns
 unfolding placesFit
-returns c = let a = c .before .args in rw (lt-leb (a .exponent) 10 (omega arith))
+returns c = let a = c .before .before .args in rw (lt-leb (a .spot .row) 256 (omega arith))
 
 returns-2 : tie.Need-returns-2
 unfolding placesFit
-returns-2 c = let a = c .before .before .args in rw (le-leb (a .exponent) 10 (omega arith), lt-leb (a .shift) 3 (omega arith))
-
-shl-if3 : tie.Need-shl-if3
-shl-if3 c = search needs
+returns-2 c = let a = c .before .before .before .before .args in rw (le-leb (a .spot .row) 256 (omega arith), lt-leb (a .spot .x) 256 (omega arith))
 
 returns-3 : tie.Need-returns-3
 unfolding placesFit
-returns-3 c =
-    let a = c .before .before .before .args in
-    rw (le-leb (a .exponent) 10 (omega arith), le-leb (a .shift) 3 (omega arith), lt-leb (a .order / 2) (63 * 2 ^ a .exponent) (omega (arith, shifted-left 63 (a .exponent) (omega arith) (omega arith))))
+returns-3 c = let a = c .before .before .before .before .before .before .args in rw (le-leb (a .spot .row) 256 (omega arith), le-leb (a .spot .x) 256 (omega arith), lt-leb (a .spot .y) 256 (omega arith))
 
 returns-4 : tie.Need-returns-4
 unfolding placesFit
-returns-4 c =
-    let a = c .before .before .before .before .args in
-    rw (le-leb (a .exponent) 10 (omega arith), le-leb (a .shift) 3 (omega arith), le-leb (a .order / 2) (63 * 2 ^ a .exponent) (omega (arith, shifted-left 63 (a .exponent) (omega arith) (omega arith))), ne-eqb (a .part) 458 (c .if4 .taken))
+returns-4 c = let a = c .before .before .before .before .before .before .before .before .args in rw (le-leb (a .spot .row) 256 (omega arith), le-leb (a .spot .x) 256 (omega arith), le-leb (a .spot .y) 256 (omega arith), lt-leb (a .spot .exponent) 10 (omega arith))
 
 returns-5 : tie.Need-returns-5
 unfolding placesFit
-returns-5 c =
-    let a = c .before .before .before .before .before .args in
-    rw (le-leb (a .exponent) 10 (omega arith), le-leb (a .shift) 3 (omega arith), le-leb (a .order / 2) (63 * 2 ^ a .exponent) (omega (arith, shifted-left 63 (a .exponent) (omega arith) (omega arith))), eq-eqb (a .part) 458 (omega arith), lt-leb (a .start) (a .log) (omega arith))
+returns-5 c = let a = c .before .before .before .before .before .before .before .before .before .args in rw (le-leb (a .spot .row) 256 (omega arith), le-leb (a .spot .x) 256 (omega arith), le-leb (a .spot .y) 256 (omega arith), le-leb (a .spot .exponent) 10 (omega arith), lt-leb (a .shift) 3 (omega arith))
+
+shl-if6 : tie.Need-shl-if6
+shl-if6 c = search needs
 
 returns-6 : tie.Need-returns-6
 unfolding placesFit
 returns-6 c =
-    let a = c .before .before .before .before .before .args in
-    rw (le-leb (a .exponent) 10 (omega arith), le-leb (a .shift) 3 (omega arith), le-leb (a .order / 2) (63 * 2 ^ a .exponent) (omega (arith, shifted-left 63 (a .exponent) (omega arith) (omega arith))), eq-eqb (a .part) 458 (omega arith), le-leb (a .start) (a .log) (omega arith))
+    let a = c .before .before .before .before .before .before .before .before .before .before .before .args in
+    rw (le-leb (a .spot .row) 256 (omega arith), le-leb (a .spot .x) 256 (omega arith), le-leb (a .spot .y) 256 (omega arith), le-leb (a .spot .exponent) 10 (omega arith), le-leb (a .shift) 3 (omega arith), lt-leb (a .order / 2) (63 * 2 ^ (a .spot .exponent)) (omega (arith, shifted-left 63 (a .spot .exponent) (omega arith) (omega arith))))
+
+returns-7 : tie.Need-returns-7
+unfolding placesFit
+returns-7 c =
+    let a = c .before .before .before .before .before .before .before .before .before .before .before .before .args in
+    rw (le-leb (a .spot .row) 256 (omega arith), le-leb (a .spot .x) 256 (omega arith), le-leb (a .spot .y) 256 (omega arith), le-leb (a .spot .exponent) 10 (omega arith), le-leb (a .shift) 3 (omega arith), le-leb (a .order / 2) (63 * 2 ^ (a .spot .exponent)) (omega (arith, shifted-left 63 (a .spot .exponent) (omega arith) (omega arith))), ne-eqb (a .part) 458 (c .if7 .taken))
+
+returns-8 : tie.Need-returns-8
+unfolding placesFit
+returns-8 c =
+    let a = c .before .before .before .before .before .before .before .before .before .before .before .before .before .args in
+    rw (le-leb (a .spot .row) 256 (omega arith), le-leb (a .spot .x) 256 (omega arith), le-leb (a .spot .y) 256 (omega arith), le-leb (a .spot .exponent) 10 (omega arith), le-leb (a .shift) 3 (omega arith), le-leb (a .order / 2) (63 * 2 ^ (a .spot .exponent)) (omega (arith, shifted-left 63 (a .spot .exponent) (omega arith) (omega arith))), eq-eqb (a .part) 458 (omega arith), lt-leb (a .start) (a .log) (omega arith))
+
+returns-9 : tie.Need-returns-9
+unfolding placesFit
+returns-9 c =
+    let a = c .before .before .before .before .before .before .before .before .before .before .before .before .before .args in
+    rw (le-leb (a .spot .row) 256 (omega arith), le-leb (a .spot .x) 256 (omega arith), le-leb (a .spot .y) 256 (omega arith), le-leb (a .spot .exponent) 10 (omega arith), le-leb (a .shift) 3 (omega arith), le-leb (a .order / 2) (63 * 2 ^ (a .spot .exponent)) (omega (arith, shifted-left 63 (a .spot .exponent) (omega arith) (omega arith))), eq-eqb (a .part) 458 (omega arith), le-leb (a .start) (a .log) (omega arith))
 
 pub places-fit-spec : {M : Type 1} → statement M
 places-fit-spec =
@@ -48,8 +60,11 @@ places-fit-spec =
     (tie.spec
     returns
     returns-2
-    shl-if3
     returns-3
     returns-4
     returns-5
-    returns-6)
+    shl-if6
+    returns-6
+    returns-7
+    returns-8
+    returns-9)

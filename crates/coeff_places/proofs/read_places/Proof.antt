@@ -12,7 +12,7 @@ use Rattle.coeff_places.proofs.read_places.Statement.{statement}
 use Rattle.coeff_places.proofs.read_places.Tie as tie
 
 -- What is lent fits.
-fitting : (c : tie.Else1) → placesFit (c .before .before .before .before .before .before .before .args .spot .exponent) (length (c .before .before .before .before .before .before .before .args .order .now)) (c .before .before .before .before .before .before .before .args .start) (length (c .before .before .before .before .before .before .before .args .part .now)) (c .before .before .before .before .before .before .before .args .shift) (length (c .before .before .before .before .before .before .before .args .log .now)) ≡ true
+fitting : (c : tie.Else1) → placesFit (c .before .before .before .before .before .before .before .args .spot) (length (c .before .before .before .before .before .before .before .args .order .now)) (c .before .before .before .before .before .before .before .args .start) (length (c .before .before .before .before .before .before .before .args .part .now)) (c .before .before .before .before .before .before .before .args .shift) (length (c .before .before .before .before .before .before .before .args .log .now)) ≡ true
 fitting c = sym (c .before .places-fit .ensures) ∙ not-false (c .before .places-fit .result) (c .if1 .left)
 
 small : (c : tie.Else1) → c .before .before .before .before .before .before .before .args .spot .exponent ≤ 10

@@ -112,13 +112,17 @@ module _ (v : Shape) (width context clusters : ℕ) (presetMap order row symbols
         let z : end - begin ≡ 458 = omega arith in
         rw z (length-take-le 458 (drop begin presetMap) (rw (length-drop begin presetMap) (omega (arith, part-entry context clusters (ready .cluster)))))
 
-    rest-fits : placesFit (v .exponent) (length rest) next (length part) shift (length log) ≡ true
+    rest-fits : placesFit (spotOf v width) (length rest) next (length part) shift (length log) ≡ true
     unfolding placesFit
     rest-fits =
         let o = rest-length in
         let p = ready .room in
         let q = pow-pos (v .exponent) in
+        let x = ready .left in let y = ready .top in let w = ready .across in
         rw (
+          le-leb (8 * width) 256 (omega arith),
+          le-leb (8 * v .x) 256 (omega arith),
+          le-leb (8 * v .y) 256 (omega arith),
           le-leb (v .exponent) 10 (ready .exponent),
           le-leb shift 3 (ready .shifts),
           le-leb (length rest / 2) (63 * 2 ^ (v .exponent)) (omega arith),

@@ -49,6 +49,9 @@ spotPlaces spot order = placesOf (spot .turn) (spot .row) (spot .x) (spot .y) (p
 
 -- what the walk over an order's places requires
 pub record Ready (spot : Spot) (order : List ℕ) (start count first part shift log : ℕ) : Type 0 where
+  pub row : spot .row ≤ 256
+  pub left : spot .x ≤ 256
+  pub top : spot .y ≤ 256
   pub exponent : spot .exponent ≤ 10
   pub counted : count ≤ 63 * 2 ^ (spot .exponent)
   pub flagged : first ≤ 1

@@ -32,5 +32,5 @@ module _ (row x y : ℕ) (l : List ℕ) (k : ℕ) (h : k < length l / 2) where
   pub place-straight : getD (placesOf false row x y (paired l)) k 0 ≡ (y + getD l (2 * k + 1) 0) * row + (x + getD l (2 * k) 0)
   place-straight = let g : k < length (paired l) = omega (arith, length-paired l) in place-at false row x y (paired l) k g ∙ rw (pair-at l k g)
 
-pub cell-fits : (y a row x b : ℕ) → y ≤ 65535 → a ≤ 65535 → row ≤ 65535 → x ≤ 65535 → b ≤ 65535 → (y + a) * row ≤ 8589672450
-cell-fits y a row x b h₁ h₂ h₃ h₄ h₅ = mul-le-mul {n₁ = y + a} {m₁ = row} {n₂ = 131070} {m₂ = 65535} (omega arith) h₃
+pub cell-fits : (y a row x b : ℕ) → y ≤ 256 → a ≤ 65535 → row ≤ 256 → x ≤ 256 → b ≤ 65535 → (y + a) * row ≤ 16842496
+cell-fits y a row x b h₁ h₂ h₃ h₄ h₅ = mul-le-mul {n₁ = y + a} {m₁ = row} {n₂ = 65791} {m₂ = 256} (omega arith) h₃

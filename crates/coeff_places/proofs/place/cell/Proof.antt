@@ -29,52 +29,55 @@ shared-slice-read-to-usize-2 c = search needs
 to-usize-requires-2 : tie.Need-to-usize-requires-2
 to-usize-requires-2 c κs = search needs
 
-to-usize-requires-3 : tie.Need-to-usize-requires-3
-to-usize-requires-3 c κs = search needs
-
-to-usize-requires-4 : tie.Need-to-usize-requires-4
-to-usize-requires-4 c κs = search needs
-
-to-usize-requires-5 : tie.Need-to-usize-requires-5
-to-usize-requires-5 c κs = search needs
-
 add-result : tie.Need-add-result
-add-result c = omega (arith, c .before .before .before .before .before .before .to-usize .ensures .1, c .before .before .to-usize4 .ensures .1)
+add-result c = search needs
 
 mul-result : tie.Need-mul-result
 mul-result c =
-    omega (arith, cell-fits (c .before .before .to-usize4 .result) (c .before .before .before .before .before .before .to-usize .result) (c .before .to-usize5 .result) (c .before .before .before .to-usize3 .result) (c .before .before .before .before .to-usize2 .result) (c .before .before .to-usize4 .ensures .1) (c .before .before .before .before .before .before .to-usize .ensures .1) (c .before .to-usize5 .ensures .1) (c .before .before .before .to-usize3 .ensures .1) (c .before .before .before .before .to-usize2 .ensures .1))
+    let a = c .before .before .before .before .before .before .before .before .args in
+    let v = c .before .before .before .before .before .to-usize in
+    let w = c .before .before .before .to-usize2 in
+    omega (arith, cell-fits (a .spot .y) (v .result) (a .spot .row) (a .spot .x) (w .result) (omega arith) (v .ensures .1) (omega arith) (omega arith) (w .ensures .1))
 
 add-result-2 : tie.Need-add-result-2
-add-result-2 c = omega (arith, c .before .before .before .to-usize3 .ensures .1, c .before .before .before .before .to-usize2 .ensures .1)
+add-result-2 c = search needs
 
 add-result-3 : tie.Need-add-result-3
 add-result-3 c =
-    omega (arith, c .before .before .before .to-usize3 .ensures .1, c .before .before .before .before .to-usize2 .ensures .1, cell-fits (c .before .before .to-usize4 .result) (c .before .before .before .before .before .before .to-usize .result) (c .before .to-usize5 .result) (c .before .before .before .to-usize3 .result) (c .before .before .before .before .to-usize2 .result) (c .before .before .to-usize4 .ensures .1) (c .before .before .before .before .before .before .to-usize .ensures .1) (c .before .to-usize5 .ensures .1) (c .before .before .before .to-usize3 .ensures .1) (c .before .before .before .before .to-usize2 .ensures .1))
+    let a = c .before .before .before .before .before .before .before .before .before .args in
+    let v = c .before .before .before .before .before .before .to-usize in
+    let w = c .before .before .before .before .to-usize2 in
+    omega (arith, cell-fits (a .spot .y) (v .result) (a .spot .row) (a .spot .x) (w .result) (omega arith) (v .ensures .1) (omega arith) (omega arith) (w .ensures .1))
 
 returns : tie.Need-returns
 returns c =
     let a = c .before .before .before .before .before .before .before .before .before .args in
-    rw (c .if1 .taken, c .before .before .before .before .before .before .to-usize .ensures .0, c .before .before .before .before .to-usize2 .ensures .0, c .before .before .before .to-usize3 .ensures .0, c .before .before .to-usize4 .ensures .0, c .before .to-usize5 .ensures .0) (sym (place-turned (a .spot .row) (a .spot .x) (a .spot .y) (a .order .now) (a .k) (omega arith)))
+    rw (c .before .before .before .if1 .taken, c .before .before .before .before .before .before .to-usize .ensures .0, c .before .before .before .before .to-usize2 .ensures .0) (sym (place-turned (a .spot .row) (a .spot .x) (a .spot .y) (a .order .now) (a .k) (omega arith)))
 
 add-result-4 : tie.Need-add-result-4
-add-result-4 c = omega (arith, c .before .before .before .before .to-usize2 .ensures .1, c .before .before .to-usize4 .ensures .1)
+add-result-4 c = search needs
 
 mul-result-2 : tie.Need-mul-result-2
 mul-result-2 c =
-    omega (arith, cell-fits (c .before .before .to-usize4 .result) (c .before .before .before .before .to-usize2 .result) (c .before .to-usize5 .result) (c .before .before .before .to-usize3 .result) (c .before .before .before .before .before .before .to-usize .result) (c .before .before .to-usize4 .ensures .1) (c .before .before .before .before .to-usize2 .ensures .1) (c .before .to-usize5 .ensures .1) (c .before .before .before .to-usize3 .ensures .1) (c .before .before .before .before .before .before .to-usize .ensures .1))
+    let a = c .before .before .before .before .before .before .before .before .args in
+    let v = c .before .before .before .before .before .to-usize in
+    let w = c .before .before .before .to-usize2 in
+    omega (arith, cell-fits (a .spot .y) (w .result) (a .spot .row) (a .spot .x) (v .result) (omega arith) (w .ensures .1) (omega arith) (omega arith) (v .ensures .1))
 
 add-result-5 : tie.Need-add-result-5
-add-result-5 c = omega (arith, c .before .before .before .before .before .before .to-usize .ensures .1, c .before .before .before .to-usize3 .ensures .1)
+add-result-5 c = search needs
 
 add-result-6 : tie.Need-add-result-6
 add-result-6 c =
-    omega (arith, c .before .before .before .before .before .before .to-usize .ensures .1, c .before .before .before .to-usize3 .ensures .1, cell-fits (c .before .before .to-usize4 .result) (c .before .before .before .before .to-usize2 .result) (c .before .to-usize5 .result) (c .before .before .before .to-usize3 .result) (c .before .before .before .before .before .before .to-usize .result) (c .before .before .to-usize4 .ensures .1) (c .before .before .before .before .to-usize2 .ensures .1) (c .before .to-usize5 .ensures .1) (c .before .before .before .to-usize3 .ensures .1) (c .before .before .before .before .before .before .to-usize .ensures .1))
+    let a = c .before .before .before .before .before .before .before .before .before .args in
+    let v = c .before .before .before .before .before .before .to-usize in
+    let w = c .before .before .before .before .to-usize2 in
+    omega (arith, cell-fits (a .spot .y) (w .result) (a .spot .row) (a .spot .x) (v .result) (omega arith) (w .ensures .1) (omega arith) (omega arith) (v .ensures .1))
 
 returns-2 : tie.Need-returns-2
 returns-2 c =
     let a = c .before .before .before .before .before .before .before .before .before .args in
-    rw (c .if1 .left, c .before .before .before .before .before .before .to-usize .ensures .0, c .before .before .before .before .to-usize2 .ensures .0, c .before .before .before .to-usize3 .ensures .0, c .before .before .to-usize4 .ensures .0, c .before .to-usize5 .ensures .0) (sym (place-straight (a .spot .row) (a .spot .x) (a .spot .y) (a .order .now) (a .k) (omega arith)))
+    rw (c .before .before .before .if1 .left, c .before .before .before .before .before .before .to-usize .ensures .0, c .before .before .before .before .to-usize2 .ensures .0) (sym (place-straight (a .spot .row) (a .spot .x) (a .spot .y) (a .order .now) (a .k) (omega arith)))
 
 pub cell-spec : {M : Type 1} → statement M
 cell-spec =
@@ -88,9 +91,6 @@ cell-spec =
     mul-to-usize-2
     shared-slice-read-to-usize-2
     to-usize-requires-2
-    to-usize-requires-3
-    to-usize-requires-4
-    to-usize-requires-5
     add-result
     mul-result
     add-result-2

@@ -84,7 +84,7 @@ slice-write-log c = search needs
 gain-at-requires : tie.Need-gain-at-requires Inv-loop μ-loop
 gain-at-requires c κs =
     let r = c .before .before .before .before .before .before .before .before .before .before .before .before .before .before .pre .2 in
-    (omega arith, r .shifts)
+    (omega arith, r .row, r .left, r .top, r .shifts)
 
 flag-of-requires : tie.Need-flag-of-requires Inv-loop μ-loop
 flag-of-requires c κs = search needs

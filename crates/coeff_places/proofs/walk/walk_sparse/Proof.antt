@@ -158,7 +158,7 @@ loop-again c =
 gain-at-requires : tie.Need-gain-at-requires Inv-loop μ-loop
 gain-at-requires c κs =
     let r = c .before .before .before .before .before .before .before .before .before .before .before .before .before .before .before .pre .2 in
-    (omega arith, r .shifts)
+    (omega arith, r .row, r .left, r .top, r .shifts)
 
 sub-left : tie.Need-sub-left Inv-loop μ-loop
 sub-left c = search needs
