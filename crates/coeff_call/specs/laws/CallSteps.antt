@@ -28,7 +28,7 @@ use Rattle.coeff_call.specs.declared.CoeffAnswer.the-variants.{Accepted,
 use Rattle.coeff_preset.specs.declared.PresetAnswer.{PresetAnswer}
 use Rattle.coeff_preset.specs.declared.PresetAnswer.the-variants as preset
 use Rattle.coeff_preset.specs.Preset.{presetOf}
-use Rattle.coeff_preset.specs.Preset as number
+use Rattle.coeff_preset.specs.laws.PresetLaws as number
 use Rattle.coeff_checks.specs.laws.ChecksLaws.{sides-fit, parameters-fit, few-clusters}
 use Rattle.coeff_call.specs.Call.{Lent, beforeWork, Passed, reading, outcome, answered, leaves, refuse, readPreset, call}
 use Rattle.coeff_call.specs.laws.CallLaws.{checks-pass, passed-by, lengths-fit, call-refused}
