@@ -8,7 +8,7 @@
 #   make install-library, make install-programs
 #   make clean          removes what was built, and keeps the proofs
 #
-# The version stands in include/netbuff.h alone.
+# The version is that of include/netbuff.h; .ci/library holds the manual pages and Cargo.toml to it.
 
 PREFIX ?= /usr/local
 BINDIR ?= $(PREFIX)/bin

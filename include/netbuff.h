@@ -41,9 +41,8 @@
  * run at the same time, if none writes what another one uses. No call allocates, locks, does input
  * or output or sets errno. Of the C library memcpy and memset are used.
  *
- * STACK. A call needs less than 16 KiB of stack (NETBUFF_STACK_BYTES). Measured: 11 KiB for
- * netbuff_coefficients, 3 KiB for netbuff_cut and netbuff_alike, 1.3 KiB for netbuff_block_context,
- * less than 1 KiB for each other call.
+ * STACK. A call needs less than 16 KiB of stack (NETBUFF_STACK_BYTES). Measured: 13 KiB for
+ * netbuff_coefficients, less than 2 KiB for each other call (tests/c/stack.c).
  *
  * PLATFORMS. The library is machine code for Linux on x86-64 (System V calling convention, no
  * instructions beyond SSE2), position independent.

@@ -143,13 +143,13 @@ struct netbuff_contexts {
 
 /* ---- Orders: netbuff_orders, netbuff_order, netbuff_places_fit ---- */
 
-/* A store of the 39 orders of a pass. */
+/* A store of the 39 lists of a pass: 13 orders, three channels each. */
 struct netbuff_order_store {
     uint16_t *data;
     size_t length; /* NETBUFF_STORE_LENGTH */
 };
 
-/* One order of a store: x and y of each place. Null and 0 where there is no such order. */
+/* One list of a store: x and y of each place. Null and 0 where there is no such list. */
 struct netbuff_order_list {
     const uint16_t *data;
     size_t places; /* half as many as numbers */

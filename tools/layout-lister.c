@@ -15,10 +15,6 @@
 #include <string.h>
 #include <unistd.h>
 
-#ifndef NETBUFF_VERSION
-#define NETBUFF_VERSION "0.1.0"
-#endif
-
 enum { LISTED = 0, NOT_LISTED = 1, FAILED = 2 };
 
 static const char help[] =

@@ -22,7 +22,7 @@
 //! | kind | of a block: 0 free, 1 occupied, 2 + transform number at a corner |
 //! | channel | 0, 1, 2: X, Y, B of an XYB frame, Cb, Y, Cr of a YCbCr frame; coefficients of channel 1 are read first, then 0, then 2 |
 //! | cell | a place of a grid of coefficients; a group of bw × bh blocks has rows of 8 × bw cells |
-//! | order | one of 13 lists of places that say where the coefficients of a varblock go |
+//! | order | one of 13, each with a list of places for each channel that says where the coefficients of a varblock go |
 //! | cluster | the number of a distribution; the log of a reading holds that of each symbol |
 //!
 //! # The path of a scan

@@ -95,7 +95,7 @@ withPreset L bits = answeredBy (presetOf (L .presets) bits) (refuse L) (λ prese
 unfoldable pub call : Lent → Outcome
 call L = answeredBy (beforeWork L) (refuse L) (λ u. withPreset L (readPreset L))
 
--- counts that were not used up, in all
+-- counts that were not used up, in all, of a call that comes to its work
 abbrev pub leftoverAt : Lent → Read ℕ → ℕ
 leftoverAt L (Ended at) = 0
 leftoverAt L (Value preset at) = leftOf (reading L preset)

@@ -1,5 +1,5 @@
 // One channel of a varblock: what its reading means (`hf_coeff.rs`), and how it ended. The reading's code is in
-// `coeff_varblock`.
+// `coeff_places` and `coeff_varblock`.
 use refusal::Refusal;
 
 pub mod place;

@@ -1,4 +1,4 @@
--- Document 01's marked examples of the layout call, by computation: M4 to M6, and the examples of refusals 4 to 10.
+-- What the layout call's marked examples are lent: M4 to M6, and the examples of refusals 4 to 10.
 use mathlib.Core.List.{List, [], _∷_}
 use Prim.Native.Nat.{ℕ, _*_}
 use lib.ListN.{replicate}

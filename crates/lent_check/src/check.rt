@@ -43,7 +43,7 @@ fn cells_fit(bw: usize, bh: usize, kinds: &[u8], hf_mul: &[u32]) -> bool
     true
 }
 
-// Sides of 1 to 256, and the cells are a layout of that size.
+// Sides of 1 to 256, lengths of as many cells, and the cells are a layout.
 pub fn is_layout(bw: usize, bh: usize, kinds: &[u8], hf_mul: &[u32]) -> bool
     ensures { λ r. ⌜ r ≡ isLentLayout bw bh (now (kinds .entry)) (now («hf_mul» .entry)) ⌝ }
 {

@@ -141,7 +141,7 @@ fn copy_cells(
     }
 }
 
-// Group `index` of a lent layout: its sides, its kinds and hf_mul into buffers of exactly its cells. A refusal writes nothing.
+// Group `index` of a lent layout: its sides, its kinds and hf_mul into buffers of exactly its blocks. A refusal writes nothing.
 pub fn cut(
     bw: usize,
     bh: usize,

@@ -1,4 +1,4 @@
--- M9 to M11, from the coefficient call's definition.
+-- What M9 to M11 are lent.
 use mathlib.Core.Path.{_≡_}
 use mathlib.Core.List.{List, [], _∷_}
 use Prim.Native.Nat.{ℕ, _+_, _*_, _%_, _^_, _-_, _≤_}

@@ -1,5 +1,5 @@
--- The premises of demand 3 met together with all that they speak of, as the calls themselves hand it on: M4's layout through the cut, thresholds on
--- all four lists, LF grids, permuted orders, the last of three presets, starting grids that are not zero; and the symbols of a filling.
+-- What meets the premises of demand 3 with all that they speak of, as the calls themselves hand it on: M4's layout through the cut, thresholds on
+-- all four lists, LF grids, permuted orders, the last of three presets, starting grids that are not zero; and a filling.
 use mathlib.Core.Bool.{true}
 use mathlib.Core.List.{List, [], _∷_, _++_}
 use Prim.Native.Nat.{ℕ, zero, suc, _+_, _^_, _-_}

@@ -1,8 +1,9 @@
--- what the theorems speak of, and the theorems
+-- what the theorems speak of
 pub mod Filling
+pub mod Inside
+-- and for the witnesses
+pub mod Plain
 pub mod Witness
 pub mod FullWitness
-pub mod Inside
--- laws
-pub mod Plain
+-- laws and theorems
 pub mod laws
