@@ -14,7 +14,7 @@ ghost use mathlib.Core.Path.{_≡_};
 ghost use mathlib.Core.Bool.{cond};
 ghost use Prim.Native.Nat.{_≤_};
 ghost use Rattle.coeff_walk.specs.laws.Outcome.{WalkShown};
-ghost use Rattle.coeff_walk.specs.laws.Lent.{lentFits, placesRead};
+ghost use Rattle.coeff_walk.specs.laws.Lent.{spotSmall, lentFits, placesRead};
 
 // 1 for true.
 fn to_usize(b: bool) -> usize
@@ -24,6 +24,17 @@ fn to_usize(b: bool) -> usize
         return 1;
     }
     0
+}
+
+// The limits hold.
+fn spot_small(spot: Spot, shift: u32) -> bool
+    ensures { λ r. ⌜ r ≡ spotSmall spot shift ⌝ }
+{
+    (spot.width <= 256)
+        & (spot.x <= 256)
+        & (spot.y <= 256)
+        & (spot.exponent <= 10)
+        & (shift <= 3)
 }
 
 // What is lent fits: lengths and limits.
@@ -37,31 +48,13 @@ fn lent_fits(
 ) -> bool
     ensures { λ r. ⌜ r ≡ lentFits spot list start «coeff_map» shift log ⌝ }
 {
-    if 256 < spot.width {
-        return false;
-    }
-    if 256 < spot.x {
-        return false;
-    }
-    if 256 < spot.y {
-        return false;
-    }
-    if 10 < spot.exponent {
-        return false;
-    }
-    if 3 < shift {
-        return false;
-    }
-    if 63 << spot.exponent < list / 2 {
-        return false;
-    }
-    if coeff_map != 458 {
+    if !spot_small(spot, shift) {
         return false;
     }
     if log < start {
         return false;
     }
-    list / 2 <= log - start
+    (list / 2 <= 63 << spot.exponent) & (coeff_map == 458) & (list / 2 <= log - start)
 }
 
 // The coefficients behind a count of `count`: refused where what is lent does not fit. `list` is the channel's without its

@@ -22,7 +22,7 @@ ghost use Rattle.coeff_group.specs.Group.{going, readItems};
 ghost use Rattle.coeff_group.specs.laws.Rewritten.{three, VarblockShown};
 ghost use Rattle.coeff_group.specs.laws.Plans.{channelWalked, itemsBy, Planned};
 ghost use Rattle.coeff_group.specs.laws.Channel.{ChannelShown};
-ghost use Rattle.coeff_group.specs.laws.Lent.{varblockFits, varblockRead};
+ghost use Rattle.coeff_group.specs.laws.Lent.{varblockSmall, varblockFits, varblockRead};
 
 fn to_usize(x: u32) -> usize
     ensures { λ r. ⌜ r ≡ x ⌝ }
@@ -174,6 +174,22 @@ fn read_channels<'a>(
     }
 }
 
+// A varblock's limits hold.
+fn varblock_small(plan: Plan, group: Group, clusters: usize, shift: u32) -> bool
+    ensures { λ r. ⌜ r ≡ varblockSmall plan group clusters shift ⌝ }
+{
+    (plan.shape.x < 32)
+        & (plan.shape.y < 32)
+        & (1 <= plan.shape.wide)
+        & (plan.shape.exponent <= 10)
+        & (group.bw <= 32)
+        & (plan.block_contexts[0] < clusters)
+        & (plan.block_contexts[1] < clusters)
+        & (plan.block_contexts[2] < clusters)
+        & (clusters <= 16)
+        & (shift <= 3)
+}
+
 // What is lent for a varblock fits: lengths and limits, with `list` the numbers in each list of its order.
 fn varblock_fits(
     plan: Plan,
@@ -187,46 +203,15 @@ fn varblock_fits(
 ) -> bool
     ensures { λ r. ⌜ r ≡ varblockFits plan group clusters «preset_map» list at shift log ⌝ }
 {
-    if 32 <= plan.shape.x {
-        return false;
-    }
-    if 32 <= plan.shape.y {
-        return false;
-    }
-    if 10 < plan.shape.exponent {
-        return false;
-    }
-    if 32 < group.bw {
-        return false;
-    }
-    if clusters <= plan.block_contexts[0] {
-        return false;
-    }
-    if clusters <= plan.block_contexts[1] {
-        return false;
-    }
-    if clusters <= plan.block_contexts[2] {
-        return false;
-    }
-    if 16 < clusters {
-        return false;
-    }
-    if 3 < shift {
-        return false;
-    }
-    if preset_map != 495 * clusters {
-        return false;
-    }
-    if list != 128 << plan.shape.exponent {
+    if !varblock_small(plan, group, clusters, shift) {
         return false;
     }
     if log < at {
         return false;
     }
-    if log - at < 192 << plan.shape.exponent {
-        return false;
-    }
-    1 <= plan.shape.wide
+    (preset_map == 495 * clusters)
+        & (list == 128 << plan.shape.exponent)
+        & (192 << plan.shape.exponent <= log - at)
 }
 
 // The three channels of a varblock, 1, 0, 2 in turn: refused where what is lent does not fit. No channel looks at another's

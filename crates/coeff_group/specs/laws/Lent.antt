@@ -22,12 +22,12 @@ use Rattle.coeff_group.specs.laws.Rewritten.{three, VarblockShown}
 use Rattle.coeff_group.specs.laws.Stored.{stretch-long, lists-are}
 use Rattle.coeff_group.specs.laws.Plans.{itemsBy, Planned}
 
--- what is lent for a varblock fits: at most 2^10 blocks, at least one of them wide, in a group of at most 32 × 32, at most 16 clusters, a preset's whole
--- part of the cluster map, an order of as many places (`list` numbers), and a log with room for all its symbols
-unfoldable pub varblockFits : Plan → Group → (clusters presetMap list at shift log : ℕ) → Bool
-varblockFits p group clusters presetMap list at shift log =
+-- a varblock's limits: at most 2^10 blocks, at least one of them wide, in a group of at most 32 × 32, at most 16 clusters
+abbrev pub varblockSmall : Plan → Group → (clusters shift : ℕ) → Bool
+varblockSmall p group clusters shift =
     ltb (p .shape .x) 32
     && ltb (p .shape .y) 32
+    && leb 1 (p .shape .wide)
     && leb (p .shape .exponent) 10
     && leb (group .bw) 32
     && ltb (getD (p .«block_contexts») 0 0) clusters
@@ -35,11 +35,15 @@ varblockFits p group clusters presetMap list at shift log =
     && ltb (getD (p .«block_contexts») 2 0) clusters
     && leb clusters 16
     && leb shift 3
-    && eqb presetMap (495 * clusters)
-    && eqb list (128 * 2 ^ (p .shape .exponent))
+
+-- what is lent for a varblock fits: its limits, a preset's whole part of the cluster map, an order of as many places (`list` numbers), and a log with room for all its symbols
+unfoldable pub varblockFits : Plan → Group → (clusters presetMap list at shift log : ℕ) → Bool
+varblockFits p group clusters presetMap list at shift log =
+    varblockSmall p group clusters shift
     && leb at log
-    && leb (192 * 2 ^ (p .shape .exponent)) (log - at)
-    && leb 1 (p .shape .wide)
+    && (eqb presetMap (495 * clusters)
+    && eqb list (128 * 2 ^ (p .shape .exponent))
+    && leb (192 * 2 ^ (p .shape .exponent)) (log - at))
 
 -- the reading of a varblock, `left` of the counts before being left over; nothing is read where what is lent does not fit
 abbrev pub varblockRead : Plan → Group → (clusters : ℕ) (presetMap store : List ℕ) (rows : Grids) (symbols : List ℕ) (at shift : ℕ) (log : List ℕ) (G : Grids) (left : ℕ) → Reading
@@ -60,42 +64,71 @@ found numbers o m h = go (ltb o 13) refl (eqb numbers (2 * PLACES)) refl
     go true a false b e = absurd (omega arith)
     go false a d b e = absurd (omega arith)
 
+-- the limits, each by itself
+pub record VarblockLimits (p : Plan) (group : Group) (clusters shift : ℕ) : Type 0 where
+  pub left : p .shape .x < 32
+  pub top : p .shape .y < 32
+  pub some : 1 ≤ p .shape .wide
+  pub exponent : p .shape .exponent ≤ 10
+  pub across : group .bw ≤ 32
+  pub first : getD (p .«block_contexts») 0 0 < clusters
+  pub second : getD (p .«block_contexts») 1 0 < clusters
+  pub third : getD (p .«block_contexts») 2 0 < clusters
+  pub few : clusters ≤ 16
+  pub shifts : shift ≤ 3
+
+pub small-limits : (p : Plan) (group : Group) (clusters shift : ℕ) → varblockSmall p group clusters shift ≡ true → VarblockLimits p group clusters shift
+small-limits p group clusters shift e =
+    let i = and-true _ _ e in
+    let h = and-true _ _ (i .0) in
+    let g = and-true _ _ (h .0) in
+    let f = and-true _ _ (g .0) in
+    let d = and-true _ _ (f .0) in
+    let c = and-true _ _ (d .0) in
+    let b = and-true _ _ (c .0) in
+    let a = and-true _ _ (b .0) in
+    let z = and-true _ _ (a .0) in
+    record {
+      left = ltb-true (p .shape .x) 32 (z .0);
+      top = ltb-true (p .shape .y) 32 (z .1);
+      some = leb-true 1 (p .shape .wide) (a .1);
+      exponent = leb-true (p .shape .exponent) 10 (b .1);
+      across = leb-true (group .bw) 32 (c .1);
+      first = ltb-true (getD (p .«block_contexts») 0 0) clusters (d .1);
+      second = ltb-true (getD (p .«block_contexts») 1 0) clusters (f .1);
+      third = ltb-true (getD (p .«block_contexts») 2 0) clusters (g .1);
+      few = leb-true clusters 16 (h .1);
+      shifts = leb-true shift 3 (i .1);
+    }
+
 module _ (p : Plan) (group : Group) (clusters : ℕ) (presetMap store : List ℕ) (at shift log : ℕ) where
   pub fits-planned : varblockFits p group clusters (length presetMap) (stretchAt (length store) (p .order) 0 .len) at shift log ≡ true
       → Planned p group clusters presetMap store shift × (at + 192 * 2 ^ (p .shape .exponent) ≤ log)
   unfolding varblockFits
   fits-planned e =
-      let n = and-true _ _ e in
-      let m = and-true _ _ (n .0) in
-      let l = and-true _ _ (m .0) in
-      let k = and-true _ _ (l .0) in
+      let l = and-true _ _ e in
+      let k = and-true _ _ (l .1) in
       let j = and-true _ _ (k .0) in
-      let i = and-true _ _ (j .0) in
-      let h = and-true _ _ (i .0) in
-      let g = and-true _ _ (h .0) in
-      let f = and-true _ _ (g .0) in
-      let d = and-true _ _ (f .0) in
-      let c = and-true _ _ (d .0) in
-      let b = and-true _ _ (c .0) in
-      let a = and-true _ _ (b .0) in
-      let q = leb-true at log (l .1) in
-      let r = leb-true (192 * 2 ^ (p .shape .exponent)) (log - at) (m .1) in
-      let s = found (length store) (p .order) (128 * 2 ^ (p .shape .exponent)) (let z = pow-pos (p .shape .exponent) in omega arith) (eqb-true (stretchAt (length store) (p .order) 0 .len) (128 * 2 ^ (p .shape .exponent)) (k .1)) in (
+      let i = and-true _ _ (l .0) in
+      let v = small-limits p group clusters shift (i .0) in
+      let q = leb-true at log (i .1) in
+      let r = leb-true (192 * 2 ^ (p .shape .exponent)) (log - at) (k .1) in
+      let s = found (length store) (p .order) (128 * 2 ^ (p .shape .exponent)) (let z = pow-pos (p .shape .exponent) in omega arith) (eqb-true (stretchAt (length store) (p .order) 0 .len) (128 * 2 ^ (p .shape .exponent)) (j .1)) in (
         record {
-          left = ltb-true (p .shape .x) 32 (a .0);
-          top = ltb-true (p .shape .y) 32 (a .1);
-          some = leb-true 1 (p .shape .wide) (n .1);
-          exponent = leb-true (p .shape .exponent) 10 (b .1);
-          across = leb-true (group .bw) 32 (c .1);
-          cluster = each (ltb-true (getD (p .«block_contexts») 0 0) clusters (d .1)) (ltb-true (getD (p .«block_contexts») 1 0) clusters (f .1)) (ltb-true (getD (p .«block_contexts») 2 0) clusters (g .1));
-          few = leb-true clusters 16 (h .1);
-          entries = eqb-true (length presetMap) (495 * clusters) (j .1);
+          left = v .left;
+          top = v .top;
+          some = v .some;
+          exponent = v .exponent;
+          across = v .across;
+          cluster = each (v .first) (v .second) (v .third);
+          few = v .few;
+          entries = eqb-true (length presetMap) (495 * clusters) (j .0);
           listed = s .0;
           whole = s .1;
           long = λ c t. stretch-long store (s .1) (p .order) c (s .0) t ∙ s .2;
-          shifts = leb-true shift 3 (i .1);
+          shifts = v .shifts;
         },
-        omega arith,
+        omega (arith, q, r),
       )
     where
       each : getD (p .«block_contexts») 0 0 < clusters → getD (p .«block_contexts») 1 0 < clusters → getD (p .«block_contexts») 2 0 < clusters → (n : ℕ) → n < 3 → getD (p .«block_contexts») n 0 < clusters
@@ -113,6 +146,7 @@ module _ (p : Plan) (group : Group) (clusters : ℕ) (presetMap store : List ℕ
       rw (
         lt-ltb (p .shape .x) 32 (r .left),
         lt-ltb (p .shape .y) 32 (r .top),
+        le-leb 1 (p .shape .wide) (r .some),
         le-leb (p .shape .exponent) 10 (r .exponent),
         le-leb (group .bw) 32 (r .across),
         lt-ltb (getD (p .«block_contexts») 0 0) clusters (r .cluster 0 (omega arith)),
@@ -120,11 +154,10 @@ module _ (p : Plan) (group : Group) (clusters : ℕ) (presetMap store : List ℕ
         lt-ltb (getD (p .«block_contexts») 2 0) clusters (r .cluster 2 (omega arith)),
         le-leb clusters 16 (r .few),
         le-leb shift 3 (r .shifts),
+        le-leb at log (omega arith),
         eq-eqb (length presetMap) (495 * clusters) (r .entries),
         eq-eqb (stretchAt (length store) (p .order) 0 .len) (128 * 2 ^ (p .shape .exponent)) n,
-        le-leb at log (omega arith),
         le-leb (192 * 2 ^ (p .shape .exponent)) (log - at) (omega arith),
-        le-leb 1 (p .shape .wide) (r .some),
       )
 
 -- the outcomes

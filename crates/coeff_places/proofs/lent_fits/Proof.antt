@@ -1,70 +1,33 @@
-use Prim.Native.Nat.{_*_, _-_, _/_, _^_}
+use mathlib.Core.Bool.{true}
+use mathlib.Core.Path.{_≡_, _∙_, sym}
 use borrow.Author.Needs.{needs}
-use borrow.Author.Tests.{le-leb, lt-leb, eq-eqb, ne-eqb}
+use borrow.Author.Tests.{not-true, not-false, le-leb, lt-leb}
 use native.Mathlib.Omega.{arith}
 use Rattle.coeff_walk.specs.laws.Counts.{shifted-left}
-use Rattle.coeff_walk.specs.laws.Lent.{lentFits}
+use Rattle.coeff_walk.specs.laws.Lent.{lentFits, spotSmall, small-limits}
 use Rattle.coeff_places.proofs.lent_fits.Statement.{statement}
 use Rattle.coeff_places.proofs.lent_fits.Tie as tie
 
+-- The limits hold.
+small : (c : tie.Else1) → spotSmall (c .before .before .args .spot) (c .before .before .args .shift) ≡ true
+small c = sym (c .before .spot-small .ensures) ∙ not-false (c .before .spot-small .result) (c .if1 .left)
+
 returns : tie.Need-returns
 unfolding lentFits
-returns c = let a = c .before .before .args in rw (lt-leb (a .spot .width) 256 (omega arith))
+returns c = rw (sym (c .before .spot-small .ensures) ∙ not-true (c .before .spot-small .result) (c .if1 .taken))
 
 returns-2 : tie.Need-returns-2
 unfolding lentFits
-returns-2 c = let a = c .before .before .before .before .args in rw (le-leb (a .spot .width) 256 (omega arith), lt-leb (a .spot .x) 256 (omega arith))
+returns-2 c = let a = c .before .before .before .args in rw (small (c .before), lt-leb (a .start) (a .log) (c .if2 .taken))
+
+shl-result : tie.Need-shl-result
+shl-result c = let a = c .before .before .before .before .args in let s = small-limits (a .spot) (a .shift) (small (c .before .before)) .exponent in omega (arith, s)
 
 returns-3 : tie.Need-returns-3
 unfolding lentFits
-returns-3 c = let a = c .before .before .before .before .before .before .args in rw (le-leb (a .spot .width) 256 (omega arith), le-leb (a .spot .x) 256 (omega arith), lt-leb (a .spot .y) 256 (omega arith))
-
-returns-4 : tie.Need-returns-4
-unfolding lentFits
-returns-4 c = let a = c .before .before .before .before .before .before .before .before .args in rw (le-leb (a .spot .width) 256 (omega arith), le-leb (a .spot .x) 256 (omega arith), le-leb (a .spot .y) 256 (omega arith), lt-leb (a .spot .exponent) 10 (omega arith))
-
-returns-5 : tie.Need-returns-5
-unfolding lentFits
-returns-5 c = let a = c .before .before .before .before .before .before .before .before .before .args in rw (le-leb (a .spot .width) 256 (omega arith), le-leb (a .spot .x) 256 (omega arith), le-leb (a .spot .y) 256 (omega arith), le-leb (a .spot .exponent) 10 (omega arith), lt-leb (a .shift) 3 (omega arith))
-
-shl-if6 : tie.Need-shl-if6
-shl-if6 c = search needs
-
-returns-6 : tie.Need-returns-6
-unfolding lentFits
-returns-6 c =
-    let a = c .before .before .before .before .before .before .before .before .before .before .before .args in
-    rw (le-leb (a .spot .width) 256 (omega arith), le-leb (a .spot .x) 256 (omega arith), le-leb (a .spot .y) 256 (omega arith), le-leb (a .spot .exponent) 10 (omega arith), le-leb (a .shift) 3 (omega arith), lt-leb (a .list / 2) (63 * 2 ^ (a .spot .exponent)) (omega (arith, shifted-left 63 (a .spot .exponent) (omega arith) (omega arith))))
-
-returns-7 : tie.Need-returns-7
-unfolding lentFits
-returns-7 c =
-    let a = c .before .before .before .before .before .before .before .before .before .before .before .before .args in
-    rw (le-leb (a .spot .width) 256 (omega arith), le-leb (a .spot .x) 256 (omega arith), le-leb (a .spot .y) 256 (omega arith), le-leb (a .spot .exponent) 10 (omega arith), le-leb (a .shift) 3 (omega arith), le-leb (a .list / 2) (63 * 2 ^ (a .spot .exponent)) (omega (arith, shifted-left 63 (a .spot .exponent) (omega arith) (omega arith))), ne-eqb (a .coeff-map) 458 (c .if7 .taken))
-
-returns-8 : tie.Need-returns-8
-unfolding lentFits
-returns-8 c =
-    let a = c .before .before .before .before .before .before .before .before .before .before .before .before .before .args in
-    rw (le-leb (a .spot .width) 256 (omega arith), le-leb (a .spot .x) 256 (omega arith), le-leb (a .spot .y) 256 (omega arith), le-leb (a .spot .exponent) 10 (omega arith), le-leb (a .shift) 3 (omega arith), le-leb (a .list / 2) (63 * 2 ^ (a .spot .exponent)) (omega (arith, shifted-left 63 (a .spot .exponent) (omega arith) (omega arith))), eq-eqb (a .coeff-map) 458 (omega arith), lt-leb (a .start) (a .log) (omega arith))
-
-returns-9 : tie.Need-returns-9
-unfolding lentFits
-returns-9 c =
-    let a = c .before .before .before .before .before .before .before .before .before .before .before .before .before .args in
-    rw (le-leb (a .spot .width) 256 (omega arith), le-leb (a .spot .x) 256 (omega arith), le-leb (a .spot .y) 256 (omega arith), le-leb (a .spot .exponent) 10 (omega arith), le-leb (a .shift) 3 (omega arith), le-leb (a .list / 2) (63 * 2 ^ (a .spot .exponent)) (omega (arith, shifted-left 63 (a .spot .exponent) (omega arith) (omega arith))), eq-eqb (a .coeff-map) 458 (omega arith), le-leb (a .start) (a .log) (omega arith))
+returns-3 c =
+    let a = c .before .before .before .before .args in
+    rw (small (c .before .before), le-leb (a .start) (a .log) (c .before .if2 .left), shifted-left 63 (a .spot .exponent) (omega arith) (small-limits (a .spot) (a .shift) (small (c .before .before)) .exponent))
 
 pub lent-fits-spec : {M : Type 1} → statement M
-lent-fits-spec =
-    tie.close
-    (tie.spec
-    returns
-    returns-2
-    returns-3
-    returns-4
-    returns-5
-    shl-if6
-    returns-6
-    returns-7
-    returns-8
-    returns-9)
+lent-fits-spec = tie.close (tie.spec (λ c κs. search needs) returns returns-2 shl-result returns-3)

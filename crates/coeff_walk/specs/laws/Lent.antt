@@ -13,18 +13,23 @@ use Rattle.coeff_walk.specs.declared.place.Spot.{Spot}
 use Rattle.coeff_walk.specs.Walk.{Walked, stopped, walk}
 use Rattle.coeff_walk.specs.laws.Outcome.{spotCells, Ready}
 
--- a first cell and a width of at most 256, at most 2^10 blocks, a list of at most 63 places for each (two numbers a place), the 458 entries of the coefficients, and a log with room for a symbol of each place
-unfoldable pub lentFits : Spot → (list start coeffMap shift log : ℕ) → Bool
-lentFits spot list start coeffMap shift log =
+-- limits: a first cell and a width of at most 256, at most 2^10 blocks
+abbrev pub spotSmall : Spot → (shift : ℕ) → Bool
+spotSmall spot shift =
     leb (spot .width) 256
     && leb (spot .x) 256
     && leb (spot .y) 256
     && leb (spot .exponent) 10
     && leb shift 3
-    && leb (list / 2) (63 * 2 ^ (spot .exponent))
-    && eqb coeffMap 458
+
+-- limits, a list of at most 63 places for each block (two numbers a place), the 458 entries of the coefficients, and a log with room for a symbol of each place
+unfoldable pub lentFits : Spot → (list start coeffMap shift log : ℕ) → Bool
+lentFits spot list start coeffMap shift log =
+    spotSmall spot shift
     && leb start log
-    && leb (list / 2) (log - start)
+    && (leb (list / 2) (63 * 2 ^ (spot .exponent))
+    && eqb coeffMap 458
+    && leb (list / 2) (log - start))
 
 -- the reading behind a count, `few` if it is at most four for each block; nothing is read where what is lent does not fit
 abbrev pub placesRead : Spot → (list symbols : List ℕ) (start count : ℕ) → Bool → (coeffMap : List ℕ) (shift : ℕ) (log g : List ℕ) → Walked
@@ -35,29 +40,48 @@ placesRead spot list symbols start count firstPrev coeffMap shift log g =
     (stopped Count start log g))
     (stopped (λ n. Length) start log g)
 
+-- the limits, each by itself
+pub record SpotLimits (spot : Spot) (shift : ℕ) : Type 0 where
+  pub width : spot .width ≤ 256
+  pub left : spot .x ≤ 256
+  pub top : spot .y ≤ 256
+  pub exponent : spot .exponent ≤ 10
+  pub shifts : shift ≤ 3
+
+pub small-limits : (spot : Spot) (shift : ℕ) → spotSmall spot shift ≡ true → SpotLimits spot shift
+small-limits spot shift e =
+    let d = and-true _ _ e in
+    let c = and-true _ _ (d .0) in
+    let b = and-true _ _ (c .0) in
+    let a = and-true _ _ (b .0) in
+    record {
+      width = leb-true (spot .width) 256 (a .0);
+      left = leb-true (spot .x) 256 (a .1);
+      top = leb-true (spot .y) 256 (b .1);
+      exponent = leb-true (spot .exponent) 10 (c .1);
+      shifts = leb-true shift 3 (d .1);
+    }
+
 pub fits-ready : (spot : Spot) (list : List ℕ) (start count firstPrev coeffMap shift log : ℕ) → lentFits spot (length list) start coeffMap shift log ≡ true
     → count ≤ 63 * 2 ^ (spot .exponent) → firstPrev ≤ 1 → Ready spot list start count firstPrev coeffMap shift log
 unfolding lentFits
 fits-ready spot list start count firstPrev coeffMap shift log e c f =
-    let k = and-true _ _ e in
+    let l = and-true _ _ e in
+    let k = and-true _ _ (l .1) in
     let j = and-true _ _ (k .0) in
-    let i = and-true _ _ (j .0) in
-    let h = and-true _ _ (i .0) in
-    let g = and-true _ _ (h .0) in
-    let d = and-true _ _ (g .0) in
-    let m = and-true _ _ (d .0) in
-    let n = and-true _ _ (m .0) in
-    let a = leb-true start log (j .1) in
+    let i = and-true _ _ (l .0) in
+    let v = small-limits spot shift (i .0) in
+    let a = leb-true start log (i .1) in
     let b = leb-true (length list / 2) (log - start) (k .1) in
     record {
-      width = leb-true (spot .width) 256 (n .0);
-      left = leb-true (spot .x) 256 (n .1);
-      top = leb-true (spot .y) 256 (m .1);
-      exponent = leb-true (spot .exponent) 10 (d .1);
+      width = v .width;
+      left = v .left;
+      top = v .top;
+      exponent = v .exponent;
       counted = c;
       flagged = f;
-      fits = leb-true (length list / 2) (63 * 2 ^ (spot .exponent)) (h .1);
-      entries = eqb-true coeffMap 458 (i .1);
-      shifts = leb-true shift 3 (g .1);
-      room = omega arith;
+      fits = leb-true (length list / 2) (63 * 2 ^ (spot .exponent)) (j .0);
+      entries = eqb-true coeffMap 458 (j .1);
+      shifts = v .shifts;
+      room = omega (arith, a, b);
     }
