@@ -1,6 +1,7 @@
 -- what is proved of a channel's reading
 pub mod Outcome
 pub mod Runs
+pub mod Sparse
 pub mod PlaceLaws
 pub mod Counts
 pub mod Lent
