@@ -30,11 +30,7 @@ fn to_usize(b: bool) -> usize
 fn spot_small(spot: Spot, shift: u32) -> bool
     ensures { λ r. ⌜ r ≡ spotSmall spot shift ⌝ }
 {
-    (spot.width <= 256)
-        & (spot.x <= 256)
-        & (spot.y <= 256)
-        & (spot.exponent <= 10)
-        & (shift <= 3)
+    (spot.width <= 256) & (spot.x <= 256) & (spot.y <= 256) & (spot.exponent <= 10) & (shift <= 3)
 }
 
 // What is lent fits: lengths and limits.

@@ -27,29 +27,8 @@ ready c =
     let p = passed (c .before .before .before .before) in
     work-ready (lentAt (c .before .before .before .before .before .before .before .before .before .before .before .before .before .before .before .before .before .before .before .before)) p (n .0 .0) (below (lentAt (c .before .before .before .before .before .before .before .before .before .before .before .before .before .before .before .before .before .before .before .before)) p (c .before .before .before .read-preset .result) (c .before .before .before .read-preset .ensures) (n .0 .0) (n .1))
 
-before-work-requires : tie.Need-before-work-requires
-before-work-requires c κs = tt
-
-enum-known-checked : tie.Need-enum-known-checked
-enum-known-checked c = search needs
-
 returns : tie.Need-returns
 returns c = let w = c .before .checked .given in checks-refused (lentAt (c .before .before .before .before .before .before .before .before .before .before .before .before .before .before .before .before .before)) (c .before .before .before .before-work .result) (c .before .before .before .before-work .ensures) (w .0 .0) (w .1)
-
-enum-told : tie.Need-enum-told
-enum-told c = search needs
-
-read-preset-requires : tie.Need-read-preset-requires
-read-preset-requires c κs = tt
-
-enum-known-chosen : tie.Need-enum-known-chosen
-enum-known-chosen c = search needs
-
-enum-known-chosen-2 : tie.Need-enum-known-chosen-2
-enum-known-chosen-2 c = search needs
-
-part-of-requires : tie.Need-part-of-requires
-part-of-requires c κs = let w = ready c in (w .clusters, w .number, w .part)
 
 read-group-requires : tie.Need-read-group-requires
 read-group-requires c κs =
@@ -57,25 +36,10 @@ read-group-requires c κs =
     let w = ready (c .before .before .before .before .before) in
     w .ready _ (ap length (c .before .before .before .before .part-of .ensures) ∙ part-long (L .clusterMap) (495 * clustersOf (L .pass)) (c .before .before .before .before .before .before .chosen2 .given .0 .0) (w .part))
 
-answer-requires : tie.Need-answer-requires
-answer-requires c κs = tt
-
 returns-2 : tie.Need-returns-2
 returns-2 c =
     let w = c .before .chosen .given in
     preset-refused (lentAt (c .before .before .before .before .before .before .before .before .before .before .before .before .before .before .before .before .before .before .before .before)) (passed (c .before .before .before .before)) (c .before .before .before .read-preset .result) (c .before .before .before .read-preset .ensures) (w .0 .0) (w .1)
-
-same-length : tie.Need-same-length
-same-length c = c .before .before .before .before .before .before .before .before .log .given
-
-same-length-2 : tie.Need-same-length-2
-same-length-2 c = c .before .before .before .before .before .before .g0 .given
-
-same-length-3 : tie.Need-same-length-3
-same-length-3 c = c .before .before .before .before .g1 .given
-
-same-length-4 : tie.Need-same-length-4
-same-length-4 c = c .before .before .g2 .given
 
 returns-3 : tie.Need-returns-3
 unfolding reading
@@ -89,19 +53,19 @@ pub write-hf-coeff-spec : {M : Type 1} → statement M
 write-hf-coeff-spec =
     tie.close
     (tie.spec
-    before-work-requires
-    enum-known-checked
+    (λ c κs. tt)
+    (λ c. search needs)
     returns
-    enum-told
-    read-preset-requires
-    enum-known-chosen
-    enum-known-chosen-2
-    part-of-requires
+    (λ c. search needs)
+    (λ c κs. tt)
+    (λ c. search needs)
+    (λ c. search needs)
+    (λ c κs. let w = ready c in (w .clusters, w .number, w .part))
     read-group-requires
-    answer-requires
+    (λ c κs. tt)
     returns-2
-    same-length
-    same-length-2
-    same-length-3
-    same-length-4
+    (λ c. c .before .before .before .before .before .before .before .before .log .given)
+    (λ c. c .before .before .before .before .before .before .g0 .given)
+    (λ c. c .before .before .before .before .g1 .given)
+    (λ c. c .before .before .g2 .given)
     returns-3)

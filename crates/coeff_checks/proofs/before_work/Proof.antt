@@ -41,20 +41,11 @@ layout-by c =
 layout : (c : tie.Else5) → layoutFits (passAt (c .before .before .before .before .before .before .before .before .before .before .before .before .before .before .before .before .before .before)) ≡ true
 layout c = layout-by (c .before) ∙ not-false (c .before .layout-fits .result) (c .if5 .left)
 
-in-limits-requires : tie.Need-in-limits-requires
-in-limits-requires c κs = tt
-
 returns : tie.Need-returns
 returns c = let a = c .before .before .before .before .before .before .before .before .args in sym (checks-2 (passAt (c .before .before .before .before .before .before .before .before)) (a .presets) (a .shift) (a .cluster-map) (a .log) (a .g0) (a .g1) (a .g2) (sym (c .before .in-limits .ensures) ∙ not-true (c .before .in-limits .result) (c .if1 .taken)))
 
-parameters-fit-requires : tie.Need-parameters-fit-requires
-parameters-fit-requires c κs = tt
-
 returns-2 : tie.Need-returns-2
 returns-2 c = let a = c .before .before .before .before .before .before .before .before .before .before .args in sym (checks-11 (passAt (c .before .before .before .before .before .before .before .before .before .before)) (a .presets) (a .shift) (a .cluster-map) (a .log) (a .g0) (a .g1) (a .g2) (sides (c .before .before)) (sym (c .before .parameters-fit .ensures) ∙ not-true (c .before .parameters-fit .result) (c .if2 .taken)))
-
-is-fit-requires : tie.Need-is-fit-requires
-is-fit-requires c κs = tt
 
 returns-3 : tie.Need-returns-3
 returns-3 c = let a = c .before .before .before .before .before .before .before .before .before .before .before .before .args in sym (checks-12 (passAt (c .before .before .before .before .before .before .before .before .before .before .before .before)) (a .presets) (a .shift) (a .cluster-map) (a .log) (a .g0) (a .g1) (a .g2) (sides (c .before .before .before .before)) (parameters (c .before .before)) (sym (c .before .is-fit .ensures) ∙ not-true (c .before .is-fit .result) (c .if3 .taken)))
@@ -62,28 +53,13 @@ returns-3 c = let a = c .before .before .before .before .before .before .before 
 mul-n : tie.Need-mul-n
 mul-n c = omega (arith, most-blocks (passAt (c .before .before .before .before .before .before .before .before .before .before .before .before)) (sides (c .before .before .before .before)))
 
-cast-clusters : tie.Need-cast-clusters
-cast-clusters c = search needs
-
-read-fit-requires : tie.Need-read-fit-requires
-read-fit-requires c κs = tt
-
-written-fit-requires : tie.Need-written-fit-requires
-written-fit-requires c κs = tt
-
 returns-4 : tie.Need-returns-4
 returns-4 c = let a = c .before .before .before .before .before .before .before .before .before .before .before .before .before .before .before .before .args in sym (checks-1 (passAt (c .before .before .before .before .before .before .before .before .before .before .before .before .before .before .before .before)) (a .presets) (a .shift) (a .cluster-map) (a .log) (a .g0) (a .g1) (a .g2) (sides (c .before .before .before .before .before .before .before .before)) (parameters (c .before .before .before .before .before .before)) (contexts (c .before .before .before .before)) (lengths-by (c .before) ∙ not-true (c .before .written-fit .result) (c .if4 .taken)))
-
-layout-fits-requires : tie.Need-layout-fits-requires
-layout-fits-requires c κs = tt
 
 returns-5 : tie.Need-returns-5
 returns-5 c =
     let a = c .before .before .before .before .before .before .before .before .before .before .before .before .before .before .before .before .before .before .args in
     sym (checks-18 (passAt (c .before .before .before .before .before .before .before .before .before .before .before .before .before .before .before .before .before .before)) (a .presets) (a .shift) (a .cluster-map) (a .log) (a .g0) (a .g1) (a .g2) (sides (c .before .before .before .before .before .before .before .before .before .before)) (parameters (c .before .before .before .before .before .before .before .before)) (contexts (c .before .before .before .before .before .before)) (lengths (c .before .before)) (layout-by (c .before) ∙ not-true (c .before .layout-fits .result) (c .if5 .taken)))
-
-places-fit-requires : tie.Need-places-fit-requires
-places-fit-requires c κs = tt
 
 returns-6 : tie.Need-returns-6
 returns-6 c =
@@ -99,19 +75,19 @@ pub before-work-spec : {M : Type 1} → statement M
 before-work-spec =
     tie.close
     (tie.spec
-    in-limits-requires
+    (λ c κs. tt)
     returns
-    parameters-fit-requires
+    (λ c κs. tt)
     returns-2
-    is-fit-requires
+    (λ c κs. tt)
     returns-3
     mul-n
-    cast-clusters
-    read-fit-requires
-    written-fit-requires
+    (λ c. search needs)
+    (λ c κs. tt)
+    (λ c κs. tt)
     returns-4
-    layout-fits-requires
+    (λ c κs. tt)
     returns-5
-    places-fit-requires
+    (λ c κs. tt)
     returns-6
     returns-7)

@@ -22,14 +22,8 @@ small c = let a = c .before .before .before .before .before .before .before .arg
 below : (c : tie.Else2) → c .before .before .before .before .before .before .before .before .before .args .count ≤ 63 * 2 ^ (c .before .before .before .before .before .before .before .before .before .args .spot .exponent)
 below c = omega (arith, c .if2 .left, shifted-left 63 (c .before .before .before .before .before .before .before .before .before .args .spot .exponent) (omega arith) (small (c .before .before)))
 
-lent-fits-requires : tie.Need-lent-fits-requires
-lent-fits-requires c κs = search needs
-
 returns : tie.Need-returns
 returns c = rw (sym (c .before .lent-fits .ensures) ∙ not-true (c .before .lent-fits .result) (c .if1 .taken)) (record { answer = refl; logged = refl; cells = refl })
-
-shl-if2 : tie.Need-shl-if2
-shl-if2 c = let s = small (c .before) in search needs
 
 returns-2 : tie.Need-returns-2
 returns-2 c =
@@ -37,20 +31,11 @@ returns-2 c =
     rw (fitting (c .before .before), lt-leb (a .count) (63 * 2 ^ (a .spot .exponent)) (omega (arith, c .if2 .taken, shifted-left 63 (a .spot .exponent) (omega arith) (small (c .before .before)))))
     (record { answer = refl; logged = refl; cells = refl })
 
-to-usize-requires : tie.Need-to-usize-requires
-to-usize-requires c κs = search needs
-
 walk-places-requires : tie.Need-walk-places-requires
 unfolding NUM-NONZERO FREQ
 walk-places-requires c κs =
     let a = c .before .before .before .before .before .before .before .before .before .before .before .before .before .before .args in
     (refl, refl, fits-ready (a .spot) (a .list .now) (a .start) (a .count) (c .before .before .to-usize .result) (length (a .coeff-map .now)) (a .shift) (length (a .log .now)) (fitting (c .before .before .before .before .before .before .before)) (below (c .before .before .before .before .before)) (c .before .before .to-usize .ensures .1))
-
-same-length : tie.Need-same-length
-same-length c = search needs
-
-same-length-2 : tie.Need-same-length-2
-same-length-2 c = search needs
 
 returns-3 : tie.Need-returns-3
 returns-3 c =
@@ -61,12 +46,12 @@ pub read-places-spec : {M : Type 1} → statement M
 read-places-spec =
     tie.close
     (tie.spec
-    lent-fits-requires
+    (λ c κs. search needs)
     returns
-    shl-if2
+    (λ c. let s = small (c .before) in search needs)
     returns-2
-    to-usize-requires
+    (λ c κs. search needs)
     walk-places-requires
-    same-length
-    same-length-2
+    (λ c. search needs)
+    (λ c. search needs)
     returns-3)

@@ -5,12 +5,6 @@ use Rattle.laws.specs.laws.Cases.{above}
 use Rattle.coeff_varblock.proofs.channel_walked.Statement.{statement}
 use Rattle.coeff_varblock.proofs.channel_walked.Tie as tie
 
-returns : tie.Need-returns
-returns c = search needs
-
-returns-2 : tie.Need-returns-2
-returns-2 c = search needs
-
 returns-3 : tie.Need-returns-3
 returns-3 c =
     let h = above 2 (c .before .args .n) (c .match .rest) in
@@ -18,4 +12,4 @@ returns-3 c =
     (omega arith, rw e)
 
 pub channel-walked-spec : {M : Type 1} → statement M
-channel-walked-spec = tie.close (tie.spec returns returns-2 returns-3)
+channel-walked-spec = tie.close (tie.spec (λ c. search needs) (λ c. search needs) returns-3)

@@ -49,9 +49,6 @@ read-channel-requires c κs =
     let left : ℕ = 0 in
     (c .before .before .before .before .loop-test .taken, s .pre .0, s .pre .1, rw (l .inv .0) (channels-room (a .plan) (a .group) (a .clusters) (a .preset-map .now) (a .store .now) (a .symbols .now) (a .at) (a .shift) (wholeAt s left) (l .n) (l .at) (l .counts-over) (a .rows .now) (l .log) (l .g0 ∷ l .g1 ∷ l .g2 ∷ []) (l .inv .6 left) (c .before .before .before .before .loop-test .taken) (length (a .log .now)) (s .pre .2)))
 
-is-stopped-requires : tie.Need-is-stopped-requires Inv-loop μ-loop
-is-stopped-requires c κs = tt
-
 same-length : tie.Need-same-length Inv-loop μ-loop
 same-length c = c .before .before .before .before .before .before .before .before .before .log .given ∙ c .before .before .before .before .before .before .before .before .before .before .before .before .before .before .before .before .loop .inv .0
 
@@ -82,18 +79,6 @@ returns c =
 channel-walked-requires : tie.Need-channel-walked-requires Inv-loop μ-loop
 channel-walked-requires c κs = c .before .before .before .before .before .before .before .before .before .before .before .before .before .before .before .loop-test .taken
 
-mul-counts-over : tie.Need-mul-counts-over Inv-loop μ-loop
-mul-counts-over c = let k = c .channel-walked .ensures .0 in search needs
-
-array-write-counts-over : tie.Need-array-write-counts-over Inv-loop μ-loop
-array-write-counts-over c = c .channel-walked .ensures .0
-
-symbols-read-requires : tie.Need-symbols-read-requires Inv-loop μ-loop
-symbols-read-requires c κs = tt
-
-add-n : tie.Need-add-n Inv-loop μ-loop
-add-n c = search needs
-
 loop-less : tie.Need-loop-less Inv-loop μ-loop
 loop-less c = less (c .before .before .before .before .before .before .before .before .before .before .before .before .before .before .before .before .before .before .loop .n) (c .before .before .before .before .before .before .before .before .before .before .before .before .before .before .before .before .before .loop-test .taken)
 
@@ -112,18 +97,6 @@ loop-again c =
       length-set (l .counts-over) (c .before .channel-walked .result) (w .result .«count_over») ∙ l .inv .5,
       λ left. channels-go (a .plan) (a .group) (a .clusters) (a .preset-map .now) (a .store .now) (a .symbols .now) (a .at) (a .shift) (wholeAt s left) (l .n) (l .at) (l .counts-over) (a .rows .now) (l .log) (l .g0 ∷ l .g1 ∷ l .g2 ∷ []) (l .inv .6 left) (c .before .before .before .before .before .before .before .before .before .before .before .before .before .before .before .before .before .loop-test .taken) (w .result .walk) (w .result .«count_over») (z .0) (z .1 .0 ∷ z .1 .1 .0 ∷ z .1 .1 .1 .0 ∷ []) (w .ensures) (sym (c .before .before .before .is-stopped .ensures) ∙ c .before .before .if1 .left) (c .symbols-read .result) (c .before .channel-walked .result) _ (c .symbols-read .ensures) (l .inv .5) (c .before .channel-walked .ensures .1) refl,
     )
-
-same-length-5 : tie.Need-same-length-5 Inv-loop μ-loop
-same-length-5 c = c .before .loop .inv .0
-
-same-length-6 : tie.Need-same-length-6 Inv-loop μ-loop
-same-length-6 c = c .before .loop .inv .1
-
-same-length-7 : tie.Need-same-length-7 Inv-loop μ-loop
-same-length-7 c = c .before .loop .inv .2
-
-same-length-8 : tie.Need-same-length-8 Inv-loop μ-loop
-same-length-8 c = c .before .loop .inv .3
 
 returns-2 : tie.Need-returns-2 Inv-loop μ-loop
 returns-2 c =
@@ -146,21 +119,21 @@ read-channels-spec =
     μ-loop
     loop-holds
     read-channel-requires
-    is-stopped-requires
+    (λ c κs. tt)
     same-length
     same-length-2
     same-length-3
     same-length-4
     returns
     channel-walked-requires
-    mul-counts-over
-    array-write-counts-over
-    symbols-read-requires
-    add-n
+    (λ c. let k = c .channel-walked .ensures .0 in search needs)
+    (λ c. c .channel-walked .ensures .0)
+    (λ c κs. tt)
+    (λ c. search needs)
     loop-less
     loop-again
-    same-length-5
-    same-length-6
-    same-length-7
-    same-length-8
+    (λ c. c .before .loop .inv .0)
+    (λ c. c .before .loop .inv .1)
+    (λ c. c .before .loop .inv .2)
+    (λ c. c .before .loop .inv .3)
     returns-2)

@@ -9,12 +9,6 @@ use Rattle.coeff_group.specs.laws.Lent.{fits-planned, varblock-refused, varbloc
 use Rattle.coeff_varblock.proofs.read_varblock.Statement.{statement}
 use Rattle.coeff_varblock.proofs.read_varblock.Tie as tie
 
-stretch-of-requires : tie.Need-stretch-of-requires
-stretch-of-requires c κs = search needs
-
-varblock-fits-requires : tie.Need-varblock-fits-requires
-varblock-fits-requires c κs = search needs
-
 returns : tie.Need-returns
 returns c =
     let a = c .before .before .before .before .before .before .before .before .before .before .args in
@@ -28,18 +22,6 @@ read-channels-requires c κs =
     let q = fits-planned (a .plan) (a .group) (a .clusters) (a .preset-map .now) (a .store .now) (a .at) (a .shift) (length (a .log .now)) (sym f ∙ not-false (c .before .before .before .before .before .varblock-fits .result) (c .before .before .before .before .if1 .left)) in
     (c .before .before .before .before .before .before .stretch-of .ensures, q .0, q .1)
 
-same-length : tie.Need-same-length
-same-length c = search needs
-
-same-length-2 : tie.Need-same-length-2
-same-length-2 c = search needs
-
-same-length-3 : tie.Need-same-length-3
-same-length-3 c = search needs
-
-same-length-4 : tie.Need-same-length-4
-same-length-4 c = search needs
-
 returns-2 : tie.Need-returns-2
 returns-2 c =
     let a = c .before .before .before .before .before .before .before .before .before .before .before .before .before .before .before .before .before .before .before .before .before .before .before .args in
@@ -52,12 +34,12 @@ pub read-varblock-spec : {M : Type 1} → statement M
 read-varblock-spec =
     tie.close
     (tie.spec
-    stretch-of-requires
-    varblock-fits-requires
+    (λ c κs. search needs)
+    (λ c κs. search needs)
     returns
     read-channels-requires
-    same-length
-    same-length-2
-    same-length-3
-    same-length-4
+    (λ c. search needs)
+    (λ c. search needs)
+    (λ c. search needs)
+    (λ c. search needs)
     returns-2)

@@ -23,15 +23,6 @@ returns-2 : tie.Need-returns-2
 unfolding varblockFits
 returns-2 c = let a = c .before .before .before .args in rw (small (c .before), lt-leb (a .at) (a .log) (c .if2 .taken))
 
-mul-result : tie.Need-mul-result
-mul-result c = omega (arith, limits (c .before) .few)
-
-shl-result : tie.Need-shl-result
-shl-result c = omega (arith, limits (c .before .before) .exponent)
-
-shl-result-2 : tie.Need-shl-result-2
-shl-result-2 c = omega (arith, limits (c .before .before .before) .exponent)
-
 returns-3 : tie.Need-returns-3
 unfolding varblockFits
 returns-3 c =
@@ -40,4 +31,4 @@ returns-3 c =
     rw (small (c .before .before .before), le-leb (a .at) (a .log) (c .before .before .if2 .left), shifted-left 128 (a .plan .shape .exponent) (omega arith) e, shifted-left 192 (a .plan .shape .exponent) (omega arith) e)
 
 pub varblock-fits-spec : {M : Type 1} → statement M
-varblock-fits-spec = tie.close (tie.spec (λ c κs. search needs) returns returns-2 mul-result shl-result shl-result-2 returns-3)
+varblock-fits-spec = tie.close (tie.spec (λ c κs. search needs) returns returns-2 (λ c. omega (arith, limits (c .before) .few)) (λ c. omega (arith, limits (c .before .before) .exponent)) (λ c. omega (arith, limits (c .before .before .before) .exponent)) returns-3)

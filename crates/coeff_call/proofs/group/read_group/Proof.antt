@@ -57,17 +57,11 @@ wholeAt c =
 few : (y w x : ℕ) → y < 32 → w ≤ 32 → x < 32 → y * w + x < 1024
 few y w x a b d = let m : y * w ≤ 31 * 32 = mul-le-mul (let e : y ≤ 31 = omega arith in e) b in omega arith
 
-cast-clusters : tie.Need-cast-clusters Inv-loop2 μ-loop2 Inv-loop μ-loop
-cast-clusters c = search needs
-
 loop-holds : tie.Need-loop-holds Inv-loop2 μ-loop2 Inv-loop μ-loop
 loop-holds c =
     let s = c .before .before .before .before .before .before .before .before .before .before .before .before .before in
     let a = s .args in
     (refl, refl, refl, refl, omega arith, due-start (a .shift) (a .t4 .«num_block_clusters») (a .preset-map .now) (passAt s) (a .symbols .now) (a .log .now) (a .g0 .now ∷ a .g1 .now ∷ a .g2 .now ∷ []) (s .pre .layout))
-
-loop2-holds : tie.Need-loop2-holds Inv-loop2 μ-loop2 Inv-loop μ-loop
-loop2-holds c = (refl, refl, refl, refl, omega arith, λ whole d. d)
 
 mul-i : tie.Need-mul-i Inv-loop2 μ-loop2 Inv-loop μ-loop
 mul-i c =
@@ -83,9 +77,6 @@ add-i c =
 
 shared-slice-read-kind : tie.Need-shared-slice-read-kind Inv-loop2 μ-loop2 Inv-loop μ-loop
 shared-slice-read-kind c = rw (c .before .before .before .before .before .before .before .before .before .before .before .before .before .before .before .before .before .before .pre .layout .kindsLength) (digits-lt (c .before .before .before .loop-test .taken) (c .before .loop2-test .taken))
-
-add-x : tie.Need-add-x Inv-loop2 μ-loop2 Inv-loop μ-loop
-add-x c = search needs
 
 loop2-less : tie.Need-loop2-less Inv-loop2 μ-loop2 Inv-loop μ-loop
 loop2-less c = less (c .before .before .before .loop2 .x) (c .before .before .before .before .before .before .before .before .before .before .before .before .before .before .before .before .before .before .before .args .group .bw) (c .before .before .loop2-test .taken)
@@ -123,9 +114,6 @@ step-varblock-requires c κs =
     let d = due-row (a .shift) (a .t4 .«num_block_clusters») (a .preset-map .now) (passAt s) (a .symbols .now) (192 * (a .group .bw * a .group .bh)) W (o .at) (o .rows) (o .log) (o .g0 ∷ o .g1 ∷ o .g2 ∷ []) (o .y) (c .before .before .before .before .before .before .before .before .before .before .before .before .before .before .before .loop-test .taken) (o .inv .5) in
     corner-asks (a .shift) (a .t4 .«num_block_clusters») (a .preset-map .now) (passAt s) (a .symbols .now) (length (a .log .now)) (s .pre) W (l .x) (o .y) (l .at) (l .rows) (l .log) (l .g0 ∷ l .g1 ∷ l .g2 ∷ []) (c .before .before .before .before .before .before .before .before .before .before .before .before .before .loop2-test .taken) (c .before .before .before .before .before .before .before .before .before .before .before .before .before .before .before .loop-test .taken) (c .before .before .before .before .before .before .before .before .before .before .before .if1 .left) (l .inv .5 W d) (c .before .before .before .before .before .plan-of .result) (c .before .before .before .before .before .plan-of .ensures) (l .inv .0 ∙ o .inv .0)
 
-is-stopped-requires : tie.Need-is-stopped-requires Inv-loop2 μ-loop2 Inv-loop μ-loop
-is-stopped-requires c κs = tt
-
 same-length : tie.Need-same-length Inv-loop2 μ-loop2 Inv-loop μ-loop
 same-length c = c .before .before .before .before .before .before .before .before .before .log .given ∙ c .before .before .before .before .before .before .before .before .before .before .before .before .before .before .before .before .before .before .before .before .before .before .before .before .before .loop2 .inv .0 ∙ c .before .before .before .before .before .before .before .before .before .before .before .before .before .before .before .before .before .before .before .before .before .before .before .before .before .before .before .loop .inv .0
 
@@ -150,9 +138,6 @@ returns c =
     let d = due-row (a .shift) (a .t4 .«num_block_clusters») (a .preset-map .now) (passAt s) (a .symbols .now) (192 * (a .group .bw * a .group .bh)) W (o .at) (o .rows) (o .log) (o .g0 ∷ o .g1 ∷ o .g2 ∷ []) (o .y) (c .before .before .before .before .before .before .before .before .before .before .before .before .before .before .before .before .before .before .before .before .before .before .before .before .before .before .loop-test .taken) (o .inv .5) in
     corner-stop (a .shift) (a .t4 .«num_block_clusters») (a .preset-map .now) (passAt s) (a .symbols .now) (length (a .log .now)) (s .pre) W (l .x) (o .y) (l .at) (l .rows) (l .log) (l .g0 ∷ l .g1 ∷ l .g2 ∷ []) (c .before .before .before .before .before .before .before .before .before .before .before .before .before .before .before .before .before .before .before .before .before .before .before .before .loop2-test .taken) (c .before .before .before .before .before .before .before .before .before .before .before .before .before .before .before .before .before .before .before .before .before .before .before .before .before .before .loop-test .taken) (c .before .before .before .before .before .before .before .before .before .before .before .before .before .before .before .before .before .before .before .before .before .before .if1 .left) (l .inv .5 W d) (c .before .before .before .before .before .before .before .before .before .before .before .before .before .before .before .before .plan-of .result) (c .before .before .before .before .before .before .before .before .before .before .before .before .before .before .before .before .plan-of .ensures) (w .result) (z .0) (z .1 .0) (z .1 .1 .0 ∷ z .1 .1 .1 .0 ∷ z .1 .1 .1 .1 .0 ∷ []) (w .ensures .1) (sym (c .before .is-stopped .ensures) ∙ c .if2 .taken)
 
-symbols-read-requires : tie.Need-symbols-read-requires Inv-loop2 μ-loop2 Inv-loop μ-loop
-symbols-read-requires c κs = tt
-
 add-x-2 : tie.Need-add-x-2 Inv-loop2 μ-loop2 Inv-loop μ-loop
 add-x-2 c = let u = c .before .before .before .before .before .before .before .before .before .before .before .before .before .before .before .before .before .before .before .before .before .before .before .before .before .before .before .before .before .before .before .before .before .before .before .before .before .before .before .before .before .before .pre .across in omega (arith, c .before .before .before .before .before .before .before .before .before .before .before .before .before .before .before .before .before .before .before .before .before .before .before .before .before .loop2-test .taken)
 
@@ -175,9 +160,6 @@ loop2-again-2 c =
       λ W d. corner-step (a .shift) (a .t4 .«num_block_clusters») (a .preset-map .now) (passAt s) (a .symbols .now) (length (a .log .now)) (s .pre) W (l .x) (o .y) (l .at) (l .rows) (l .log) (l .g0 ∷ l .g1 ∷ l .g2 ∷ []) (c .before .before .before .before .before .before .before .before .before .before .before .before .before .before .before .before .before .before .before .before .before .before .before .before .before .loop2-test .taken) (c .before .before .before .before .before .before .before .before .before .before .before .before .before .before .before .before .before .before .before .before .before .before .before .before .before .before .before .loop-test .taken) (c .before .before .before .before .before .before .before .before .before .before .before .before .before .before .before .before .before .before .before .before .before .before .before .if1 .left) (l .inv .5 W d) (c .before .before .before .before .before .before .before .before .before .before .before .before .before .before .before .before .before .plan-of .result) (c .before .before .before .before .before .before .before .before .before .before .before .before .before .before .before .before .before .plan-of .ensures) (w .result) (z .0) (z .1 .0) (z .1 .1 .0 ∷ z .1 .1 .1 .0 ∷ z .1 .1 .1 .1 .0 ∷ []) (w .ensures .1) (sym (c .before .before .is-stopped .ensures) ∙ c .before .if2 .left) (w .ensures .0) (c .symbols-read .result) (c .symbols-read .ensures),
     )
 
-add-y : tie.Need-add-y Inv-loop2 μ-loop2 Inv-loop μ-loop
-add-y c = search needs
-
 loop-less : tie.Need-loop-less Inv-loop2 μ-loop2 Inv-loop μ-loop
 loop-less c = less (c .before .before .before .loop .y) (c .before .before .before .before .before .before .before .before .before .before .before .before .before .before .before .before .before .args .group .bh) (c .before .before .loop-test .taken)
 
@@ -195,18 +177,6 @@ loop-again c =
       due-next (a .shift) (a .t4 .«num_block_clusters») (a .preset-map .now) (passAt s) (a .symbols .now) (192 * (a .group .bw * a .group .bh)) (wholeAt s) (l .at) (l .rows) (l .log) (l .g0 ∷ l .g1 ∷ l .g2 ∷ []) (l .x) (o .y) (c .loop2-test .left) (l .inv .5 (wholeAt s) (due-row (a .shift) (a .t4 .«num_block_clusters») (a .preset-map .now) (passAt s) (a .symbols .now) (192 * (a .group .bw * a .group .bh)) (wholeAt s) (o .at) (o .rows) (o .log) (o .g0 ∷ o .g1 ∷ o .g2 ∷ []) (o .y) (c .before .before .loop-test .taken) (o .inv .5))),
     )
 
-same-length-5 : tie.Need-same-length-5 Inv-loop2 μ-loop2 Inv-loop μ-loop
-same-length-5 c = c .before .loop .inv .0
-
-same-length-6 : tie.Need-same-length-6 Inv-loop2 μ-loop2 Inv-loop μ-loop
-same-length-6 c = c .before .loop .inv .1
-
-same-length-7 : tie.Need-same-length-7 Inv-loop2 μ-loop2 Inv-loop μ-loop
-same-length-7 c = c .before .loop .inv .2
-
-same-length-8 : tie.Need-same-length-8 Inv-loop2 μ-loop2 Inv-loop μ-loop
-same-length-8 c = c .before .loop .inv .3
-
 returns-2 : tie.Need-returns-2 Inv-loop2 μ-loop2 Inv-loop μ-loop
 returns-2 c =
     let s = c .before .before .before .before .before .before .before .before .before .before .before .before .before .before .before in
@@ -222,34 +192,34 @@ read-group-spec =
     μ-loop2
     Inv-loop
     μ-loop
-    cast-clusters
+    (λ c. search needs)
     loop-holds
-    loop2-holds
+    (λ c. (refl, refl, refl, refl, omega arith, λ whole d. d))
     mul-i
     add-i
     shared-slice-read-kind
-    add-x
+    (λ c. search needs)
     loop2-less
     loop2-again
     mul-plan-of
     shared-slice-read-plan-of
     plan-of-requires
     step-varblock-requires
-    is-stopped-requires
+    (λ c κs. tt)
     same-length
     same-length-2
     same-length-3
     same-length-4
     returns
-    symbols-read-requires
+    (λ c κs. tt)
     add-x-2
     loop2-less-2
     loop2-again-2
-    add-y
+    (λ c. search needs)
     loop-less
     loop-again
-    same-length-5
-    same-length-6
-    same-length-7
-    same-length-8
+    (λ c. c .before .loop .inv .0)
+    (λ c. c .before .loop .inv .1)
+    (λ c. c .before .loop .inv .2)
+    (λ c. c .before .loop .inv .3)
     returns-2)

@@ -10,24 +10,6 @@ mul-i c = let a = c .before .before .before .before .args in omega (arith, mul-l
 add-i : tie.Need-add-i
 add-i c = let a = c .before .before .before .before .args in omega (arith, mul-le-mul {n₁ = a .y} {m₁ = a .group .bw} {n₂ = 32} {m₂ = 32} (omega arith) (omega arith))
 
-order-of-requires : tie.Need-order-of-requires
-order-of-requires c κs = search needs
-
-shape-of-requires : tie.Need-shape-of-requires
-shape-of-requires c κs = search needs
-
-number-at-requires : tie.Need-number-at-requires
-number-at-requires c κs = search needs
-
-number-at-requires-2 : tie.Need-number-at-requires-2
-number-at-requires-2 c κs = search needs
-
-number-at-requires-3 : tie.Need-number-at-requires-3
-number-at-requires-3 c κs = search needs
-
-block-contexts-requires : tie.Need-block-contexts-requires
-block-contexts-requires c κs = search needs
-
 returns : tie.Need-returns
 returns c = rw (c .block-contexts .ensures, c .before .number-at3 .ensures, c .before .before .number-at2 .ensures, c .before .before .before .number-at .ensures, c .before .before .before .before .shape-of .ensures, c .before .before .before .before .before .order-of .ensures)
 
@@ -37,10 +19,10 @@ plan-of-spec =
     (tie.spec
     mul-i
     add-i
-    order-of-requires
-    shape-of-requires
-    number-at-requires
-    number-at-requires-2
-    number-at-requires-3
-    block-contexts-requires
+    (λ c κs. search needs)
+    (λ c κs. search needs)
+    (λ c κs. search needs)
+    (λ c κs. search needs)
+    (λ c κs. search needs)
+    (λ c κs. search needs)
     returns)

@@ -6,30 +6,6 @@ use Prim.Native.Nat.{_-_}
 use Rattle.coeff_call.proofs.plan.shape_of.Statement.{statement}
 use Rattle.coeff_call.proofs.plan.shape_of.Tie as tie
 
-sub-from-number : tie.Need-sub-from-number
-sub-from-number c = search needs
-
-cast-from-number : tie.Need-cast-from-number
-cast-from-number c = search needs
-
-from-number-requires : tie.Need-from-number-requires
-from-number-requires c κs = search needs
-
-enum-known-looked : tie.Need-enum-known-looked
-enum-known-looked c = search needs
-
-dct-select-size-requires : tie.Need-dct-select-size-requires
-dct-select-size-requires c κs = search needs
-
-need-transpose-requires : tie.Need-need-transpose-requires
-need-transpose-requires c κs = search needs
-
-exponent-of-requires : tie.Need-exponent-of-requires
-exponent-of-requires c κs = search needs
-
-enum-told : tie.Need-enum-told
-enum-told c = search needs
-
 returns : tie.Need-returns
 returns c =
     let a = c .before .before .before .before .before .before .before .args in
@@ -42,13 +18,13 @@ pub shape-of-spec : {M : Type 1} → statement M
 shape-of-spec =
     tie.close
     (tie.spec
-    sub-from-number
-    cast-from-number
-    from-number-requires
-    enum-known-looked
-    dct-select-size-requires
-    need-transpose-requires
-    exponent-of-requires
-    enum-told
+    (λ c. search needs)
+    (λ c. search needs)
+    (λ c κs. search needs)
+    (λ c. search needs)
+    (λ c κs. search needs)
+    (λ c κs. search needs)
+    (λ c κs. search needs)
+    (λ c. search needs)
     returns
     returns-2)

@@ -13,24 +13,6 @@ Inv-loop row₀ x n v k₀ row k = (k ≤ n) × (rowOf row (x + k) (n - k) v ≡
 abbrev μ-loop : tie.MeasureT-loop
 μ-loop row₀ x n v k₀ row k = n - k
 
-loop-holds : tie.Need-loop-holds Inv-loop μ-loop
-loop-holds c = let a = c .args in (omega arith, row-start _ (a .x) (a .n) (a .v))
-
-add-row : tie.Need-add-row Inv-loop μ-loop
-add-row c = search needs
-
-mul-row : tie.Need-mul-row Inv-loop μ-loop
-mul-row c = search needs
-
-element-write-row : tie.Need-element-write-row Inv-loop μ-loop
-element-write-row c = search needs
-
-add-k : tie.Need-add-k Inv-loop μ-loop
-add-k c = search needs
-
-loop-less : tie.Need-loop-less Inv-loop μ-loop
-loop-less c = search needs
-
 loop-again : tie.Need-loop-again Inv-loop μ-loop
 loop-again c =
     let l = c .before .loop in
@@ -49,11 +31,11 @@ rewrite-spec =
     (tie.spec
     Inv-loop
     μ-loop
-    loop-holds
-    add-row
-    mul-row
-    element-write-row
-    add-k
-    loop-less
+    (λ c. let a = c .args in (omega arith, row-start _ (a .x) (a .n) (a .v)))
+    (λ c. search needs)
+    (λ c. search needs)
+    (λ c. search needs)
+    (λ c. search needs)
+    (λ c. search needs)
     loop-again
     returns)

@@ -4,15 +4,6 @@ use borrow.Author.Needs.{needs}
 use Rattle.coeff_checks.proofs.checks.layout_fits.Statement.{statement}
 use Rattle.coeff_checks.proofs.checks.layout_fits.Tie as tie
 
-check-group-requires : tie.Need-check-group-requires
-check-group-requires c κs = search needs
-
-enum-told : tie.Need-enum-told
-enum-told c = search needs
-
-enum-told-2 : tie.Need-enum-told-2
-enum-told-2 c = search needs
-
 returns : tie.Need-returns
 returns c =
     let a = c .before .before .before .before .before .args in
@@ -26,4 +17,4 @@ returns-2 c =
     sym (ap isFine (c .enum-told2 .given .1)) ∙ passes-by (a .group .bw) (a .group .bh) (a .kinds .now) (a .hf-mul .now) (k .result) (k .ensures)
 
 pub layout-fits-spec : {M : Type 1} → statement M
-layout-fits-spec = tie.close (tie.spec check-group-requires enum-told enum-told-2 returns returns-2)
+layout-fits-spec = tie.close (tie.spec (λ c κs. search needs) (λ c. search needs) (λ c. search needs) returns returns-2)

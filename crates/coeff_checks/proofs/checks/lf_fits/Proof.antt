@@ -8,13 +8,10 @@ returns c =
     let a = c .before .args in
     rw (not-true (a .there) (c .if1 .taken))
 
-three-fit-requires : tie.Need-three-fit-requires
-three-fit-requires c κs = search needs
-
 returns-2 : tie.Need-returns-2
 returns-2 c =
     let a = c .before .before .args in
     rw (not-false (a .there) (c .before .if1 .left)) (c .three-fit .ensures)
 
 pub lf-fits-spec : {M : Type 1} → statement M
-lf-fits-spec = tie.close (tie.spec returns three-fit-requires returns-2)
+lf-fits-spec = tie.close (tie.spec returns (λ c κs. search needs) returns-2)

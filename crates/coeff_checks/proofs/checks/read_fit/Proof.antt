@@ -15,9 +15,6 @@ returns-2 c =
     let a = c .before .before .args in
     rw (eq-eqb (a .kinds) (a .n) (c .before .if1 .left), ne-eqb (a .hf-mul) (a .n) (c .if2 .taken))
 
-lf-fits-requires : tie.Need-lf-fits-requires
-lf-fits-requires c κs = search needs
-
 returns-3 : tie.Need-returns-3
 returns-3 c =
     let a = c .before .before .before .before .args in
@@ -32,4 +29,4 @@ returns-4 c =
     rw (eq-eqb (a .kinds) (a .n) (c .before .before .before .if1 .left), eq-eqb (a .hf-mul) (a .n) (c .before .before .if2 .left), f)
 
 pub read-fit-spec : {M : Type 1} → statement M
-read-fit-spec = tie.close (tie.spec returns returns-2 lf-fits-requires returns-3 returns-4)
+read-fit-spec = tie.close (tie.spec returns returns-2 (λ c κs. search needs) returns-3 returns-4)

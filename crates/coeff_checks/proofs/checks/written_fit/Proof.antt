@@ -7,9 +7,6 @@ use Prim.Native.Nat.{_*_}
 use Rattle.coeff_checks.proofs.checks.written_fit.Statement.{statement}
 use Rattle.coeff_checks.proofs.checks.written_fit.Tie as tie
 
-returns : tie.Need-returns
-returns c = let a = c .before .args in rw (lt-leb (a .clusters) 16 (omega arith))
-
 returns-2 : tie.Need-returns-2
 returns-2 c = let a = c .before .before .args in rw (le-leb (a .clusters) 16 (omega arith), lt-leb (a .presets) 256 (omega arith))
 
@@ -19,29 +16,17 @@ returns-3 c = let a = c .before .before .before .args in rw (le-leb (a .clusters
 returns-4 : tie.Need-returns-4
 returns-4 c = let a = c .before .before .before .before .args in rw (le-leb (a .clusters) 16 (omega arith), le-leb (a .presets) 256 (omega arith), le-leb (a .n) 1024 (omega arith), not-true (a .first) (c .if4 .taken))
 
-mul-bytes : tie.Need-mul-bytes
-mul-bytes c = search needs
-
 mul-bytes-2 : tie.Need-mul-bytes-2
 mul-bytes-2 c = let a = c .before .before .before .before .args in omega (arith, map-most (a .clusters) (a .presets) (omega arith) (omega arith))
 
 returns-5 : tie.Need-returns-5
 returns-5 c = let a = c .before .before .before .before .before .args in rw (le-leb (a .clusters) 16 (omega arith), le-leb (a .presets) 256 (omega arith), le-leb (a .n) 1024 (omega arith), not-false (a .first) (c .before .if4 .left), ne-eqb (a .cluster-map) (495 * a .clusters * a .presets) (c .if5 .taken))
 
-mul-three-fit : tie.Need-mul-three-fit
-mul-three-fit c = search needs
-
-three-fit-requires : tie.Need-three-fit-requires
-three-fit-requires c κs = search needs
-
 returns-6 : tie.Need-returns-6
 returns-6 c =
     let a = c .before .before .before .before .before .before .before .args in
     let f = sym (c .before .three-fit .ensures) ∙ not-true (c .before .three-fit .result) (c .if6 .taken) in
     rw (le-leb (a .clusters) 16 (omega arith), le-leb (a .presets) 256 (omega arith), le-leb (a .n) 1024 (omega arith), not-false (a .first) (c .before .before .before .if4 .left), eq-eqb (a .cluster-map) (495 * a .clusters * a .presets) (c .before .before .if5 .left), f)
-
-mul-result : tie.Need-mul-result
-mul-result c = search needs
 
 returns-7 : tie.Need-returns-7
 returns-7 c =
@@ -53,15 +38,15 @@ pub written-fit-spec : {M : Type 1} → statement M
 written-fit-spec =
     tie.close
     (tie.spec
-    returns
+    (λ c. let a = c .before .args in rw (lt-leb (a .clusters) 16 (omega arith)))
     returns-2
     returns-3
     returns-4
-    mul-bytes
+    (λ c. search needs)
     mul-bytes-2
     returns-5
-    mul-three-fit
-    three-fit-requires
+    (λ c. search needs)
+    (λ c κs. search needs)
     returns-6
-    mul-result
+    (λ c. search needs)
     returns-7)

@@ -4,17 +4,5 @@ use borrow.Author.Needs.{needs}
 use Rattle.coeff_places.proofs.context.place_entry.Statement.{statement}
 use Rattle.coeff_places.proofs.context.place_entry.Tie as tie
 
-shr-b : tie.Need-shr-b
-shr-b c = search needs
-
-element-copy-out-to-usize : tie.Need-element-copy-out-to-usize
-element-copy-out-to-usize c = below-63 (c .args .exponent) (c .args .i) (omega arith)
-
-to-usize-requires : tie.Need-to-usize-requires
-to-usize-requires c κs = search needs
-
-returns : tie.Need-returns
-returns c = (rw (c .to-usize .ensures .0, c .before .before .pre .0), c .to-usize .ensures .1)
-
 pub place-entry-spec : {M : Type 1} → statement M
-place-entry-spec = tie.close (tie.spec shr-b element-copy-out-to-usize to-usize-requires returns)
+place-entry-spec = tie.close (tie.spec (λ c. search needs) (λ c. below-63 (c .args .exponent) (c .args .i) (omega arith)) (λ c κs. search needs) (λ c. (rw (c .to-usize .ensures .0, c .before .before .pre .0), c .to-usize .ensures .1)))

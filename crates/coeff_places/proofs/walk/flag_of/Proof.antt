@@ -5,11 +5,5 @@ use borrow.Author.Needs.{needs}
 use Rattle.coeff_places.proofs.walk.flag_of.Statement.{statement}
 use Rattle.coeff_places.proofs.walk.flag_of.Tie as tie
 
-returns : tie.Need-returns
-returns c = search needs
-
-returns-2 : tie.Need-returns-2
-returns-2 c = (sym (flag-one (c .before .args .u) (c .if1 .left)), omega arith)
-
 pub flag-of-spec : {M : Type 1} → statement M
-flag-of-spec = tie.close (tie.spec returns returns-2)
+flag-of-spec = tie.close (tie.spec (λ c. search needs) (λ c. (sym (flag-one (c .before .args .u) (c .if1 .left)), omega arith)))

@@ -14,38 +14,11 @@ abbrev μ-loop : tie.MeasureT-loop
 loop-holds : tie.Need-loop-holds Inv-loop μ-loop
 loop-holds c = let a = c .before .before .before .args in zeros-start (a .exponent) (a .entries .now) (a .symbols .now) (a .start) (a .from) (a .stop) (a .log .now) (c .before .before .before .pre .1 .begins)
 
-add-at : tie.Need-add-at Inv-loop μ-loop
-add-at c = search needs
-
-mul-if1 : tie.Need-mul-if1 Inv-loop μ-loop
-mul-if1 c = search needs
-
-shared-slice-read-if1 : tie.Need-shared-slice-read-if1 Inv-loop μ-loop
-shared-slice-read-if1 c = search needs
-
-same-length : tie.Need-same-length Inv-loop μ-loop
-same-length c = search needs
-
-returns : tie.Need-returns Inv-loop μ-loop
-returns c = search needs
-
 place-entry-requires : tie.Need-place-entry-requires Inv-loop μ-loop
 place-entry-requires c κs = (c .before .before .before .before .before .before .before .pre .0, c .before .before .before .before .before .before .before .pre .1 .small, omega (arith, c .before .before .before .before .before .before .before .pre .1 .places))
 
-mul-log : tie.Need-mul-log Inv-loop μ-loop
-mul-log c = search needs
-
 shared-slice-read-log : tie.Need-shared-slice-read-log Inv-loop μ-loop
 shared-slice-read-log c = omega (arith, c .before .place-entry .ensures .0, c .before .before .before .before .before .before .before .before .before .pre .1 .enough, freq-at (c .before .before .before .before .before .before .before .before .before .args .exponent) (c .before .before .before .before .before .loop .k) (omega (arith, c .before .before .before .before .before .before .before .before .before .pre .1 .places)))
-
-slice-write-log : tie.Need-slice-write-log Inv-loop μ-loop
-slice-write-log c = search needs
-
-add-k : tie.Need-add-k Inv-loop μ-loop
-add-k c = search needs
-
-loop-less : tie.Need-loop-less Inv-loop μ-loop
-loop-less c = search needs
 
 loop-again : tie.Need-loop-again Inv-loop μ-loop
 loop-again c =
@@ -54,12 +27,6 @@ loop-again c =
     let p = c .before .before .before .before .before .before .before .before .before .pre in
     rw (c .before .place-entry .ensures .0) (zeros-turn (a .exponent) (a .entries .now) (a .symbols .now) (a .start) (a .from) (a .stop) (a .log .now) (l .k) (l .log) (omega arith) (p .1 .places) (p .1 .lent) (c .before .before .if1 .left) (l .inv))
 
-same-length-2 : tie.Need-same-length-2 Inv-loop μ-loop
-same-length-2 c = search needs
-
-returns-2 : tie.Need-returns-2 Inv-loop μ-loop
-returns-2 c = search needs
-
 pub pass-zeros-spec : {M : Type 1} → statement M
 pass-zeros-spec =
     tie.close
@@ -67,17 +34,17 @@ pass-zeros-spec =
     Inv-loop
     μ-loop
     loop-holds
-    add-at
-    mul-if1
-    shared-slice-read-if1
-    same-length
-    returns
+    (λ c. search needs)
+    (λ c. search needs)
+    (λ c. search needs)
+    (λ c. search needs)
+    (λ c. search needs)
     place-entry-requires
-    mul-log
+    (λ c. search needs)
     shared-slice-read-log
-    slice-write-log
-    add-k
-    loop-less
+    (λ c. search needs)
+    (λ c. search needs)
+    (λ c. search needs)
     loop-again
-    same-length-2
-    returns-2)
+    (λ c. search needs)
+    (λ c. search needs))

@@ -1,6 +1,6 @@
 use borrow.Author.Needs.{needs}
 use mathlib.Core.Path.{refl, _≡_, _∙_, sym}
-use Prim.Native.Nat.{_^_, _≤_, _-_, _+_, _*_}
+use Prim.Native.Nat.{_^_, _<_, _≤_, _-_, _+_, _*_}
 use Rattle.coeff_walk.specs.Walk.{walk}
 use Rattle.coeff_walk.specs.laws.PlaceLaws.{places-count}
 use native.Mathlib.Omega.{arith}
@@ -24,14 +24,12 @@ abbrev μ-loop : tie.MeasureT-loop
 μ-loop nonzeros frequencies list spot symbols start count first-prev coeff-map shift log₀ grid₀ at₀ left₀ prev₀ k₀ end log grid at left prev k =
     end - k
 
+-- There is a place.
+place : (c : tie.Else1 Inv-loop μ-loop) → c .before .before .loop .k < length (spotCells (c .before .before .before .before .before .before .before .before .args .spot) (c .before .before .before .before .before .before .before .before .args .list .now))
+place c = omega (arith, c .before .loop-test .taken, c .before .before .loop .inv .5)
+
 loop-holds : tie.Need-loop-holds Inv-loop μ-loop
-loop-holds c = let a = c .before .before .before .before .before .args in (omega arith, omega arith, omega arith, refl, refl, sym (places-count (a .spot .turn) (a .spot .width) (a .spot .x) (a .spot .y) (a .list .now)), refl)
-
-same-length : tie.Need-same-length Inv-loop μ-loop
-same-length c = search needs
-
-same-length-2 : tie.Need-same-length-2 Inv-loop μ-loop
-same-length-2 c = search needs
+loop-holds c = let a = c .before .before .before .before .before .args in let r = c .before .before .before .before .before .pre .2 in (omega arith, r .counted, r .flagged, refl, refl, sym (places-count (a .spot .turn) (a .spot .width) (a .spot .x) (a .spot .y) (a .list .now)), refl)
 
 returns : tie.Need-returns Inv-loop μ-loop
 returns c =
@@ -39,93 +37,56 @@ returns c =
     let a = c .before .before .before .before .before .before .before .before .args in
     ends _ _ _ (walk-used (a .shift) (2 ^ (a .spot .exponent)) (a .coeff-map .now) (spotCells (a .spot) (a .list .now)) (a .symbols .now) (l .k) (l .prev) (l .left) (l .at) (l .log) (l .grid) (c .if1 .taken)) (l .inv .6)
 
-sub-coeff-context : tie.Need-sub-coeff-context Inv-loop μ-loop
-sub-coeff-context c = search needs
-
 coeff-context-requires : tie.Need-coeff-context-requires Inv-loop μ-loop
-coeff-context-requires c κs = search needs
-
-same-length-3 : tie.Need-same-length-3 Inv-loop μ-loop
-same-length-3 c = search needs
-
-same-length-4 : tie.Need-same-length-4 Inv-loop μ-loop
-same-length-4 c = search needs
+coeff-context-requires c κs = (c .before .before .before .before .before .before .before .before .pre .0, c .before .before .before .before .before .before .before .before .pre .1, c .before .before .before .before .before .before .before .before .pre .2 .exponent, omega (arith, c .if1 .left, c .before .before .loop .inv .1), omega (arith, c .before .loop-test .taken, c .before .before .before .before .before .before .before .before .pre .2 .fits), c .before .before .loop .inv .2)
 
 returns-2 : tie.Need-returns-2 Inv-loop μ-loop
 returns-2 c =
     let l = c .before .before .before .before .loop in
     let a = c .before .before .before .before .before .before .before .before .before .before .args in
-    ends _ _ _ (walk-17 (a .shift) (2 ^ (a .spot .exponent)) (a .coeff-map .now) (spotCells (a .spot) (a .list .now)) (a .symbols .now) (l .k) (l .prev) (l .left) (l .at) (l .log) (l .grid) (omega arith) (omega arith) (omega arith)) (l .inv .6)
-
-same-length-5 : tie.Need-same-length-5 Inv-loop μ-loop
-same-length-5 c = search needs
-
-same-length-6 : tie.Need-same-length-6 Inv-loop μ-loop
-same-length-6 c = search needs
+    ends _ _ _ (walk-17 (a .shift) (2 ^ (a .spot .exponent)) (a .coeff-map .now) (spotCells (a .spot) (a .list .now)) (a .symbols .now) (l .k) (l .prev) (l .left) (l .at) (l .log) (l .grid) (place (c .before .before)) (omega (arith, c .before .before .if1 .left)) (omega (arith, c .if2 .taken, c .before .coeff-context .ensures))) (l .inv .6)
 
 returns-3 : tie.Need-returns-3 Inv-loop μ-loop
 returns-3 c =
     let l = c .before .before .before .before .before .loop in
     let a = c .before .before .before .before .before .before .before .before .before .before .before .args in
-    ends _ _ _ (walk-15 (a .shift) (2 ^ (a .spot .exponent)) (a .coeff-map .now) (spotCells (a .spot) (a .list .now)) (a .symbols .now) (l .k) (l .prev) (l .left) (l .at) (l .log) (l .grid) (omega arith) (omega arith) (omega arith) (omega arith)) (l .inv .6)
-
-mul-u : tie.Need-mul-u Inv-loop μ-loop
-mul-u c = search needs
-
-shared-slice-read-u : tie.Need-shared-slice-read-u Inv-loop μ-loop
-shared-slice-read-u c = search needs
+    ends _ _ _ (walk-15 (a .shift) (2 ^ (a .spot .exponent)) (a .coeff-map .now) (spotCells (a .spot) (a .list .now)) (a .symbols .now) (l .k) (l .prev) (l .left) (l .at) (l .log) (l .grid) (place (c .before .before .before)) (omega (arith, c .before .before .before .if1 .left)) (omega (arith, c .before .if2 .left, c .before .before .coeff-context .ensures)) (c .if3 .taken)) (l .inv .6)
 
 shared-slice-read-log : tie.Need-shared-slice-read-log Inv-loop μ-loop
-shared-slice-read-log c = search needs
+shared-slice-read-log c = omega (arith, c .before .before .before .if2 .left, c .before .before .before .before .before .before .before .before .before .before .before .before .before .pre .2 .entries)
 
 slice-write-log : tie.Need-slice-write-log Inv-loop μ-loop
-slice-write-log c = search needs
+slice-write-log c = omega (arith, c .before .before .before .before .before .before .before .loop .inv .0, c .before .before .before .before .before .before .before .loop .inv .3, c .before .before .before .before .before .before .loop-test .taken, c .before .before .before .before .before .before .before .before .before .before .before .before .before .pre .2 .room)
 
 gain-at-requires : tie.Need-gain-at-requires Inv-loop μ-loop
-gain-at-requires c κs =
-    let r = c .before .before .before .before .before .before .before .before .before .before .before .before .before .before .pre .2 in
-    (omega arith, r .width, r .left, r .top, r .shifts)
-
-flag-of-requires : tie.Need-flag-of-requires Inv-loop μ-loop
-flag-of-requires c κs = search needs
+gain-at-requires c κs = let r = c .before .before .before .before .before .before .before .before .before .before .before .before .before .before .pre .2 in (c .before .before .before .before .before .before .before .loop-test .taken, r .width, r .left, r .top, r .shifts)
 
 sub-left : tie.Need-sub-left Inv-loop μ-loop
-sub-left c = search needs
-
-add-at : tie.Need-add-at Inv-loop μ-loop
-add-at c = search needs
-
-add-k : tie.Need-add-k Inv-loop μ-loop
-add-k c = search needs
+sub-left c = omega (arith, c .flag-of .ensures .1, c .before .before .before .before .before .before .before .before .before .before .if1 .left)
 
 loop-less : tie.Need-loop-less Inv-loop μ-loop
-loop-less c = search needs
+loop-less c = omega (arith, c .before .before .before .before .before .before .before .before .before .before .before .loop-test .taken)
 
 loop-again : tie.Need-loop-again Inv-loop μ-loop
 loop-again c =
     let l = c .before .before .before .before .before .before .before .before .before .before .before .before .loop in
-    let a = c .before .before .before .before .before .before .before .before .before .before .before .before .before .before .before .before .before .before .args in (
-      omega arith,
-      omega arith,
+    let a = c .before .before .before .before .before .before .before .before .before .before .before .before .before .before .before .before .before .before .args in
+    let n : 0 < l .left = omega (arith, c .before .before .before .before .before .before .before .before .before .before .if1 .left) in (
+      omega (arith, l .inv .0),
+      omega (arith, l .inv .1),
       c .flag-of .ensures .1,
-      simp length-set (omega arith),
-      omega arith,
+      length-set (l .log) (l .at) _ ∙ l .inv .3,
+      c .before .before .grid .given ∙ l .inv .4,
       l .inv .5,
       rw (c .flag-of .ensures .0, c .before .before .before .gain-at .ensures, c .before .before .before .before .before .before .before .before .before .coeff-context .ensures)
-          (sym (walk-step (a .shift) (2 ^ (a .spot .exponent)) (a .coeff-map .now) (spotCells (a .spot) (a .list .now)) (a .symbols .now) (l .k) (l .prev) (l .left) (l .at) (l .log) (l .grid) (omega arith) (omega arith) (omega arith) (omega arith)) ∙ l .inv .6),
+          (sym (walk-step (a .shift) (2 ^ (a .spot .exponent)) (a .coeff-map .now) (spotCells (a .spot) (a .list .now)) (a .symbols .now) (l .k) (l .prev) (l .left) (l .at) (l .log) (l .grid) (place (c .before .before .before .before .before .before .before .before .before .before)) n (omega (arith, c .before .before .before .before .before .before .before .before .if2 .left, c .before .before .before .before .before .before .before .before .before .coeff-context .ensures)) (c .before .before .before .before .before .before .before .if3 .left)) ∙ l .inv .6),
     )
-
-same-length-7 : tie.Need-same-length-7 Inv-loop μ-loop
-same-length-7 c = search needs
-
-same-length-8 : tie.Need-same-length-8 Inv-loop μ-loop
-same-length-8 c = search needs
 
 returns-4 : tie.Need-returns-4 Inv-loop μ-loop
 returns-4 c =
     let l = c .before .loop in
     let a = c .before .before .before .before .before .before .before .args in
-    ends _ _ _ (walk-done (a .shift) (2 ^ (a .spot .exponent)) (a .coeff-map .now) (spotCells (a .spot) (a .list .now)) (a .symbols .now) (l .k) (l .prev) (l .left) (l .at) (l .log) (l .grid) (omega arith)) (l .inv .6)
+    ends _ _ _ (walk-done (a .shift) (2 ^ (a .spot .exponent)) (a .coeff-map .now) (spotCells (a .spot) (a .list .now)) (a .symbols .now) (l .k) (l .prev) (l .left) (l .at) (l .log) (l .grid) (omega (arith, c .loop-test .left, l .inv .5))) (l .inv .6)
 
 pub walk-dense-spec : {M : Type 1} → statement M
 walk-dense-spec =
@@ -134,28 +95,28 @@ walk-dense-spec =
     Inv-loop
     μ-loop
     loop-holds
-    same-length
-    same-length-2
+    (λ c. c .before .before .loop .inv .3)
+    (λ c. c .before .before .loop .inv .4)
     returns
-    sub-coeff-context
+    (λ c. omega (arith, c .if1 .left))
     coeff-context-requires
-    same-length-3
-    same-length-4
+    (λ c. c .before .before .before .before .loop .inv .3)
+    (λ c. c .before .before .before .before .loop .inv .4)
     returns-2
-    same-length-5
-    same-length-6
+    (λ c. c .before .before .before .before .before .loop .inv .3)
+    (λ c. c .before .before .before .before .before .loop .inv .4)
     returns-3
-    mul-u
-    shared-slice-read-u
+    (λ c. search needs)
+    (λ c. c .before .if3 .left)
     shared-slice-read-log
     slice-write-log
     gain-at-requires
-    flag-of-requires
+    (λ c κs. tt)
     sub-left
-    add-at
-    add-k
+    (λ c. search needs)
+    (λ c. search needs)
     loop-less
     loop-again
-    same-length-7
-    same-length-8
+    (λ c. c .before .loop .inv .3)
+    (λ c. c .before .loop .inv .4)
     returns-4)

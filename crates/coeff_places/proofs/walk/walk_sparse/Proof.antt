@@ -40,9 +40,6 @@ entry c = ap (λ (n : ℕ). 2 * n) (c .count-entry .ensures .0)
 loop-holds : tie.Need-loop-holds Inv-loop μ-loop
 loop-holds c = let m = c .lesser-of .ensures in let b = c .before .behind .ensures in sparse-start (c .before .before .before .before .before .before .before .pre .2) (c .before .before .before .before .before .before .before .pre .3) (c .lesser-of .result) (m .0) (omega (arith, m .1, b)) (λ h. m .2 h ∙ b)
 
-returns : tie.Need-returns Inv-loop μ-loop
-returns c = sparse-used (c .before .before .loop .inv) (c .if1 .taken)
-
 coeff-context-requires : tie.Need-coeff-context-requires Inv-loop μ-loop
 coeff-context-requires c κs = let t = turning c in (c .before .before .before .before .before .before .before .before .before .before .pre .0, c .before .before .before .before .before .before .before .before .before .before .pre .1, c .before .before .before .before .before .before .before .before .before .before .pre .2 .exponent, t .counts, t .few, c .before .before .loop .inv .flagged)
 
@@ -58,9 +55,6 @@ sub-zeros-from c = omega (arith, entry c, turning (c .before .before .before .be
 zeros-from-requires : tie.Need-zeros-from-requires Inv-loop μ-loop
 zeros-from-requires c κs = (c .before .before .before .before .before .before .before .before .before .before .before .before .before .before .before .before .before .pre .1, zeros-ready (c .before .before .before .before .before .before .before .before .before .loop .inv) (c .before .before .before .before .before .before .before .before .before .before .before .before .before .before .before .before .before .pre .2) (turning (c .before .before .before .before .before .before .before)) (c .before .before .before .before .before .before .coeff-context .ensures) (entry (c .before .before)) (c .before .before .before .before .before .before .before .before .loop-test .taken))
 
-loop-less : tie.Need-loop-less Inv-loop μ-loop
-loop-less c = omega (arith, c .before .before .zeros-from .ensures .lower, c .before .before .zeros-from .ensures .upper)
-
 loop-again : tie.Need-loop-again Inv-loop μ-loop
 loop-again c = zero-again (c .before .before .before .before .before .before .before .before .before .before .before .before .loop .inv) (c .before .before .before .before .before .before .before .before .before .before .before .before .before .before .before .before .before .before .before .before .pre .2) (turning (c .before .before .before .before .before .before .before .before .before .before)) (c .before .before .before .before .before .before .before .before .before .coeff-context .ensures) (entry (c .before .before .before .before .before)) (c .before .before .before .before .before .before .if2 .taken) (c .before .before .zeros-from .ensures)
 
@@ -69,12 +63,6 @@ gain-at-requires c κs = let r = c .before .before .before .before .before .befo
 
 loop-again-2 : tie.Need-loop-again-2 Inv-loop μ-loop
 loop-again-2 c = more-again (c .before .before .before .before .before .before .before .before .before .before .loop .inv) (c .before .before .before .before .before .before .before .before .before .before .before .before .before .before .before .before .before .before .pre .2) (turning (c .before .before .before .before .before .before .before .before)) (c .before .before .before .before .before .before .before .coeff-context .ensures) (c .before .before .before .before .before .before .before .before .before .loop-test .taken) (c .before .before .before .before .if2 .left) (c .before .before .gain-at .ensures)
-
-returns-2 : tie.Need-returns-2 Inv-loop μ-loop
-returns-2 c = sparse-done (c .before .before .loop .inv) (c .if3 .taken)
-
-returns-3 : tie.Need-returns-3 Inv-loop μ-loop
-returns-3 c = sparse-used (c .before .before .before .loop .inv) (c .if4 .taken)
 
 returns-4 : tie.Need-returns-4 Inv-loop μ-loop
 returns-4 c = sparse-ends (c .before .before .before .loop .inv) (c .before .before .before .before .before .before .before .before .before .before .before .pre .2) (c .before .before .loop-test .left) (c .before .if3 .left) (c .if4 .left)
@@ -91,7 +79,7 @@ walk-sparse-spec =
     (λ c. at-fits (c .before .before))
     (λ c. c .before .before .loop .inv .logLong)
     (λ c. c .before .before .loop .inv .gridLong)
-    returns
+    (λ c. sparse-used (c .before .before .loop .inv) (c .if1 .taken))
     (λ c. at-fits (c .before .before))
     (λ c. turning c .due)
     coeff-context-requires
@@ -107,7 +95,7 @@ walk-sparse-spec =
     sub-zeros-from
     (λ c. search needs)
     zeros-from-requires
-    loop-less
+    (λ c. omega (arith, c .before .before .zeros-from .ensures .lower, c .before .before .zeros-from .ensures .upper))
     loop-again
     gain-at-requires
     (λ c. turning (c .before .before .before .before .before .before .before .before) .due)
@@ -117,11 +105,11 @@ walk-sparse-spec =
     (λ c. at-fits (c .before .before))
     (λ c. c .before .before .loop .inv .logLong)
     (λ c. c .before .before .loop .inv .gridLong)
-    returns-2
+    (λ c. sparse-done (c .before .before .loop .inv) (c .if3 .taken))
     (λ c. at-fits (c .before .before .before))
     (λ c. c .before .before .before .loop .inv .logLong)
     (λ c. c .before .before .before .loop .inv .gridLong)
-    returns-3
+    (λ c. sparse-used (c .before .before .before .loop .inv) (c .if4 .taken))
     (λ c. at-fits (c .before .before .before))
     (λ c. c .before .before .before .loop .inv .logLong)
     (λ c. c .before .before .before .loop .inv .gridLong)

@@ -9,12 +9,6 @@ use Rattle.coeff_walk.specs.laws.Counts.{index-small}
 use Rattle.coeff_varblock.proofs.count.count_cluster.Statement.{statement}
 use Rattle.coeff_varblock.proofs.count.count_cluster.Tie as tie
 
-predict-requires : tie.Need-predict-requires
-predict-requires c κs = search needs
-
-count-index-requires : tie.Need-count-index-requires
-count-index-requires c κs = search needs
-
 mul-entry : tie.Need-mul-entry
 mul-entry c =
     let p = c .before .predict in
@@ -35,9 +29,6 @@ returns c =
     let e : c .before .count-index .result ≡ countIndex (predicted (a .row .now) (a .x) (a .y)) = c .before .count-index .ensures ∙ ap countIndex (c .before .before .predict .ensures .0) in
     sym (List·getD-eq-default (a .preset-map .now) 0 {n = a .block-context + countIndex (predicted (a .row .now) (a .x) (a .y)) * a .clusters} (rw (← e) (c .if1 .taken)))
 
-shared-slice-read-result : tie.Need-shared-slice-read-result
-shared-slice-read-result c = search needs
-
 returns-2 : tie.Need-returns-2
 returns-2 c =
     let a = c .before .before .before .before .before .args in
@@ -48,10 +39,10 @@ pub count-cluster-spec : {M : Type 1} → statement M
 count-cluster-spec =
     tie.close
     (tie.spec
-    predict-requires
-    count-index-requires
+    (λ c κs. search needs)
+    (λ c κs. search needs)
     mul-entry
     add-entry
     returns
-    shared-slice-read-result
+    (λ c. search needs)
     returns-2)

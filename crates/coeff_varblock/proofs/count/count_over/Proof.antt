@@ -8,17 +8,11 @@ use mathlib.Core.Path.{_≡_, _∙_}
 use Rattle.coeff_varblock.proofs.count.count_over.Statement.{statement}
 use Rattle.coeff_varblock.proofs.count.count_over.Tie as tie
 
-shl-blocks : tie.Need-shl-blocks
-shl-blocks c = search needs
-
 add-result : tie.Need-add-result
 add-result c = let a = c .args in omega (arith, shifted-left 1 (a .exponent) (omega arith) (omega arith), power-le (a .exponent) (omega arith), pow-pos (a .exponent))
 
 sub-result : tie.Need-sub-result
 sub-result c = let a = c .args in omega (arith, shifted-left 1 (a .exponent) (omega arith) (omega arith), power-le (a .exponent) (omega arith), pow-pos (a .exponent))
-
-shr-result : tie.Need-shr-result
-shr-result c = search needs
 
 cast-result : tie.Need-cast-result
 cast-result c =
@@ -34,4 +28,4 @@ returns c =
 
 pub count-over-spec : {M : Type 1} → statement M
 count-over-spec =
-    tie.close (tie.spec shl-blocks add-result sub-result shr-result cast-result returns)
+    tie.close (tie.spec (λ c. search needs) add-result sub-result (λ c. search needs) cast-result returns)
