@@ -57,6 +57,40 @@ wholeAt c =
 few : (y w x : ℕ) → y < 32 → w ≤ 32 → x < 32 → y * w + x < 1024
 few y w x a b d = let m : y * w ≤ 31 * 32 = mul-le-mul (let e : y ≤ 31 = omega arith in e) b in omega arith
 
+-- A corner is found: the stages that lead there, what is due, how long the lent lists are, and that it lies inside.
+abbrev startOf : tie.Else1 Inv-loop2 μ-loop2 Inv-loop μ-loop → tie.Start Inv-loop2 μ-loop2 Inv-loop μ-loop
+startOf c = c .before .before .before .before .before .before .before .before .before .before .before .before .before .before .before .before .before .before .before
+
+abbrev rowOf : tie.Else1 Inv-loop2 μ-loop2 Inv-loop μ-loop → tie.At-loop Inv-loop2 μ-loop2 Inv-loop μ-loop
+rowOf c = c .before .before .before .before .before
+
+abbrev blockOf : tie.Else1 Inv-loop2 μ-loop2 Inv-loop μ-loop → tie.At-loop2 Inv-loop2 μ-loop2 Inv-loop μ-loop
+blockOf c = c .before .before .before
+
+due : (c : tie.Else1 Inv-loop2 μ-loop2 Inv-loop μ-loop) →
+    let s = startOf c in
+    let a = s .args in
+    let l = blockOf c .loop2 in
+    Due (a .shift) (a .t4 .«num_block_clusters») (a .preset-map .now) (passAt s) (a .symbols .now) (192 * (a .group .bw * a .group .bh)) (wholeAt s) (rowFrom (passAt s) (l .x) (rowOf c .loop .y)) (l .at) (l .rows) (l .log) (l .g0 ∷ l .g1 ∷ l .g2 ∷ [])
+due c =
+    let s = startOf c in
+    let a = s .args in
+    let o = rowOf c .loop in
+    blockOf c .loop2 .inv .5 (wholeAt s) (due-row (a .shift) (a .t4 .«num_block_clusters») (a .preset-map .now) (passAt s) (a .symbols .now) (192 * (a .group .bw * a .group .bh)) (wholeAt s) (o .at) (o .rows) (o .log) (o .g0 ∷ o .g1 ∷ o .g2 ∷ []) (o .y) (c .before .before .before .before .loop-test .taken) (o .inv .5))
+
+lengths : (c : tie.Else1 Inv-loop2 μ-loop2 Inv-loop μ-loop) →
+    let a = startOf c .args in
+    let l = blockOf c .loop2 in
+    (length (l .log) ≡ length (a .log .now)) × (length (l .g0) ≡ length (a .g0 .now)) × (length (l .g1) ≡ length (a .g1 .now)) × (length (l .g2) ≡ length (a .g2 .now))
+lengths c = let l = blockOf c .loop2 .inv in let o = rowOf c .loop .inv in (l .0 ∙ o .0, l .1 ∙ o .1, l .2 ∙ o .2, l .3 ∙ o .3)
+
+inside : (c : tie.Else1 Inv-loop2 μ-loop2 Inv-loop μ-loop) → (blockOf c .loop2 .x < 32) × (rowOf c .loop .y < 32)
+inside c = let r = startOf c .pre in (omega (arith, c .before .before .loop2-test .taken, r .across), omega (arith, c .before .before .before .before .loop-test .taken, r .below))
+
+-- The varblock is read: its corner.
+abbrev corner : tie.After-slice-known8 Inv-loop2 μ-loop2 Inv-loop μ-loop → tie.Else1 Inv-loop2 μ-loop2 Inv-loop μ-loop
+corner c = c .before .before .before .before .before .before .before .before .before .before .before .before .before .before .before .before .before .before .before .before
+
 loop-holds : tie.Need-loop-holds Inv-loop2 μ-loop2 Inv-loop μ-loop
 loop-holds c =
     let s = c .before .before .before .before .before .before .before .before .before .before .before .before .before in
@@ -90,74 +124,70 @@ loop2-again c =
     (l .inv .0, l .inv .1, l .inv .2, l .inv .3, omega (arith, c .before .before .loop2-test .taken), λ W d. due-skip (a .shift) (a .t4 .«num_block_clusters») (a .preset-map .now) (passAt s) (a .symbols .now) (192 * (a .group .bw * a .group .bh)) W (l .at) (l .rows) (l .log) (l .g0 ∷ l .g1 ∷ l .g2 ∷ []) (l .x) (o .y) (rowsFrom (passAt s) (o .y + 1)) (c .before .before .loop2-test .taken) (c .if1 .taken) (l .inv .5 W d))
 
 mul-plan-of : tie.Need-mul-plan-of Inv-loop2 μ-loop2 Inv-loop μ-loop
-mul-plan-of c =
-    let h = c .before .before .before .before .before .before .before .before .before .before .before .before .before .before .before .before .before .before .before .pre .below in
-    let k = c .before .before .before .before .before .before .before .before .before .before .before .before .before .before .before .before .before .before .before .pre .across in
-    omega (arith, few (c .before .before .before .before .before .loop .y) (c .before .before .before .before .before .before .before .before .before .before .before .before .before .before .before .before .before .before .before .args .group .bw) (c .before .before .before .loop2 .x) (omega (arith, c .before .before .before .before .loop-test .taken)) k (omega (arith, c .before .before .loop2-test .taken)))
+mul-plan-of c = let k = inside c in omega (arith, few (rowOf c .loop .y) (startOf c .args .group .bw) (blockOf c .loop2 .x) (k .1) (startOf c .pre .across) (k .0))
 
 shared-slice-read-plan-of : tie.Need-shared-slice-read-plan-of Inv-loop2 μ-loop2 Inv-loop μ-loop
 shared-slice-read-plan-of c = rw (c .before .before .before .before .before .before .before .before .before .before .before .before .before .before .before .before .before .before .before .before .pre .layout .hfMulLength) (digits-lt (c .before .before .before .before .before .loop-test .taken) (c .before .before .before .loop2-test .taken))
 
 plan-of-requires : tie.Need-plan-of-requires Inv-loop2 μ-loop2 Inv-loop μ-loop
-plan-of-requires c κs =
-    let u = c .before .before .before .before .before .before .before .before .before .before .before .before .before .before .before .before .before .before .before .before .before .before .before .before .pre .across in
-    let v = c .before .before .before .before .before .before .before .before .before .before .before .before .before .before .before .before .before .before .before .before .before .before .before .before .pre .below in
-    (c .before .before .before .before .before .if1 .left, omega (arith, c .before .before .before .before .before .before .before .loop2-test .taken), omega (arith, c .before .before .before .before .before .before .before .before .before .loop-test .taken), u)
+plan-of-requires c κs = let e = c .before .before .before .before .before in let k = inside e in (e .if1 .left, k .0, k .1, startOf e .pre .across)
 
 step-varblock-requires : tie.Need-step-varblock-requires Inv-loop2 μ-loop2 Inv-loop μ-loop
 step-varblock-requires c κs =
-    let s = c .before .before .before .before .before .before .before .before .before .before .before .before .before .before .before .before .before .before .before .before .before .before .before .before .before .before .before .before .before .before in
+    let e = c .before .before .before .before .before .before .before .before .before .before .before in
+    let s = startOf e in
     let a = s .args in
-    let o = c .before .before .before .before .before .before .before .before .before .before .before .before .before .before .before .before .loop in
-    let l = c .before .before .before .before .before .before .before .before .before .before .before .before .before .before .loop2 in
-    let W = wholeAt s in
-    let d = due-row (a .shift) (a .t4 .«num_block_clusters») (a .preset-map .now) (passAt s) (a .symbols .now) (192 * (a .group .bw * a .group .bh)) W (o .at) (o .rows) (o .log) (o .g0 ∷ o .g1 ∷ o .g2 ∷ []) (o .y) (c .before .before .before .before .before .before .before .before .before .before .before .before .before .before .before .loop-test .taken) (o .inv .5) in
-    corner-asks (a .shift) (a .t4 .«num_block_clusters») (a .preset-map .now) (passAt s) (a .symbols .now) (length (a .log .now)) (s .pre) W (l .x) (o .y) (l .at) (l .rows) (l .log) (l .g0 ∷ l .g1 ∷ l .g2 ∷ []) (c .before .before .before .before .before .before .before .before .before .before .before .before .before .loop2-test .taken) (c .before .before .before .before .before .before .before .before .before .before .before .before .before .before .before .loop-test .taken) (c .before .before .before .before .before .before .before .before .before .before .before .if1 .left) (l .inv .5 W d) (c .before .before .before .before .before .plan-of .result) (c .before .before .before .before .before .plan-of .ensures) (l .inv .0 ∙ o .inv .0)
+    let o = rowOf e .loop in
+    let l = blockOf e .loop2 in
+    let p = c .before .before .before .before .before .plan-of in
+    corner-asks (a .shift) (a .t4 .«num_block_clusters») (a .preset-map .now) (passAt s) (a .symbols .now) (length (a .log .now)) (s .pre) (wholeAt s) (l .x) (o .y) (l .at) (l .rows) (l .log) (l .g0 ∷ l .g1 ∷ l .g2 ∷ []) (e .before .before .loop2-test .taken) (e .before .before .before .before .loop-test .taken) (e .if1 .left) (due e) (p .result) (p .ensures) (lengths e .0)
 
 same-length : tie.Need-same-length Inv-loop2 μ-loop2 Inv-loop μ-loop
-same-length c = c .before .before .before .before .before .before .before .before .before .log .given ∙ c .before .before .before .before .before .before .before .before .before .before .before .before .before .before .before .before .before .before .before .before .before .before .before .before .before .loop2 .inv .0 ∙ c .before .before .before .before .before .before .before .before .before .before .before .before .before .before .before .before .before .before .before .before .before .before .before .before .before .before .before .loop .inv .0
+same-length c = c .before .before .before .before .before .before .before .before .before .log .given ∙ lengths (corner (c .before .before)) .0
 
 same-length-2 : tie.Need-same-length-2 Inv-loop2 μ-loop2 Inv-loop μ-loop
-same-length-2 c = c .before .before .before .before .before .before .before .g0 .given ∙ c .before .before .before .before .before .before .before .before .before .before .before .before .before .before .before .before .before .before .before .before .before .before .before .before .before .loop2 .inv .1 ∙ c .before .before .before .before .before .before .before .before .before .before .before .before .before .before .before .before .before .before .before .before .before .before .before .before .before .before .before .loop .inv .1
+same-length-2 c = c .before .before .before .before .before .before .before .g0 .given ∙ lengths (corner (c .before .before)) .1
 
 same-length-3 : tie.Need-same-length-3 Inv-loop2 μ-loop2 Inv-loop μ-loop
-same-length-3 c = c .before .before .before .before .before .g1 .given ∙ c .before .before .before .before .before .before .before .before .before .before .before .before .before .before .before .before .before .before .before .before .before .before .before .before .before .loop2 .inv .2 ∙ c .before .before .before .before .before .before .before .before .before .before .before .before .before .before .before .before .before .before .before .before .before .before .before .before .before .before .before .loop .inv .2
+same-length-3 c = c .before .before .before .before .before .g1 .given ∙ lengths (corner (c .before .before)) .2
 
 same-length-4 : tie.Need-same-length-4 Inv-loop2 μ-loop2 Inv-loop μ-loop
-same-length-4 c = c .before .before .before .g2 .given ∙ c .before .before .before .before .before .before .before .before .before .before .before .before .before .before .before .before .before .before .before .before .before .before .before .before .before .loop2 .inv .3 ∙ c .before .before .before .before .before .before .before .before .before .before .before .before .before .before .before .before .before .before .before .before .before .before .before .before .before .before .before .loop .inv .3
+same-length-4 c = c .before .before .before .g2 .given ∙ lengths (corner (c .before .before)) .3
 
 returns : tie.Need-returns Inv-loop2 μ-loop2 Inv-loop μ-loop
 returns c =
-    let s = c .before .before .before .before .before .before .before .before .before .before .before .before .before .before .before .before .before .before .before .before .before .before .before .before .before .before .before .before .before .before .before .before .before .before .before .before .before .before .before .before .before in
+    let e = corner (c .before .before) in
+    let s = startOf e in
     let a = s .args in
-    let o = c .before .before .before .before .before .before .before .before .before .before .before .before .before .before .before .before .before .before .before .before .before .before .before .before .before .before .before .loop in
-    let l = c .before .before .before .before .before .before .before .before .before .before .before .before .before .before .before .before .before .before .before .before .before .before .before .before .before .loop2 in
+    let o = rowOf e .loop in
+    let l = blockOf e .loop2 in
+    let p = c .before .before .before .before .before .before .before .before .before .before .before .before .before .before .before .before .plan-of in
     let w = c .before .before .before .before .before .before .before .before .before .before .step-varblock in
     let z = w .last .1 .1 .1 .1 .1 .1 .1 .1 in
-    let W = wholeAt s in
-    let d = due-row (a .shift) (a .t4 .«num_block_clusters») (a .preset-map .now) (passAt s) (a .symbols .now) (192 * (a .group .bw * a .group .bh)) W (o .at) (o .rows) (o .log) (o .g0 ∷ o .g1 ∷ o .g2 ∷ []) (o .y) (c .before .before .before .before .before .before .before .before .before .before .before .before .before .before .before .before .before .before .before .before .before .before .before .before .before .before .loop-test .taken) (o .inv .5) in
-    corner-stop (a .shift) (a .t4 .«num_block_clusters») (a .preset-map .now) (passAt s) (a .symbols .now) (length (a .log .now)) (s .pre) W (l .x) (o .y) (l .at) (l .rows) (l .log) (l .g0 ∷ l .g1 ∷ l .g2 ∷ []) (c .before .before .before .before .before .before .before .before .before .before .before .before .before .before .before .before .before .before .before .before .before .before .before .before .loop2-test .taken) (c .before .before .before .before .before .before .before .before .before .before .before .before .before .before .before .before .before .before .before .before .before .before .before .before .before .before .loop-test .taken) (c .before .before .before .before .before .before .before .before .before .before .before .before .before .before .before .before .before .before .before .before .before .before .if1 .left) (l .inv .5 W d) (c .before .before .before .before .before .before .before .before .before .before .before .before .before .before .before .before .plan-of .result) (c .before .before .before .before .before .before .before .before .before .before .before .before .before .before .before .before .plan-of .ensures) (w .result) (z .0) (z .1 .0) (z .1 .1 .0 ∷ z .1 .1 .1 .0 ∷ z .1 .1 .1 .1 .0 ∷ []) (w .ensures .1) (sym (c .before .is-stopped .ensures) ∙ c .if2 .taken)
+    corner-stop (a .shift) (a .t4 .«num_block_clusters») (a .preset-map .now) (passAt s) (a .symbols .now) (length (a .log .now)) (s .pre) (wholeAt s) (l .x) (o .y) (l .at) (l .rows) (l .log) (l .g0 ∷ l .g1 ∷ l .g2 ∷ []) (e .before .before .loop2-test .taken) (e .before .before .before .before .loop-test .taken) (e .if1 .left) (due e) (p .result) (p .ensures) (w .result) (z .0) (z .1 .0) (z .1 .1 .0 ∷ z .1 .1 .1 .0 ∷ z .1 .1 .1 .1 .0 ∷ []) (w .ensures .1) (sym (c .before .is-stopped .ensures) ∙ c .if2 .taken)
 
 add-x-2 : tie.Need-add-x-2 Inv-loop2 μ-loop2 Inv-loop μ-loop
-add-x-2 c = let u = c .before .before .before .before .before .before .before .before .before .before .before .before .before .before .before .before .before .before .before .before .before .before .before .before .before .before .before .before .before .before .before .before .before .before .before .before .before .before .before .before .before .before .pre .across in omega (arith, c .before .before .before .before .before .before .before .before .before .before .before .before .before .before .before .before .before .before .before .before .before .before .before .before .before .loop2-test .taken)
+add-x-2 c = omega (arith, inside (corner (c .before .before .before)) .0)
 
 loop2-less-2 : tie.Need-loop2-less-2 Inv-loop2 μ-loop2 Inv-loop μ-loop
-loop2-less-2 c = less (c .before .before .before .before .before .before .before .before .before .before .before .before .before .before .before .before .before .before .before .before .before .before .before .before .before .before .loop2 .x) (c .before .before .before .before .before .before .before .before .before .before .before .before .before .before .before .before .before .before .before .before .before .before .before .before .before .before .before .before .before .before .before .before .before .before .before .before .before .before .before .before .before .before .args .group .bw) (c .before .before .before .before .before .before .before .before .before .before .before .before .before .before .before .before .before .before .before .before .before .before .before .before .before .loop2-test .taken)
+loop2-less-2 c = let e = corner (c .before .before .before) in less (blockOf e .loop2 .x) (startOf e .args .group .bw) (e .before .before .loop2-test .taken)
 
 loop2-again-2 : tie.Need-loop2-again-2 Inv-loop2 μ-loop2 Inv-loop μ-loop
 loop2-again-2 c =
-    let s = c .before .before .before .before .before .before .before .before .before .before .before .before .before .before .before .before .before .before .before .before .before .before .before .before .before .before .before .before .before .before .before .before .before .before .before .before .before .before .before .before .before .before in
+    let e = corner (c .before .before .before) in
+    let s = startOf e in
     let a = s .args in
-    let o = c .before .before .before .before .before .before .before .before .before .before .before .before .before .before .before .before .before .before .before .before .before .before .before .before .before .before .before .before .loop in
-    let l = c .before .before .before .before .before .before .before .before .before .before .before .before .before .before .before .before .before .before .before .before .before .before .before .before .before .before .loop2 in
+    let o = rowOf e .loop in
+    let l = blockOf e .loop2 in
+    let p = c .before .before .before .before .before .before .before .before .before .before .before .before .before .before .before .before .before .plan-of in
     let w = c .before .before .before .before .before .before .before .before .before .before .before .step-varblock in
     let z = w .last .1 .1 .1 .1 .1 .1 .1 .1 in (
       c .before .before .before .before .before .before .before .before .before .before .log .given ∙ l .inv .0,
       c .before .before .before .before .before .before .before .before .g0 .given ∙ l .inv .1,
       c .before .before .before .before .before .before .g1 .given ∙ l .inv .2,
       c .before .before .before .before .g2 .given ∙ l .inv .3,
-      omega (arith, c .before .before .before .before .before .before .before .before .before .before .before .before .before .before .before .before .before .before .before .before .before .before .before .before .before .loop2-test .taken),
-      λ W d. corner-step (a .shift) (a .t4 .«num_block_clusters») (a .preset-map .now) (passAt s) (a .symbols .now) (length (a .log .now)) (s .pre) W (l .x) (o .y) (l .at) (l .rows) (l .log) (l .g0 ∷ l .g1 ∷ l .g2 ∷ []) (c .before .before .before .before .before .before .before .before .before .before .before .before .before .before .before .before .before .before .before .before .before .before .before .before .before .loop2-test .taken) (c .before .before .before .before .before .before .before .before .before .before .before .before .before .before .before .before .before .before .before .before .before .before .before .before .before .before .before .loop-test .taken) (c .before .before .before .before .before .before .before .before .before .before .before .before .before .before .before .before .before .before .before .before .before .before .before .if1 .left) (l .inv .5 W d) (c .before .before .before .before .before .before .before .before .before .before .before .before .before .before .before .before .before .plan-of .result) (c .before .before .before .before .before .before .before .before .before .before .before .before .before .before .before .before .before .plan-of .ensures) (w .result) (z .0) (z .1 .0) (z .1 .1 .0 ∷ z .1 .1 .1 .0 ∷ z .1 .1 .1 .1 .0 ∷ []) (w .ensures .1) (sym (c .before .before .is-stopped .ensures) ∙ c .before .if2 .left) (w .ensures .0) (c .symbols-read .result) (c .symbols-read .ensures),
+      omega (arith, e .before .before .loop2-test .taken),
+      λ W d. corner-step (a .shift) (a .t4 .«num_block_clusters») (a .preset-map .now) (passAt s) (a .symbols .now) (length (a .log .now)) (s .pre) W (l .x) (o .y) (l .at) (l .rows) (l .log) (l .g0 ∷ l .g1 ∷ l .g2 ∷ []) (e .before .before .loop2-test .taken) (e .before .before .before .before .loop-test .taken) (e .if1 .left) (l .inv .5 W d) (p .result) (p .ensures) (w .result) (z .0) (z .1 .0) (z .1 .1 .0 ∷ z .1 .1 .1 .0 ∷ z .1 .1 .1 .1 .0 ∷ []) (w .ensures .1) (sym (c .before .before .is-stopped .ensures) ∙ c .before .if2 .left) (w .ensures .0) (c .symbols-read .result) (c .symbols-read .ensures),
     )
 
 loop-less : tie.Need-loop-less Inv-loop2 μ-loop2 Inv-loop μ-loop
