@@ -19,8 +19,9 @@ DOCDIR ?= $(PREFIX)/share/doc/netbuff
 DESTDIR ?=
 INSTALL ?= install
 
-# Programs as rt makes them, and commands made of them in C; each has a page man/NAME.1.
-PROGRAMS := target/bin/layout_lister $(patsubst %.c,target/%,$(wildcard tools/*.c))
+# The commands; each has a page man/NAME.1. They are made in C around the proved programs of
+# target/bin, which are not installed.
+PROGRAMS := $(patsubst %.c,target/%,$(wildcard tools/*.c))
 HEADERS := include/netbuff.h include/netbuff_structs.h
 LICENCES := LICENSE LICENSE-MIT LICENSE-APACHE NOTICE
 
@@ -71,7 +72,7 @@ $(SHARED): $(VERSIONED) c/netbuff.map
 	ln -sf libnetbuff.so.$(SOVERSION) target/lib/libnetbuff.so
 
 target/bin/%: $(SOURCES)
-	rt check $*
+	bash .ci/prove $*
 	touch $@
 
 # The proved program's object, with the command's own start, reads and writes around it.

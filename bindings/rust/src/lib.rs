@@ -37,9 +37,10 @@
 //! | 6 | [`coefficients`]: symbols to coefficients, added to three grids | [`GridsBuf`] |
 //!
 //! Beside them [`transform()`] looks a transform number up, [`alike`] compares two layouts,
-//! [`order()`] and [`places_fit`] look into a store of orders, [`read_bits`], [`read_u32`] and
-//! [`unpack_signed`] read single numbers. Every call that is lent bytes, those three aside, begins
-//! at their first bit, and bits come lowest first within each byte.
+//! [`order()`] and [`places_fit`] look into a store of orders, [`version()`] tells the library's
+//! version, [`read_bits`], [`read_u32`] and [`unpack_signed`] read single numbers. Every call that
+//! is lent bytes, those three aside, begins at their first bit, and bits come lowest first within
+//! each byte.
 //!
 //! ```
 //! use netbuff::*;
@@ -122,6 +123,7 @@ mod orders;
 mod record;
 mod refusal;
 mod transform;
+mod version;
 
 pub use bits::{read_bits, read_u32, unpack_signed, Choice, Place, Read};
 pub use coefficients::{coefficients, CoefficientInput, CoefficientMut, LfGrids, Presets};
@@ -133,6 +135,7 @@ pub use orders::{order, orders, places_fit, Orders, STORE_LENGTH};
 pub use record::{alike, cut, Group, GroupMut, Layout, Sides, Varblock};
 pub use refusal::{Refusal, Result};
 pub use transform::{transform, Transform, TransformType};
+pub use version::{version, Version, VERSION};
 
 #[cfg(feature = "alloc")]
 pub use coefficients::GridsBuf;
