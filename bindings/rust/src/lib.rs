@@ -32,7 +32,7 @@
 //! | 1 | [`column_count`]: how many columns an LF group has | |
 //! | 2 | [`layout()`]: columns to varblocks and filter strengths | [`LayoutBuf::read`] |
 //! | 3 | [`cut`]: a pass group out of the layout | [`Layout::cut`] |
-//! | 4 | [`block_context`]: the block contexts of the frame | |
+//! | 4 | [`block_context`]: the block contexts of the frame; [`scan_contexts`] for the length of its map | |
 //! | 5 | [`orders()`]: the orders of the pass | [`OrdersBuf::read`] |
 //! | 6 | [`coefficients`]: symbols to coefficients, added to three grids | [`GridsBuf`] |
 //!
@@ -127,7 +127,7 @@ mod version;
 
 pub use bits::{read_bits, read_u32, unpack_signed, Choice, Place, Read};
 pub use coefficients::{coefficients, CoefficientInput, CoefficientMut, LfGrids, Presets};
-pub use contexts::{block_context, BlockClusters, BlockContexts};
+pub use contexts::{block_context, scan_contexts, BlockClusters, BlockContexts, ContextScan};
 pub use layout::{
     column_count, layout, ColumnCount, Columns, Filter, LayoutInput, LayoutMut, LfGroup,
 };
