@@ -2,7 +2,9 @@
 #
 #   make                builds the library (static and shared) and the programs; needs the Rattle
 #                       toolchain (rt), unless they are built already
-#   make check          tests the library and an installed tree
+#   make library, make programs
+#                       one of the two
+#   make check          tests the library, an installed tree and the programs
 #   make install        PREFIX=/usr/local, DESTDIR= and the like as usual
 #   make uninstall      removes what install wrote
 #   make install-library, make install-programs
@@ -45,6 +47,11 @@ INSTALLED_LIBRARY := $(HEADERS:include/%=$(INCLUDEDIR)/%) $(LIBDIR)/libnetbuff.a
 	$(MANDIR)/man3/netbuff.3 $(DOCDIR)/example.c $(LICENCES:%=$(DOCDIR)/%)
 INSTALLED_PROGRAMS := $(addprefix $(BINDIR)/,$(notdir $(PROGRAMS))) \
 	$(patsubst %,$(MANDIR)/man1/%.1,$(notdir $(PROGRAMS)))
+
+ifneq ($(filter install% uninstall,$(MAKECMDGOALS)),)
+$(foreach name,PREFIX BINDIR LIBDIR INCLUDEDIR MANDIR DOCDIR,$(if $(filter /%,$($(name))),,\
+	$(error $(name) is no whole path: '$($(name))')))
+endif
 
 .PHONY: all library programs check install install-library install-programs uninstall clean version
 # Two runs of rt at a time would share files in target/.
