@@ -39,10 +39,12 @@
  * pass group is a part of an LF group, at most 32 blocks each way. A varblock is a rectangle of
  * blocks with one transform; its corner is its first block, at the upper left. A column is what a
  * scan sends for a varblock: the number of its transform (type) and a mul; hf_mul is mul + 1. A
- * symbol is a number as an entropy decoder gives it. A cluster is the number of a distribution that
- * symbols are coded by, and a cluster map the cluster of each context, as it is decoded from the
- * file; each preset has its own. An order is the list of the places within a varblock to which
- * coefficients go, one after the other. Packed signed: see netbuff_unpack_signed.
+ * symbol is a number as an entropy decoder gives it. Contexts that share a number are a cluster:
+ * block contexts a block cluster, contexts of coefficients one distribution that symbols are coded
+ * by. A cluster map has the cluster of each context, as it is decoded from the file; that of
+ * coefficients has a part for each preset, of which a pass group names one. An order is the list of
+ * the places within a varblock to which coefficients go, one after the other. Packed signed: see
+ * netbuff_unpack_signed.
  *
  * BLOCKS AND CELLS. Lists with one place for each block are row by row: block (x, y) of a grid bw
  * blocks wide stands at y * bw + x. A cell is one place of a coefficient grid, 8 x 8 of them for
