@@ -26,7 +26,7 @@
  *
  * LISTS. A list is a pointer and the number of its elements. Every length is allowed: one that does
  * not fit is refused. A length fits when it is the one that the call names ("Lengths that fit"), or
- * at least that where it says so; there is a function for each of them below. Bytes, columns and
+ * at least that where it says so; each has a function or a constant below. Bytes, columns and
  * symbols may have any length. A list of no elements may have any pointer that is aligned and not
  * null.
  *
@@ -42,13 +42,13 @@
  * symbol is a number as an entropy decoder gives it. Contexts that share a number are a cluster:
  * block contexts a block cluster, contexts of coefficients one distribution that symbols are coded
  * by. A cluster map has the cluster of each context, as it is decoded from the file; that of
- * coefficients has a part for each preset, of which a pass group names one. An order is the list of
- * the places within a varblock to which coefficients go, one after the other. Packed signed: see
- * netbuff_unpack_signed.
+ * coefficients has a part for each preset, of which a pass group names one. An order (0 to 12, by
+ * the size of a varblock) has a list for each channel: the places within the varblock to which
+ * coefficients go, one after the other. Packed signed: see netbuff_unpack_signed.
  *
  * BLOCKS AND CELLS. Lists with one place for each block are row by row: block (x, y) of a grid bw
- * blocks wide stands at y * bw + x. A cell is one place of a coefficient grid, 8 x 8 of them for
- * each block. A grid of bw x bh blocks has rows of 8 * bw cells: cell (x, y) stands at
+ * blocks wide stands at y * bw + x. A cell is one entry of a coefficient grid, 8 x 8 of them for
+ * each block. A coefficient grid of bw x bh blocks has rows of 8 * bw cells: cell (x, y) stands at
  * y * 8 * bw + x.
  *
  * THREADS. A call keeps nothing. The library has no data that is written. Any number of calls may
