@@ -10,7 +10,7 @@ ghost use mathlib.Core.Path.{_≡_};
 ghost use Prim.Native.Nat.{_+_, _*_, _≤_, _<_};
 ghost use lib.ListN.{length};
 ghost use Rattle.layout_filter.specs.laws.Finite.{ScaledBounded};
-ghost use Rattle.layout_reading.specs.Reading.{Going, place as placeOf, visit as visitOf, jobWith};
+ghost use Rattle.layout_placing.specs.Reading.{Going, place as placeOf, visit as visitOf, jobWith};
 ghost use Rattle.layout_reading.specs.laws.Outcome.{stateOf, stepped};
 
 // The reading goes on with that many columns used, or stops after that many were placed.

@@ -11,7 +11,7 @@ ghost use Prim.Native.Nat.{_*_, _≤_};
 ghost use lib.ListN.{length};
 ghost use Rattle.layout_filter.specs.laws.Finite.{ScaledBounded};
 ghost use Rattle.layout.specs.Walk.{walk};
-ghost use Rattle.layout_reading.specs.Reading.{Going, visit as visitOf, reading as readingOf, jobWith, jobBy};
+ghost use Rattle.layout_placing.specs.Reading.{Going, visit as visitOf, reading as readingOf, jobWith, jobBy};
 ghost use Rattle.layout_reading.specs.laws.Outcome.{stateOf, stepped, toldBy, handed, readOf};
 
 // All blocks, over lengths that fit.

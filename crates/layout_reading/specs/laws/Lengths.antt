@@ -10,7 +10,7 @@ use Rattle.refusal.specs.declared.Refusal.the-variants.{Length, Parameter}
 use Rattle.layout.specs.Walk.{walk}
 use Rattle.layout_reading.specs.declared.column.Step.{Step}
 use Rattle.layout_reading.specs.declared.column.Step.the-variants.{Going as GoesOn, Stopped as Stops}
-use Rattle.layout_reading.specs.Reading.{Job, Going, visit, zeros, reading}
+use Rattle.layout_placing.specs.Reading.{Job, Going, visit, zeros, reading}
 use Rattle.layout_reading.specs.laws.Outcome.{stateOf, stepped, toldBy, handed, fits, readOf}
 use Rattle.layout_filter.specs.declared.Filter.{Filter}
 use Rattle.layout_filter.specs.Limits.{paramsFit}

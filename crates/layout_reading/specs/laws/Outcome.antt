@@ -12,8 +12,8 @@ use Rattle.layout_filter.specs.Limits.{paramsFit}
 use Rattle.layout_sizes.specs.Blocks.{countsFit}
 use Rattle.layout_reading.specs.declared.column.Step.{Step}
 use Rattle.layout_reading.specs.declared.column.Step.the-variants.{Going as GoesOn, Stopped as Stops}
-use Rattle.layout_reading.specs.Reading.{Job, Placed, Placing, Going, Stopped, reading}
-use Rattle.layout_reading.specs.Outcome.{Outcome, outcome, outcomeOf}
+use Rattle.layout_placing.specs.Reading.{Job, Placed, Placing, Going, Stopped, reading}
+use Rattle.layout_placing.specs.Outcome.{Outcome, outcome, outcomeOf}
 
 -- what was placed, by its fields
 abbrev pub stateOf : ℕ → List ℕ → List ℕ → List ℕ → Placed

@@ -1,5 +1,5 @@
-use Rattle.layout_reading.specs.laws.Places.{byJudged, visit-taken, visit-ends, visit-judged}
-use Rattle.layout_reading.specs.Reading.{jobWith}
+use Rattle.layout_placing.specs.laws.Visits.{byJudged, visit-taken, visit-ends, visit-judged}
+use Rattle.layout_placing.specs.Reading.{jobWith}
 use Rattle.layout_reading.specs.laws.Outcome.{stateOf}
 use Rattle.layout_column.specs.laws.Judged.{asks-most}
 use Rattle.layout_column.specs.Columns.{lowEight, hfMulOf}

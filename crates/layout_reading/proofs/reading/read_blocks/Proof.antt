@@ -1,8 +1,8 @@
 use Rattle.layout_reading.specs.laws.Places.{stop-stays}
-use Rattle.layout_reading.specs.Reading.{jobWith}
+use Rattle.layout_placing.specs.Reading.{jobWith}
 use Rattle.layout_reading.specs.laws.Outcome.{stateOf, stepped}
 use Rattle.layout.specs.laws.Loops.{rowsLeft, cellsLeft, loop-start, loop-enter, loop-next, loop-stop, loop-leave, loop-finish}
-use Rattle.layout_reading.specs.Reading.{Going, visit}
+use Rattle.layout_placing.specs.Reading.{Going, visit}
 use Rattle.layout_reading.specs.declared.column.Step.{Step}
 use mathlib.Core.Path.{refl}
 use borrow.Author.Needs.{needs}

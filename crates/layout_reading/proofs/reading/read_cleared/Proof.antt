@@ -1,5 +1,5 @@
 use Rattle.layout_reading.specs.laws.Lengths.{read-accepts, read-refuses}
-use Rattle.layout_reading.specs.Reading.{jobWith}
+use Rattle.layout_placing.specs.Reading.{jobWith}
 use lib.ListN.{replicate}
 use borrow.Author.Needs.{needs}
 use mathlib.Core.Path.{_∙_, ap}
