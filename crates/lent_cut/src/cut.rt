@@ -11,9 +11,11 @@ ghost use Prim.Native.Nat.{_+_, _*_, _≤_, _<_};
 ghost use lib.ListN.{length};
 ghost use Rattle.layout.specs.Grid.{at, gridOf};
 ghost use Rattle.layout.specs.Cut.{groups, groupX, groupY, hasGroup, side, groupBw, groupBh};
+ghost use Rattle.refusal.specs.Answer.{gives};
 ghost use Rattle.refusal.specs.laws.Answer.{checked};
 ghost use Rattle.lent_sides.specs.Limits.{inLimits};
 ghost use Rattle.lent_cut.specs.Calls.{saidCut, group, outcome, cutCheck, cutOf};
+ghost use Rattle.lent_cut.specs.laws.CutSteps.{groupCheck, Passed, cutDone};
 
 // What the cut answers: the sides of the group.
 pub enum CutAnswer {
@@ -76,9 +78,38 @@ fn sides_of(bw: usize, bh: usize, index: usize) -> Group
 {
     let gx = group_x(bw, index);
     let gy = group_y(bw, index);
-    let wide = blocks_along(bw, gx);
-    let high = blocks_along(bh, gy);
-    Group { bw: wide, bh: high }
+    let group_bw = blocks_along(bw, gx);
+    let group_bh = blocks_along(bh, gy);
+    Group {
+        bw: group_bw,
+        bh: group_bh,
+    }
+}
+
+// Of a group that the layout has: lengths (1), 18.
+fn group_check(
+    bw: usize,
+    bh: usize,
+    kinds: &[u8],
+    hf_mul: &[u32],
+    index: usize,
+    out_kinds: usize,
+    out_hf_mul: usize,
+) -> Checked
+    requires { ⌜ (inLimits 256 bw bh ≡ true) × (hasGroup bw bh index ≡ true) ⌝ }
+    ensures { λ r. ⌜ checked r ≡ groupCheck bw bh (now (kinds .entry)) (now («hf_mul» .entry)) index «out_kinds» «out_hf_mul» ⌝ }
+{
+    if !lengths_fit(bw, bh, kinds.len(), hf_mul.len()) {
+        return Checked::Refused(Refusal::Length);
+    }
+    let group = sides_of(bw, bh, index);
+    if !lengths_fit(group.bw, group.bh, out_kinds, out_hf_mul) {
+        return Checked::Refused(Refusal::Length);
+    }
+    if !is_layout(bw, bh, kinds, hf_mul) {
+        return Checked::Refused(Refusal::Layout);
+    }
+    Checked::Fine
 }
 
 // What comes before the cut: sides and index (2), lengths (1), 18.
@@ -99,46 +130,66 @@ fn cut_check(
     if !has_group(bw, bh, index) {
         return Checked::Refused(Refusal::Size);
     }
-    if !lengths_fit(bw, bh, kinds.len(), hf_mul.len()) {
-        return Checked::Refused(Refusal::Length);
-    }
-    let group = sides_of(bw, bh, index);
-    if !lengths_fit(group.bw, group.bh, out_kinds, out_hf_mul) {
-        return Checked::Refused(Refusal::Length);
-    }
-    if !is_layout(bw, bh, kinds, hf_mul) {
-        return Checked::Refused(Refusal::Layout);
-    }
-    Checked::Fine
+    group_check(bw, bh, kinds, hf_mul, index, out_kinds, out_hf_mul)
 }
 
-// The wide x high cells from (left, top) on are copied.
+// The cells of a group whose first block is (left, top).
 fn copy_cells(
     bw: usize,
     kinds: &[u8],
     hf_mul: &[u32],
     left: usize,
     top: usize,
-    wide: usize,
-    high: usize,
+    group_bw: usize,
+    group_bh: usize,
     out_kinds: &mut [u8],
     out_hf_mul: &mut [u32],
 )
-    requires { ⌜ (left + wide ≤ bw) × (top + high ≤ 256) × ((top + high) * bw ≤ length (now kinds)) × (length (now «hf_mul») ≡ length (now kinds)) × (length (now «out_kinds») ≡ high * wide) × (length (now «out_hf_mul») ≡ high * wide) ⌝ }
-    ensures { λ r. ⌜ (now («out_kinds» .exit) ≡ gridOf (λ x y. at (now (kinds .entry)) bw (left + x) (top + y)) wide high) × (now («out_hf_mul» .exit) ≡ gridOf (λ x y. at (now («hf_mul» .entry)) bw (left + x) (top + y)) wide high) ⌝ }
+    requires { ⌜ (left + «group_bw» ≤ bw) × (top + «group_bh» ≤ 256) × ((top + «group_bh») * bw ≤ length (now kinds)) × (length (now «hf_mul») ≡ length (now kinds)) × (length (now «out_kinds») ≡ «group_bh» * «group_bw») × (length (now «out_hf_mul») ≡ «group_bh» * «group_bw») ⌝ }
+    ensures { λ r. ⌜ (now («out_kinds» .exit) ≡ gridOf (λ x y. at (now (kinds .entry)) bw (left + x) (top + y)) «group_bw» «group_bh») × (now («out_hf_mul» .exit) ≡ gridOf (λ x y. at (now («hf_mul» .entry)) bw (left + x) (top + y)) «group_bw» «group_bh») ⌝ }
 {
     let mut y = 0;
-    while y < high {
+    while y < group_bh {
         let mut x = 0;
-        while x < wide {
+        while x < group_bw {
             let i = (top + y) * bw + (left + x);
-            let j = y * wide + x;
+            let j = y * group_bw + x;
             out_kinds[j] = kinds[i];
             out_hf_mul[j] = hf_mul[i];
             x += 1;
         }
         y += 1;
     }
+}
+
+// The sides of a group that has passed the checks. Its cells are copied.
+fn copy_group(
+    bw: usize,
+    bh: usize,
+    kinds: &[u8],
+    hf_mul: &[u32],
+    index: usize,
+    out_kinds: &mut [u8],
+    out_hf_mul: &mut [u32],
+) -> Group
+    requires { ⌜ Passed bw bh (now kinds) (now «hf_mul») index (length (now «out_kinds»)) (length (now «out_hf_mul»)) ⌝ }
+    ensures { λ r. ⌜ outcome (gives r) (now («out_kinds» .exit)) (now («out_hf_mul» .exit)) ≡ cutDone bw bh (now (kinds .entry)) (now («hf_mul» .entry)) index ⌝ }
+{
+    let gx = group_x(bw, index);
+    let gy = group_y(bw, index);
+    let group = sides_of(bw, bh, index);
+    copy_cells(
+        bw,
+        kinds,
+        hf_mul,
+        32 * gx,
+        32 * gy,
+        group.bw,
+        group.bh,
+        out_kinds,
+        out_hf_mul,
+    );
+    group
 }
 
 // Group `index` of a lent layout: its sides, its kinds and hf_mul into buffers of exactly its blocks. A refusal writes nothing.
@@ -165,22 +216,7 @@ pub fn cut(
     match checked {
         Checked::Refused(r) => CutAnswer::Refused(r),
         Checked::Fine => {
-            let gx = group_x(bw, index);
-            let gy = group_y(bw, index);
-            let group = sides_of(bw, bh, index);
-            let wide = group.bw;
-            let high = group.bh;
-            copy_cells(
-                bw,
-                kinds,
-                hf_mul,
-                32 * gx,
-                32 * gy,
-                wide,
-                high,
-                out_kinds,
-                out_hf_mul,
-            );
+            let group = copy_group(bw, bh, kinds, hf_mul, index, out_kinds, out_hf_mul);
             CutAnswer::Accepted(group)
         }
     }

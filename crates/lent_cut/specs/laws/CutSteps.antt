@@ -14,41 +14,47 @@ use Rattle.layout.specs.laws.Fill.{write, written}
 use Rattle.layout.specs.Check.{isLayout}
 use Rattle.layout.specs.Cut.{groupX, groupY, hasGroup, groupBw, groupBh, cut}
 use Rattle.layout.specs.laws.CutLaws.{starts-x, starts-y}
-use Rattle.refusal.specs.Answer.{gives, refuses}
+use Rattle.refusal.specs.Answer.{Answer, gives, refuses, unless}
 use Rattle.lent_sides.specs.Limits.{inLimits, lengthsFit}
 use Rattle.lent_sides.specs.laws.Limits.{in-limits, lengths-fit}
-use Rattle.lent_cut.specs.Calls.{group, outcome, cutCheck, cutOf}
+use Rattle.lent_cut.specs.Calls.{group, Outcome, outcome, cutCheck, cutOf}
 use Rattle.refusal.specs.laws.Answer.{pass}
 use Rattle.lent_check.specs.declared.Group.{Group}
 
 module _ (bw bh : ℕ) (kinds hfMul : List ℕ) (g ok om : ℕ) where
-  pub cut-size : inLimits 256 bw bh ≡ false → cutCheck bw bh kinds hfMul g ok om ≡ refuses (at 2 0 0)
+  -- behind sides and index: the lengths of layout and buffers, the layout
+  abbrev pub groupCheck : Answer Unit
+  groupCheck =
+      unless 1 (lengthsFit bw bh (length kinds) (length hfMul))
+      (unless 1 (lengthsFit (groupBw bw g) (groupBh bw bh g) ok om)
+      (unless 18 (isLayout bw bh kinds hfMul) (gives tt)))
+
+  pub cut-size : inLimits 256 bw bh ≡ false → refuses (at 2 0 0) ≡ cutCheck bw bh kinds hfMul g ok om
   unfolding cutCheck
   cut-size e = rw e
 
   module _ (e : inLimits 256 bw bh ≡ true) where
-    pub cut-index : hasGroup bw bh g ≡ false → cutCheck bw bh kinds hfMul g ok om ≡ refuses (at 2 0 0)
+    pub cut-index : hasGroup bw bh g ≡ false → refuses (at 2 0 0) ≡ cutCheck bw bh kinds hfMul g ok om
     unfolding cutCheck
     cut-index f = rw (e, f)
 
-    module _ (f : hasGroup bw bh g ≡ true) where
-      pub cut-lent : lengthsFit bw bh (length kinds) (length hfMul) ≡ false → cutCheck bw bh kinds hfMul g ok om ≡ refuses (at 1 0 0)
-      unfolding cutCheck
-      cut-lent h = rw (e, f, h)
+    pub cut-group : hasGroup bw bh g ≡ true → groupCheck ≡ cutCheck bw bh kinds hfMul g ok om
+    unfolding cutCheck
+    cut-group f = rw (e, f)
 
-      module _ (h : lengthsFit bw bh (length kinds) (length hfMul) ≡ true) where
-        pub cut-buffers : lengthsFit (groupBw bw g) (groupBh bw bh g) ok om ≡ false → cutCheck bw bh kinds hfMul g ok om ≡ refuses (at 1 0 0)
-        unfolding cutCheck
-        cut-buffers i = rw (e, f, h, i)
+  pub group-short : lengthsFit bw bh (length kinds) (length hfMul) ≡ false → refuses (at 1 0 0) ≡ groupCheck
+  group-short h = rw h
 
-        module _ (i : lengthsFit (groupBw bw g) (groupBh bw bh g) ok om ≡ true) where
-          pub cut-fault : isLayout bw bh kinds hfMul ≡ false → cutCheck bw bh kinds hfMul g ok om ≡ refuses (at 18 0 0)
-          unfolding cutCheck
-          cut-fault j = rw (e, f, h, i, j)
+  module _ (h : lengthsFit bw bh (length kinds) (length hfMul) ≡ true) where
+    pub group-buffers : lengthsFit (groupBw bw g) (groupBh bw bh g) ok om ≡ false → refuses (at 1 0 0) ≡ groupCheck
+    group-buffers i = rw (h, i)
 
-          pub cut-fine : isLayout bw bh kinds hfMul ≡ true → cutCheck bw bh kinds hfMul g ok om ≡ gives tt
-          unfolding cutCheck
-          cut-fine j = rw (e, f, h, i, j)
+    module _ (i : lengthsFit (groupBw bw g) (groupBh bw bh g) ok om ≡ true) where
+      pub group-fault : isLayout bw bh kinds hfMul ≡ false → refuses (at 18 0 0) ≡ groupCheck
+      group-fault j = rw (h, i, j)
+
+      pub group-fine : isLayout bw bh kinds hfMul ≡ true → gives tt ≡ groupCheck
+      group-fine j = rw (h, i, j)
 
   -- what passed checks tell
   pub record Passed : Type 0 where
@@ -68,13 +74,16 @@ module _ (bw bh : ℕ) (kinds hfMul : List ℕ) (g ok om : ℕ) where
       let f = pass 18 (isLayout bw bh kinds hfMul) (gives tt) tt (d .1) in
       record { sides = a .0; index = b .0; lent = c .0; buffers = d .0; layout = f .0 }
 
+-- the outcome of a cut that is not refused
+abbrev pub cutDone : ℕ → ℕ → List ℕ → List ℕ → ℕ → Outcome
+cutDone bw bh kinds hfMul g = outcome (gives (group (groupBw bw g) (groupBh bw bh g))) (cut bw bh g kinds) (cut bw bh g hfMul)
+
 module _ (bw bh : ℕ) (kinds hfMul : List ℕ) (g : ℕ) (outKinds outHfMul : List ℕ) where
   pub cut-refused : (s : Said) → cutCheck bw bh kinds hfMul g (length outKinds) (length outHfMul) ≡ refuses s → cutOf bw bh kinds hfMul g outKinds outHfMul ≡ outcome (refuses s) outKinds outHfMul
   unfolding cutOf
   cut-refused s e = rw e
 
-  pub cut-done : cutCheck bw bh kinds hfMul g (length outKinds) (length outHfMul) ≡ gives tt
-      → cutOf bw bh kinds hfMul g outKinds outHfMul ≡ outcome (gives (group (groupBw bw g) (groupBh bw bh g))) (cut bw bh g kinds) (cut bw bh g hfMul)
+  pub cut-done : cutCheck bw bh kinds hfMul g (length outKinds) (length outHfMul) ≡ gives tt → cutOf bw bh kinds hfMul g outKinds outHfMul ≡ cutDone bw bh kinds hfMul g
   unfolding cutOf
   cut-done e = rw e
 
@@ -101,10 +110,10 @@ module _ (bw bh : ℕ) (kinds hfMul : List ℕ) (g : ℕ) (outKinds outHfMul : L
           let m = mul-le-mul-right bw h in
           record { fitsX = omega arith; fitsY = omega arith; fits = omega arith; same = omega arith; outKindsFit = b .0; outHfMulFit = b .1 }
 
-  pub copied : (l : List ℕ) (gx gy : ℕ) (r : Group) → gx ≡ groupX bw g → gy ≡ groupY bw g → r ≡ group (groupBw bw g) (groupBh bw bh g)
-      → gridOf (λ x y. cellAt l bw (32 * gx + x) (32 * gy + y)) (r .bw) (r .bh) ≡ cut bw bh g l
-  unfolding cut
-  copied l gx gy r ex ey er = rw (ex, ey, er)
+pub copied : (bw bh g : ℕ) (l : List ℕ) (gx gy : ℕ) (r : Group) → gx ≡ groupX bw g → gy ≡ groupY bw g → r ≡ group (groupBw bw g) (groupBh bw bh g)
+    → gridOf (λ x y. cellAt l bw (32 * gx + x) (32 * gy + y)) (r .bw) (r .bh) ≡ cut bw bh g l
+unfolding cut
+copied bw bh g l gx gy r ex ey er = rw (ex, ey, er)
 
 -- copying cell by cell gives the grid
 pub copy-start : (f : ℕ → ℕ → ℕ) (w h : ℕ) (l : List ℕ) → length l ≡ h * w → gridOf f w h ≡ rowsLeft (write f w h) w h 0 l
