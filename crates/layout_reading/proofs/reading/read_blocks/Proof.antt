@@ -36,9 +36,6 @@ visit-requires c κs =
     let h = c .before .before .before .before .before .before .before .before .before .before .before .before .before .pre in
     (l .inv .1, l .inv .2, l .inv .3, h .3, h .4, h .5, h .6, omega arith, omega arith, h .7)
 
-enum-told : tie.Need-enum-told Inv-loop2 μ-loop2 Inv-loop μ-loop
-enum-told c = search needs
-
 returns : tie.Need-returns Inv-loop2 μ-loop2 Inv-loop μ-loop
 returns c =
     let a = c .before .before .before .before .before .before .before .before .before .before .before .before .before .before .before .before .before .before .before .before .before .before .args in
@@ -71,28 +68,8 @@ returns-2 c =
 
 pub read-blocks-spec : {M : Type 1} → statement M
 read-blocks-spec =
-    tie.close
-    (tie.spec
-    Inv-loop2
-    μ-loop2
-    Inv-loop
-    μ-loop
-    (λ c. (omega arith, omega arith, omega arith, omega arith, refl))
-    loop2-holds
-    visit-requires
-    (λ c. search needs)
-    enum-told
-    (λ c. search needs)
-    (λ c. search needs)
-    (λ c. search needs)
-    returns
-    (λ c. search needs)
-    (λ c. search needs)
-    loop2-again
-    (λ c. search needs)
-    (λ c. search needs)
-    loop-again
-    (λ c. search needs)
-    (λ c. search needs)
-    (λ c. search needs)
-    returns-2)
+    tie.close (tie.spec Inv-loop2 μ-loop2 Inv-loop μ-loop
+    (λ c. (omega arith, omega arith, omega arith, omega arith, refl)) loop2-holds visit-requires (λ c. search needs)
+    (λ c. search needs) (λ c. search needs) (λ c. search needs) (λ c. search needs) returns (λ c. search needs)
+    (λ c. search needs) loop2-again (λ c. search needs) (λ c. search needs) loop-again (λ c. search needs)
+    (λ c. search needs) (λ c. search needs) returns-2)
