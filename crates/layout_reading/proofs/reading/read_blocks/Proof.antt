@@ -51,7 +51,7 @@ loop2-again c =
     let l = c .before .before .before .before .before .before .before .before .before .before .before .before .before .before .loop2 in
     let v = c .before .before .before .before .before .before .before .before .before .visit in
     let e = sym (ap (λ (z : Step). stepped z (v .last .0) (v .last .1 .0) (v .last .1 .1 .0)) (c .before .step .given .1)) ∙ v .ensures in
-    (omega arith, omega arith, omega arith, omega arith, l .inv .4 ∙ loop-next (visit (jobWith (a .bw) (a .bh) (a .types .now) (a .muls .now) (a .sharpness .now) (a .filter) (a .lookups .now))) (a .bw) (a .bh) (o .y) (l .x) (Going (stateOf (l .used) (l .kinds) (l .hf-mul) (l .sigma))) _ (omega arith) e)
+    (omega arith, c .before .before .before .before .before .before .before .before .kinds .given ∙ l .inv .1, c .before .before .before .before .before .before .hf-mul .given ∙ l .inv .2, c .before .before .before .before .sigma .given ∙ l .inv .3, l .inv .4 ∙ loop-next (visit (jobWith (a .bw) (a .bh) (a .types .now) (a .muls .now) (a .sharpness .now) (a .filter) (a .lookups .now))) (a .bw) (a .bh) (o .y) (l .x) (Going (stateOf (l .used) (l .kinds) (l .hf-mul) (l .sigma))) _ (omega arith) e)
 
 loop-again : tie.Need-loop-again Inv-loop2 μ-loop2 Inv-loop μ-loop
 loop-again c =
@@ -69,7 +69,7 @@ returns-2 c =
 pub read-blocks-spec : {M : Type 1} → statement M
 read-blocks-spec =
     tie.close (tie.spec Inv-loop2 μ-loop2 Inv-loop μ-loop
-    (λ c. (omega arith, omega arith, omega arith, omega arith, refl)) loop2-holds visit-requires (λ c. search needs)
+    (λ c. let h = c .before .before .before .before .before .before .pre in (omega arith, h .0, h .1, h .2, refl)) loop2-holds visit-requires (λ c. search needs)
     (λ c. search needs) (λ c. search needs) (λ c. search needs) (λ c. search needs) returns (λ c. search needs)
     (λ c. search needs) loop2-again (λ c. search needs) (λ c. search needs) loop-again (λ c. search needs)
     (λ c. search needs) (λ c. search needs) returns-2)

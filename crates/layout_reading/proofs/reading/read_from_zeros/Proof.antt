@@ -1,3 +1,4 @@
+use mathlib.Core.Path.{_∙_}
 use Rattle.layout_placing.specs.Reading.{jobWith}
 use Rattle.layout_reading.specs.laws.Lengths.{read-all, cleared}
 use borrow.Author.Needs.{needs}
@@ -5,7 +6,7 @@ use Rattle.layout_reading.proofs.reading.read_from_zeros.Statement.{sta
 use Rattle.layout_reading.proofs.reading.read_from_zeros.Tie as tie
 
 read-blocks-requires : tie.Need-read-blocks-requires
-read-blocks-requires c κs = let h = c .before .before .before .before .before .before .before .before .before .before .before .before .before .before .before .before .before .before .before .before .before .pre in (search needs, search needs, search needs, h .3, h .4, h .5, h .6, h .7)
+read-blocks-requires c κs = let h = c .before .before .before .before .before .before .before .before .before .before .before .before .before .before .before .before .before .before .before .before .before .pre in (c .before .before .before .before .before .before .before .before .before .before .before .before .kinds .given ∙ h .0, c .before .before .before .before .before .before .before .before .hf-mul .given ∙ h .1, c .before .before .before .before .sigma .given ∙ h .2, h .3, h .4, h .5, h .6, h .7)
 
 returns : tie.Need-returns
 returns c =
