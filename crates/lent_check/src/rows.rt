@@ -7,7 +7,7 @@ ghost use lib.Dec.{ltb};
 ghost use lib.ListN.{length, getD};
 ghost use Rattle.layout.specs.Kinds.{wideOf, highOf};
 ghost use Rattle.layout.specs.Walk.{cells};
-ghost use Rattle.layout.specs.Grid.{at, fillFrom};
+ghost use Rattle.layout.specs.Grid.{blockAt, fillFrom};
 ghost use Rattle.layout.specs.Check.{Fault, Until, clear, fitting};
 ghost use Rattle.lent_sides.specs.laws.Sizes.{widths, heights};
 ghost use Rattle.lent_check.specs.laws.Flaws.{flagOf, Known};
@@ -123,7 +123,7 @@ fn place_cell(
 // what a cell holds, which cannot be guessed.
 fn list_row(list: &mut [u8; 256], larger: &[u8; 29], bw: usize, kinds: &[u8], y: usize) -> usize
     requires { ⌜ (now larger ≡ largers) × (bw ≤ 256) × (y < 256) × ((y + 1) * bw ≤ length (now kinds)) × Known (now kinds) × (length (now list) ≡ 256) ⌝ }
-    ensures { λ r. ⌜ Listed (looked (at (now (kinds .entry)) bw) y bw 0) r (now (list .exit)) ⌝ }
+    ensures { λ r. ⌜ Listed (looked (blockAt (now (kinds .entry)) bw) y bw 0) r (now (list .exit)) ⌝ }
 {
     let start = y * bw;
     let mut n = 0;
@@ -148,7 +148,7 @@ pub(crate) fn place_row(
     y: usize,
 ) -> bool
     requires { ⌜ (now larger ≡ largers) × (now wides ≡ widths) × (now highs ≡ heights) × (bw ≤ 256) × (y < bh) × (bh ≤ 256) × (length (now kinds) ≡ bh * bw) × Known (now kinds) ⌝ }
-    ensures { λ r. ⌜ cond r (Until (now (until .exit))) Fault ≡ cells (place bw bh (at (now (kinds .entry)) bw)) bw 0 y (Until (now (until .entry))) ⌝ }
+    ensures { λ r. ⌜ cond r (Until (now (until .exit))) Fault ≡ cells (place bw bh (blockAt (now (kinds .entry)) bw)) bw 0 y (Until (now (until .entry))) ⌝ }
 {
     let start = y * bw;
     let mut list = [0u8; 256];
@@ -211,7 +211,7 @@ fn most(a: u16, b: u16) -> u16
 // Row y has no gap; its columns are all covered then. The loop has no early exit, so that many columns are taken at a time.
 pub(crate) fn close_row(until: &mut [u16; 256], bw: usize, kinds: &[u8], y: usize) -> bool
     requires { ⌜ (bw ≤ 256) × (y < 256) × ((y + 1) * bw ≤ length (now kinds)) ⌝ }
-    ensures { λ r. ⌜ cond r (Until (now (until .exit))) Fault ≡ cells (close (at (now (kinds .entry)) bw)) bw 0 y (Until (now (until .entry))) ⌝ }
+    ensures { λ r. ⌜ cond r (Until (now (until .exit))) Fault ≡ cells (close (blockAt (now (kinds .entry)) bw)) bw 0 y (Until (now (until .entry))) ⌝ }
 {
     let start = y * bw;
     let row = y as u16;

@@ -9,7 +9,7 @@ use refusal::Refusal;
 ghost use mathlib.Core.Path.{_≡_};
 ghost use mathlib.Core.Bool.{true, _&&_};
 ghost use lib.ListN.{length};
-ghost use Rattle.layout.specs.Like.{lent, alike, alikeCell, alikeFrom};
+ghost use Rattle.layout.specs.Like.{lentLayout, alike, alikeCell, alikeFrom};
 ghost use Rattle.lent_sides.specs.Limits.{inLimits, lengthsFit};
 ghost use Rattle.lent_check.specs.laws.Laws.{isLentLayout};
 ghost use Rattle.lent_sides.specs.laws.Sizes.{widths, heights};
@@ -126,8 +126,8 @@ fn alike_layouts(
     kinds2: &[u8],
     hf_mul2: &[u32],
 ) -> bool
-    requires { ⌜ (filled (lent bw bh (now kinds) (now «hf_mul»)) ≡ true) × (filled (lent bw2 bh2 (now kinds2) (now «hf_mul2»)) ≡ true) ⌝ }
-    ensures { λ r. ⌜ r ≡ alike (lent bw bh (now (kinds .entry)) (now («hf_mul» .entry))) (lent bw2 bh2 (now (kinds2 .entry)) (now («hf_mul2» .entry))) ⌝ }
+    requires { ⌜ (filled (lentLayout bw bh (now kinds) (now «hf_mul»)) ≡ true) × (filled (lentLayout bw2 bh2 (now kinds2) (now «hf_mul2»)) ≡ true) ⌝ }
+    ensures { λ r. ⌜ r ≡ alike (lentLayout bw bh (now (kinds .entry)) (now («hf_mul» .entry))) (lentLayout bw2 bh2 (now (kinds2 .entry)) (now («hf_mul2» .entry))) ⌝ }
 {
     if bw != bw2 {
         return false;
@@ -149,7 +149,7 @@ pub fn alike(
     kinds2: &[u8],
     hf_mul2: &[u32],
 ) -> LikeAnswer
-    ensures { λ r. ⌜ saidLike r ≡ likeOf (lent bw bh (now (kinds .entry)) (now («hf_mul» .entry))) (lent bw2 bh2 (now (kinds2 .entry)) (now («hf_mul2» .entry))) ⌝ }
+    ensures { λ r. ⌜ saidLike r ≡ likeOf (lentLayout bw bh (now (kinds .entry)) (now («hf_mul» .entry))) (lentLayout bw2 bh2 (now (kinds2 .entry)) (now («hf_mul2» .entry))) ⌝ }
 {
     if !both_sided(bw, bh, bw2, bh2) {
         return LikeAnswer::Refused(Refusal::Size);

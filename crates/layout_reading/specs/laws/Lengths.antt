@@ -9,10 +9,10 @@ use borrow.Author.Tests.{le-leb, lt-leb, leb-true}
 use Rattle.laws.specs.laws.Cases.{and-true}
 use Rattle.refusal.specs.declared.Refusal.{Refusal}
 use Rattle.refusal.specs.declared.Said.{Said}
-use Rattle.refusal.specs.Said.{at, said}
+use Rattle.refusal.specs.Said.{saidAt, said}
 use Rattle.refusal.specs.Answer.{gives, refuses, passed}
 use Rattle.refusal.specs.laws.Answer.{pass}
-use Rattle.layout.specs.Walk.{walk}
+use Rattle.layout.specs.Walk.{rowByRow}
 use Rattle.layout_sizes.specs.Blocks.{countsFit}
 use Rattle.layout_sizes.specs.laws.Counts.{Counts, counts}
 use Rattle.layout_filter.specs.declared.Filter.{Filter}
@@ -25,19 +25,19 @@ module _ (params : Bool) (bw bh types muls sharpness kinds hfMul sigma : ℕ) wh
   abbrev lent : Bool
   lent = countsFit types muls sharpness kinds hfMul sigma (bh * bw)
 
-  pub check-params : params ≡ false → refuses (at 11 0 0) ≡ checksOf params bw bh types muls sharpness kinds hfMul sigma
+  pub check-params : params ≡ false → refuses (saidAt 11 0 0) ≡ checksOf params bw bh types muls sharpness kinds hfMul sigma
   check-params e = rw e
 
   module _ (e : params ≡ true) where
-    pub check-wide : 256 < bw → refuses (at 1 0 0) ≡ checksOf params bw bh types muls sharpness kinds hfMul sigma
+    pub check-wide : 256 < bw → refuses (saidAt 1 0 0) ≡ checksOf params bw bh types muls sharpness kinds hfMul sigma
     check-wide a = rw (e, lt-leb bw 256 a)
 
     module _ (a : bw ≤ 256) where
-      pub check-high : 256 < bh → refuses (at 1 0 0) ≡ checksOf params bw bh types muls sharpness kinds hfMul sigma
+      pub check-high : 256 < bh → refuses (saidAt 1 0 0) ≡ checksOf params bw bh types muls sharpness kinds hfMul sigma
       check-high b = rw (e, le-leb bw 256 a, lt-leb bh 256 b)
 
       module _ (b : bh ≤ 256) where
-        pub check-lengths : lent ≡ false → refuses (at 1 0 0) ≡ checksOf params bw bh types muls sharpness kinds hfMul sigma
+        pub check-lengths : lent ≡ false → refuses (saidAt 1 0 0) ≡ checksOf params bw bh types muls sharpness kinds hfMul sigma
         check-lengths c = rw (e, le-leb bw 256 a, le-leb bh 256 b, c)
 
         pub check-fine : lent ≡ true → passed ≡ checksOf params bw bh types muls sharpness kinds hfMul sigma
@@ -68,7 +68,7 @@ module _ (J : Job) (k m s : List ℕ) (filter : Filter) (scale : ℕ) where
   read-works e = rw (← e)
 
 -- the blocks visited from cleared buffers
-pub read-all : (J : Job) (r : Placing) (k m g : List ℕ) → k ≡ zeros J → m ≡ zeros J → g ≡ zeros J → r ≡ walk (visit J) (J .bw) (J .bh) (Going (stateOf 0 k m g)) → r ≡ reading J
+pub read-all : (J : Job) (r : Placing) (k m g : List ℕ) → k ≡ zeros J → m ≡ zeros J → g ≡ zeros J → r ≡ rowByRow (visit J) (J .bw) (J .bh) (Going (stateOf 0 k m g)) → r ≡ reading J
 unfolding reading
 read-all J r k m g zk zm zg e = e ∙ rw (zk, zm, zg)
 

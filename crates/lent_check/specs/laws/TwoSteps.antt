@@ -16,7 +16,7 @@ use Rattle.laws.specs.laws.Tables.{each-at}
 use Rattle.dct_select.specs.Transforms.{TRANSFORMS, wide, high}
 use Rattle.layout.specs.Kinds.{wideOf, highOf}
 use Rattle.layout.specs.Walk.{cells, rows}
-use Rattle.layout.specs.Grid.{at, fillFrom}
+use Rattle.layout.specs.Grid.{blockAt, fillFrom}
 use Rattle.layout.specs.laws.Grid.{length-fill, fill-left, fill-in}
 use Rattle.layout.specs.Valid.{Cells, Fits}
 use Rattle.layout.specs.Check.{Covering, Fault, Until, passes, clear, fitting, visitCell, visit, isLayout}
@@ -471,30 +471,30 @@ module _ (bw bh : ℕ) (K : Cells) (y : ℕ) where
 -- Rows from y on.
 module _ (kinds hfMul : List ℕ) (bw bh : ℕ) where
   abbrev pub rowsLeft : ℕ → List ℕ → Bool
-  rowsLeft y u = passes (rows (visit bw bh (at kinds bw) (at hfMul bw)) bw (bh - y) y (Until u))
+  rowsLeft y u = passes (rows (visit bw bh (blockAt kinds bw) (blockAt hfMul bw)) bw (bh - y) y (Until u))
 
   pub rows-start : bw ≤ 256 → isLayout bw bh kinds hfMul ≡ rowsLeft 0 (replicate 256 0)
-  rows-start h = sym (check-room bw bh kinds hfMul 256 h) ∙ ap passes (walk-start (visit bw bh (at kinds bw) (at hfMul bw)) bw bh (Until (replicate 256 0)))
+  rows-start h = sym (check-room bw bh kinds hfMul 256 h) ∙ ap passes (walk-start (visit bw bh (blockAt kinds bw) (blockAt hfMul bw)) bw bh (Until (replicate 256 0)))
 
   pub rows-finish : (y : ℕ) (u : List ℕ) → bh ≤ y → rowsLeft y u ≡ true
-  rows-finish y u h = ap passes (rows-end (visit bw bh (at kinds bw) (at hfMul bw)) bw bh y (Until u) h)
+  rows-finish y u h = ap passes (rows-end (visit bw bh (blockAt kinds bw) (blockAt hfMul bw)) bw bh y (Until u) h)
 
-  module _ (sound : (x y : ℕ) → x < bw → y < bh → Sound (at kinds bw x y) (at hfMul bw x y)) (y : ℕ) (u : List ℕ) (h : y < bh) (r : bw ≤ length u) where
-    row-turn : rowsLeft y u ≡ passes (rows (visit bw bh (at kinds bw) (at hfMul bw)) bw (bh - (y + 1)) (y + 1) (Row bw bh (at kinds bw) y (Until u)))
+  module _ (sound : (x y : ℕ) → x < bw → y < bh → Sound (blockAt kinds bw x y) (blockAt hfMul bw x y)) (y : ℕ) (u : List ℕ) (h : y < bh) (r : bw ≤ length u) where
+    row-turn : rowsLeft y u ≡ passes (rows (visit bw bh (blockAt kinds bw) (blockAt hfMul bw)) bw (bh - (y + 1)) (y + 1) (Row bw bh (blockAt kinds bw) y (Until u)))
     row-turn =
-        let f = visit bw bh (at kinds bw) (at hfMul bw) in
+        let f = visit bw bh (blockAt kinds bw) (blockAt hfMul bw) in
         let e : bw - 0 ≡ bw = omega arith in
         ap passes (rows-step f bw bh y (Until u) h ∙ ap (λ (n : ℕ). rows f bw (bh - (y + 1)) (y + 1) (cells f n 0 y (Until u))) e
-        ∙ ap (rows f bw (bh - (y + 1)) (y + 1)) (row-steps bw bh (at kinds bw) (at hfMul bw) y h (λ x i. sound x y i h) bw 0 (Until u) (omega arith) r))
+        ∙ ap (rows f bw (bh - (y + 1)) (y + 1)) (row-steps bw bh (blockAt kinds bw) (blockAt hfMul bw) y h (λ x i. sound x y i h) bw 0 (Until u) (omega arith) r))
 
     -- a row that passes, and one that does not
-    pub row-next : (u′ : List ℕ) → Until u′ ≡ Row bw bh (at kinds bw) y (Until u) → (rowsLeft y u ≡ rowsLeft (y + 1) u′) × (bw ≤ length u′)
-    row-next u′ e = (row-turn ∙ ap (λ (s : Covering). passes (rows (visit bw bh (at kinds bw) (at hfMul bw)) bw (bh - (y + 1)) (y + 1) s)) (sym e), rw (← e) at (row-wide bw bh (at kinds bw) y (Until u) r))
+    pub row-next : (u′ : List ℕ) → Until u′ ≡ Row bw bh (blockAt kinds bw) y (Until u) → (rowsLeft y u ≡ rowsLeft (y + 1) u′) × (bw ≤ length u′)
+    row-next u′ e = (row-turn ∙ ap (λ (s : Covering). passes (rows (visit bw bh (blockAt kinds bw) (blockAt hfMul bw)) bw (bh - (y + 1)) (y + 1) s)) (sym e), rw (← e) at (row-wide bw bh (blockAt kinds bw) y (Until u) r))
 
-    pub row-stop : Fault ≡ Row bw bh (at kinds bw) y (Until u) → rowsLeft y u ≡ false
+    pub row-stop : Fault ≡ Row bw bh (blockAt kinds bw) y (Until u) → rowsLeft y u ≡ false
     row-stop e =
-        row-turn ∙ ap (λ (s : Covering). passes (rows (visit bw bh (at kinds bw) (at hfMul bw)) bw (bh - (y + 1)) (y + 1) s)) (sym e)
-        ∙ ap passes (rows-stuck (visit bw bh (at kinds bw) (at hfMul bw)) Fault (λ a b. refl) bw (bh - (y + 1)) (y + 1))
+        row-turn ∙ ap (λ (s : Covering). passes (rows (visit bw bh (blockAt kinds bw) (blockAt hfMul bw)) bw (bh - (y + 1)) (y + 1) s)) (sym e)
+        ∙ ap passes (rows-stuck (visit bw bh (blockAt kinds bw) (blockAt hfMul bw)) Fault (λ a b. refl) bw (bh - (y + 1)) (y + 1))
 
 -- what a step's result says
 pub told-good : (r : Bool) (u : List ℕ) (s : Covering) → cond r (Until u) Fault ≡ s → r ≡ true → Until u ≡ s

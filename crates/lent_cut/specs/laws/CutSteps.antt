@@ -7,9 +7,9 @@ use native.Mathlib.Nat.{mul-le-mul-right}
 use native.Mathlib.Omega.{arith}
 use lib.ListN.{length}
 use Rattle.refusal.specs.declared.Said.{Said}
-use Rattle.refusal.specs.Said.{at}
+use Rattle.refusal.specs.Said.{saidAt}
 use Rattle.layout.specs.laws.Loops.{rowsLeft, loop-start}
-use Rattle.layout.specs.Grid.{gridOf, at as cellAt}
+use Rattle.layout.specs.Grid.{gridOf, blockAt as cellAt}
 use Rattle.layout.specs.laws.Fill.{write, written}
 use Rattle.layout.specs.Check.{isLayout}
 use Rattle.layout.specs.Cut.{groupX, groupY, hasGroup, groupBw, groupBh, cut}
@@ -17,9 +17,10 @@ use Rattle.layout.specs.laws.CutLaws.{starts-x, starts-y}
 use Rattle.refusal.specs.Answer.{Answer, gives, refuses, unless}
 use Rattle.lent_sides.specs.Limits.{inLimits, lengthsFit}
 use Rattle.lent_sides.specs.laws.Limits.{in-limits, lengths-fit}
-use Rattle.lent_cut.specs.Calls.{group, Outcome, outcome, cutCheck, cutOf}
+use Rattle.lent_cut.specs.Calls.{Outcome, outcome, cutCheck, cutOf}
 use Rattle.refusal.specs.laws.Answer.{pass}
 use Rattle.lent_check.specs.declared.Group.{Group}
+use Rattle.lent_check.specs.Group.{groupOf}
 
 module _ (bw bh : ℕ) (kinds hfMul : List ℕ) (g ok om : ℕ) where
   -- behind sides and index: the lengths of layout and buffers, the layout
@@ -29,12 +30,12 @@ module _ (bw bh : ℕ) (kinds hfMul : List ℕ) (g ok om : ℕ) where
       (unless 1 (lengthsFit (groupBw bw g) (groupBh bw bh g) ok om)
       (unless 18 (isLayout bw bh kinds hfMul) (gives tt)))
 
-  pub cut-size : inLimits 256 bw bh ≡ false → refuses (at 2 0 0) ≡ cutCheck bw bh kinds hfMul g ok om
+  pub cut-size : inLimits 256 bw bh ≡ false → refuses (saidAt 2 0 0) ≡ cutCheck bw bh kinds hfMul g ok om
   unfolding cutCheck
   cut-size e = rw e
 
   module _ (e : inLimits 256 bw bh ≡ true) where
-    pub cut-index : hasGroup bw bh g ≡ false → refuses (at 2 0 0) ≡ cutCheck bw bh kinds hfMul g ok om
+    pub cut-index : hasGroup bw bh g ≡ false → refuses (saidAt 2 0 0) ≡ cutCheck bw bh kinds hfMul g ok om
     unfolding cutCheck
     cut-index f = rw (e, f)
 
@@ -42,15 +43,15 @@ module _ (bw bh : ℕ) (kinds hfMul : List ℕ) (g ok om : ℕ) where
     unfolding cutCheck
     cut-group f = rw (e, f)
 
-  pub group-short : lengthsFit bw bh (length kinds) (length hfMul) ≡ false → refuses (at 1 0 0) ≡ groupCheck
+  pub group-short : lengthsFit bw bh (length kinds) (length hfMul) ≡ false → refuses (saidAt 1 0 0) ≡ groupCheck
   group-short h = rw h
 
   module _ (h : lengthsFit bw bh (length kinds) (length hfMul) ≡ true) where
-    pub group-buffers : lengthsFit (groupBw bw g) (groupBh bw bh g) ok om ≡ false → refuses (at 1 0 0) ≡ groupCheck
+    pub group-buffers : lengthsFit (groupBw bw g) (groupBh bw bh g) ok om ≡ false → refuses (saidAt 1 0 0) ≡ groupCheck
     group-buffers i = rw (h, i)
 
     module _ (i : lengthsFit (groupBw bw g) (groupBh bw bh g) ok om ≡ true) where
-      pub group-fault : isLayout bw bh kinds hfMul ≡ false → refuses (at 18 0 0) ≡ groupCheck
+      pub group-fault : isLayout bw bh kinds hfMul ≡ false → refuses (saidAt 18 0 0) ≡ groupCheck
       group-fault j = rw (h, i, j)
 
       pub group-fine : isLayout bw bh kinds hfMul ≡ true → gives tt ≡ groupCheck
@@ -76,7 +77,7 @@ module _ (bw bh : ℕ) (kinds hfMul : List ℕ) (g ok om : ℕ) where
 
 -- the outcome of a cut that is not refused
 abbrev pub cutDone : ℕ → ℕ → List ℕ → List ℕ → ℕ → Outcome
-cutDone bw bh kinds hfMul g = outcome (gives (group (groupBw bw g) (groupBh bw bh g))) (cut bw bh g kinds) (cut bw bh g hfMul)
+cutDone bw bh kinds hfMul g = outcome (gives (groupOf (groupBw bw g) (groupBh bw bh g))) (cut bw bh g kinds) (cut bw bh g hfMul)
 
 module _ (bw bh : ℕ) (kinds hfMul : List ℕ) (g : ℕ) (outKinds outHfMul : List ℕ) where
   pub cut-refused : (s : Said) → cutCheck bw bh kinds hfMul g (length outKinds) (length outHfMul) ≡ refuses s → cutOf bw bh kinds hfMul g outKinds outHfMul ≡ outcome (refuses s) outKinds outHfMul
@@ -96,10 +97,10 @@ module _ (bw bh : ℕ) (kinds hfMul : List ℕ) (g : ℕ) (outKinds outHfMul : L
     pub outKindsFit : length outKinds ≡ r .bh * r .bw
     pub outHfMulFit : length outHfMul ≡ r .bh * r .bw
 
-  pub ready : (gx gy : ℕ) (r : Group) → Passed bw bh kinds hfMul g (length outKinds) (length outHfMul) → gx ≡ groupX bw g → gy ≡ groupY bw g → r ≡ group (groupBw bw g) (groupBh bw bh g) → Ready gx gy r
+  pub ready : (gx gy : ℕ) (r : Group) → Passed bw bh kinds hfMul g (length outKinds) (length outHfMul) → gx ≡ groupX bw g → gy ≡ groupY bw g → r ≡ groupOf (groupBw bw g) (groupBh bw bh g) → Ready gx gy r
   ready gx gy r p ex ey er = rw (ex, ey, er) here
     where
-      here : Ready (groupX bw g) (groupY bw g) (group (groupBw bw g) (groupBh bw bh g))
+      here : Ready (groupX bw g) (groupY bw g) (groupOf (groupBw bw g) (groupBh bw bh g))
       here =
           let s = in-limits 256 bw bh (p .sides) in
           let x = starts-x bw bh g (p .index) in
@@ -110,7 +111,7 @@ module _ (bw bh : ℕ) (kinds hfMul : List ℕ) (g : ℕ) (outKinds outHfMul : L
           let m = mul-le-mul-right bw h in
           record { fitsX = omega arith; fitsY = omega arith; fits = omega arith; same = omega arith; outKindsFit = b .0; outHfMulFit = b .1 }
 
-pub copied : (bw bh g : ℕ) (l : List ℕ) (gx gy : ℕ) (r : Group) → gx ≡ groupX bw g → gy ≡ groupY bw g → r ≡ group (groupBw bw g) (groupBh bw bh g)
+pub copied : (bw bh g : ℕ) (l : List ℕ) (gx gy : ℕ) (r : Group) → gx ≡ groupX bw g → gy ≡ groupY bw g → r ≡ groupOf (groupBw bw g) (groupBh bw bh g)
     → gridOf (λ x y. cellAt l bw (32 * gx + x) (32 * gy + y)) (r .bw) (r .bh) ≡ cut bw bh g l
 unfolding cut
 copied bw bh g l gx gy r ex ey er = rw (ex, ey, er)

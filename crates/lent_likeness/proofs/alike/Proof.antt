@@ -2,7 +2,7 @@ use mathlib.Core.Path.{_≡_, _∙_, sym}
 use mathlib.Core.Bool.{true, false, _&&_}
 use borrow.Author.Tests.{not-true, not-false}
 use Rattle.laws.specs.laws.Cases.{and-true}
-use Rattle.layout.specs.Like.{Lent, lent}
+use Rattle.layout.specs.Like.{LentLayout, lentLayout}
 use Rattle.lent_likeness.specs.Calls.{sided, filled, holdsLayout}
 use Rattle.lent_likeness.specs.laws.LikeSteps.{like-size, like-length, like-fault, like-says, both-lent}
 use borrow.Author.Needs.{needs}
@@ -10,11 +10,11 @@ use Rattle.lent_likeness.proofs.alike.Statement.{statement}
 use Rattle.lent_likeness.proofs.alike.Tie as tie
 
 -- the two layouts
-abbrev one : tie.After-both-sided → Lent
-one c = let a = c .before .before .before .before .before .args in lent (a .bw) (a .bh) (a .kinds .now) (a .hf-mul .now)
+abbrev one : tie.After-both-sided → LentLayout
+one c = let a = c .before .before .before .before .before .args in lentLayout (a .bw) (a .bh) (a .kinds .now) (a .hf-mul .now)
 
-abbrev two : tie.After-both-sided → Lent
-two c = let a = c .before .before .before .before .before .args in lent (a .bw2) (a .bh2) (a .kinds2 .now) (a .hf-mul2 .now)
+abbrev two : tie.After-both-sided → LentLayout
+two c = let a = c .before .before .before .before .before .args in lentLayout (a .bw2) (a .bh2) (a .kinds2 .now) (a .hf-mul2 .now)
 
 -- what the tests say of them
 sides : (c : tie.Else1) → (sided (one (c .before)) && sided (two (c .before))) ≡ true

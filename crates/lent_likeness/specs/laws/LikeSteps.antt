@@ -9,10 +9,10 @@ use lib.Dec.{ltb, leb, eqb}
 use lib.ListN.{length, getD}
 use borrow.Author.Tests.{lt-ltb, le-ltb, le-leb, lt-leb, eq-eqb, ne-eqb}
 use Rattle.laws.specs.laws.Cases.{le-or-lt, and-true}
-use Rattle.refusal.specs.Said.{at}
+use Rattle.refusal.specs.Said.{saidAt}
 use Rattle.layout.specs.Kinds.{wideOf, highOf}
 use Rattle.layout.specs.laws.WalkSteps.{left-suc}
-use Rattle.layout.specs.Like.{Lent, bySort, alikeCorners, alikeCell, alikeFrom, alike}
+use Rattle.layout.specs.Like.{LentLayout, bySort, alikeCorners, alikeCell, alikeFrom, alike}
 use Rattle.refusal.specs.Answer.{gives, refuses}
 use Rattle.lent_sides.specs.laws.Limits.{lengths-fit}
 use Rattle.lent_check.specs.laws.Laws.{isLentLayout}
@@ -76,24 +76,24 @@ module _ (r a b : Bool) (e : r ≡ a) where
   both-first t = rw (← e, t)
 
 -- a layout that is lent in full, as the code tests it
-abbrev pub lentLayout : Lent → Bool
-lentLayout L = isLentLayout (L .bw) (L .bh) (L .kinds) (L .hfMul)
+abbrev pub isLent : LentLayout → Bool
+isLent L = isLentLayout (L .bw) (L .bh) (L .kinds) (L .hfMul)
 
-is-lent : (L : Lent) → sided L ≡ true → filled L ≡ true → lentLayout L ≡ holdsLayout L
+is-lent : (L : LentLayout) → sided L ≡ true → filled L ≡ true → isLent L ≡ holdsLayout L
 is-lent L = lent-cells (L .bw) (L .bh) (L .kinds) (L .hfMul)
 
-module _ (L N : Lent) where
-  pub like-size : (sided L && sided N) ≡ false → refuses (at 2 0 0) ≡ likeOf L N
+module _ (L N : LentLayout) where
+  pub like-size : (sided L && sided N) ≡ false → refuses (saidAt 2 0 0) ≡ likeOf L N
   unfolding likeOf
   like-size a = rw a
 
   module _ (a : (sided L && sided N) ≡ true) where
-    pub like-length : (filled L && filled N) ≡ false → refuses (at 1 0 0) ≡ likeOf L N
+    pub like-length : (filled L && filled N) ≡ false → refuses (saidAt 1 0 0) ≡ likeOf L N
     unfolding likeOf
     like-length b = rw (a, b)
 
     module _ (b : (filled L && filled N) ≡ true) where
-      pub like-fault : (holdsLayout L && holdsLayout N) ≡ false → refuses (at 18 0 0) ≡ likeOf L N
+      pub like-fault : (holdsLayout L && holdsLayout N) ≡ false → refuses (saidAt 18 0 0) ≡ likeOf L N
       unfolding likeOf
       like-fault c = rw (a, b, c)
 
@@ -101,7 +101,7 @@ module _ (L N : Lent) where
       unfolding likeOf
       like-says c r e = rw (a, b, c, e)
 
-      pub both-lent : (lentLayout L && lentLayout N) ≡ (holdsLayout L && holdsLayout N)
+      pub both-lent : (isLent L && isLent N) ≡ (holdsLayout L && holdsLayout N)
       both-lent =
           let p = and-true (sided L) (sided N) a in
           let q = and-true (filled L) (filled N) b in

@@ -6,7 +6,7 @@ use lib.ListN.{getD, set}
 use native.Mathlib.Omega.{arith}
 use borrow.Author.Needs.{needs}
 use Rattle.layout.specs.Walk.{cells}
-use Rattle.layout.specs.Grid.{at}
+use Rattle.layout.specs.Grid.{blockAt}
 use Rattle.layout.specs.Check.{Covering, Until}
 use Rattle.lent_check.specs.laws.TwoSteps.{gapOf, close, closing, close-start, close-next, close-end}
 use Rattle.lent_check.proofs.rows.close_row.Statement.{statement}
@@ -14,7 +14,7 @@ use Rattle.lent_check.proofs.rows.close_row.Tie as tie
 
 abbrev Inv-loop : tie.InvT-loop
 Inv-loop until₀ bw kinds y start row gaps₀ x₀ until gaps x =
-    (x ≤ bw) × (gaps ≤ x) × (cells (close (at kinds bw)) bw 0 y (Until until₀) ≡ closing bw 0 (at kinds bw) y gaps x until)
+    (x ≤ bw) × (gaps ≤ x) × (cells (close (blockAt kinds bw)) bw 0 y (Until until₀) ≡ closing bw 0 (blockAt kinds bw) y gaps x until)
 
 abbrev μ-loop : tie.MeasureT-loop
 μ-loop until₀ bw kinds y start row gaps₀ x₀ until gaps x = bw - x
@@ -31,7 +31,7 @@ cast-row : tie.Need-cast-row Inv-loop μ-loop
 cast-row c = search needs
 
 loop-holds : tie.Need-loop-holds Inv-loop μ-loop
-loop-holds c = let a = c .before .args in (omega arith, omega arith, close-start (a .bw) 0 (at (a .kinds .now) (a .bw)) (a .y) (a .until .now))
+loop-holds c = let a = c .before .args in (omega arith, omega arith, close-start (a .bw) 0 (blockAt (a .kinds .now) (a .bw)) (a .y) (a .until .now))
 
 mul-u : tie.Need-mul-u Inv-loop μ-loop
 mul-u c = search needs
@@ -79,7 +79,7 @@ loop-again : tie.Need-loop-again Inv-loop μ-loop
 loop-again c =
     let a = c .before .before .before .before .before .before .before .args in
     let l = c .before .before .before .before .before .loop in
-    let k = at (a .kinds .now) (a .bw) in
+    let k = blockAt (a .kinds .now) (a .bw) in
     let g = c .before .gap .ensures in
     let n : max (getD (l .until) (l .x) 0) (a .y + 1) ≡ c .most .result = sym (c .most .ensures) in
     let e : l .gaps + gapOf (k (l .x) (a .y)) (a .y) (getD (l .until) (l .x) 0) ≡ l .gaps + c .before .gap .result = ap (λ (m : ℕ). l .gaps + m) (sym (g .0)) in
@@ -89,7 +89,7 @@ returns : tie.Need-returns Inv-loop μ-loop
 returns c =
     let a = c .before .before .before .args in
     let l = c .before .loop in
-    sym (l .inv .2 ∙ close-end (a .bw) 0 (at (a .kinds .now) (a .bw)) (a .y) (l .gaps) (l .x) (l .until) (omega arith))
+    sym (l .inv .2 ∙ close-end (a .bw) 0 (blockAt (a .kinds .now) (a .bw)) (a .y) (l .gaps) (l .x) (l .until) (omega arith))
 
 pub close-row-spec : {M : Type 1} → statement M
 close-row-spec =

@@ -5,13 +5,13 @@ use lib.Arith.{digits-lt}
 use lib.ListN.{getD}
 use native.Mathlib.Omega.{arith}
 use borrow.Author.Needs.{needs}
-use Rattle.layout.specs.Grid.{at}
+use Rattle.layout.specs.Grid.{blockAt}
 use Rattle.lent_check.specs.laws.TwoSteps.{LARGER, larger-flag, Listing, list-start, list-step, list-end}
 use Rattle.lent_check.proofs.rows.list_row.Statement.{statement}
 use Rattle.lent_check.proofs.rows.list_row.Tie as tie
 
 abbrev Inv-loop : tie.InvT-loop
-Inv-loop list₀ larger bw kinds y start n₀ x₀ list n x = Listing (at kinds bw) y bw n x list
+Inv-loop list₀ larger bw kinds y start n₀ x₀ list n x = Listing (blockAt kinds bw) y bw n x list
 
 abbrev μ-loop : tie.MeasureT-loop
 μ-loop list₀ larger bw kinds y start n₀ x₀ list n x = bw - x
@@ -25,7 +25,7 @@ mul-start c =
     omega arith
 
 loop-holds : tie.Need-loop-holds Inv-loop μ-loop
-loop-holds c = let a = c .before .args in list-start (at (a .kinds .now) (a .bw)) (a .y) (a .bw) (a .list .now) (c .before .pre .5)
+loop-holds c = let a = c .before .args in list-start (blockAt (a .kinds .now) (a .bw)) (a .y) (a .bw) (a .list .now) (c .before .pre .5)
 
 cast-list : tie.Need-cast-list Inv-loop μ-loop
 cast-list c = search needs
@@ -83,13 +83,13 @@ loop-again c =
     let d = digits-lt {q = a .y} {m = a .y + 1} {r = l .x} {c = a .bw} (omega arith) (omega arith) in
     let k = c .before .before .before .before .before .before .before .pre .4 (a .y * a .bw + l .x) (omega arith) in
     let v : c .to-usize2 .result ≡ getD LARGER (getD (a .kinds .now) (a .y * a .bw + l .x) 0) 0 = c .to-usize2 .ensures ∙ rw (c .before .before .before .before .before .before .before .pre .0, c .before .before .to-usize .ensures) in
-    list-step (at (a .kinds .now) (a .bw)) (a .y) (a .bw) (l .n) (l .x) (c .to-usize2 .result) (l .list) (omega arith) (c .before .before .before .before .before .before .before .pre .1) k v (l .inv)
+    list-step (blockAt (a .kinds .now) (a .bw)) (a .y) (a .bw) (l .n) (l .x) (c .to-usize2 .result) (l .list) (omega arith) (c .before .before .before .before .before .before .before .pre .1) k v (l .inv)
 
 returns : tie.Need-returns Inv-loop μ-loop
 returns c =
     let a = c .before .before .before .args in
     let l = c .before .loop in
-    list-end (at (a .kinds .now) (a .bw)) (a .y) (a .bw) (l .n) (l .x) (l .list) (omega arith) (c .before .before .before .pre .1) (l .inv)
+    list-end (blockAt (a .kinds .now) (a .bw)) (a .y) (a .bw) (l .n) (l .x) (l .list) (omega arith) (c .before .before .before .pre .1) (l .inv)
 
 pub list-row-spec : {M : Type 1} → statement M
 list-row-spec =

@@ -7,7 +7,7 @@ use borrow.Author.Tests.{not-true, not-false}
 use native.Mathlib.Omega.{arith}
 use borrow.Author.Needs.{needs}
 use Rattle.layout.specs.Walk.{cells}
-use Rattle.layout.specs.Grid.{at}
+use Rattle.layout.specs.Grid.{blockAt}
 use Rattle.layout.specs.Check.{Until}
 use Rattle.lent_check.specs.laws.TwoSteps.{placeCell, place, placeAll, looked, column-below, place-start, place-next, place-stop, place-end, told-good, told-bad}
 use Rattle.lent_check.proofs.rows.place_row.Statement.{statement}
@@ -15,7 +15,7 @@ use Rattle.lent_check.proofs.rows.place_row.Tie as tie
 
 abbrev Inv-loop : tie.InvT-loop
 Inv-loop until₀ larger wides highs bw bh kinds y start list n i₀ until i =
-    (i ≤ n) × (cells (place bw bh (at kinds bw)) bw 0 y (Until until₀) ≡ placeAll bw bh (at kinds bw) y (drop i (looked (at kinds bw) y bw 0)) (Until until))
+    (i ≤ n) × (cells (place bw bh (blockAt kinds bw)) bw 0 y (Until until₀) ≡ placeAll bw bh (blockAt kinds bw) y (drop i (looked (blockAt kinds bw) y bw 0)) (Until until))
 
 abbrev μ-loop : tie.MeasureT-loop
 μ-loop until₀ larger wides highs bw bh kinds y start list n i₀ until i = n - i
@@ -38,7 +38,7 @@ list-row-requires c κs =
     (p .0, omega arith, omega arith, omega arith, p .7, omega arith)
 
 loop-holds : tie.Need-loop-holds Inv-loop μ-loop
-loop-holds c = let a = c .before .before .before .args in (omega arith, place-start (a .bw) (a .bh) (at (a .kinds .now) (a .bw)) (a .y) (a .until .now))
+loop-holds c = let a = c .before .before .before .args in (omega arith, place-start (a .bw) (a .bh) (blockAt (a .kinds .now) (a .bw)) (a .y) (a .until .now))
 
 array-read-to-usize : tie.Need-array-read-to-usize Inv-loop μ-loop
 array-read-to-usize c = let r = c .before .before .list-row .ensures .room in omega arith
@@ -50,7 +50,7 @@ below : (c : tie.After-to-usize Inv-loop μ-loop) → c .to-usize .result < c .b
 below c =
     let a = c .before .before .before .before .before .before .args in
     let r = c .before .before .before .list-row in
-    let b = column-below (at (a .kinds .now) (a .bw)) (a .y) (a .bw) (c .before .before .loop .i) (r .result) (r .last .0) (r .ensures) (omega arith) in
+    let b = column-below (blockAt (a .kinds .now) (a .bw)) (a .y) (a .bw) (c .before .before .loop .i) (r .result) (r .last .0) (r .ensures) (omega arith) in
     omega (arith, c .to-usize .ensures)
 
 add-kind : tie.Need-add-kind Inv-loop μ-loop
@@ -80,7 +80,7 @@ returns c =
     let v = c .before .place-cell in
     let r = c .before .before .before .before .before .before .before .list-row in
     let x = c .before .before .before .before .to-usize .result in
-    let k = at (a .kinds .now) (a .bw) in
+    let k = blockAt (a .kinds .now) (a .bw) in
     sym (l .inv .1 ∙ place-stop (a .bw) (a .bh) k (a .y) (l .i) (looked k (a .y) (a .bw) 0) x (l .until) (omega (arith, r .ensures .count)) (c .before .before .before .before .to-usize .ensures ∙ r .ensures .same (l .i) (omega arith)) (told-bad (v .result) (v .last .0) (placeCell (a .bw) (a .bh) (k x (a .y)) x (a .y) (l .until)) (v .ensures) (not-true (v .result) (c .if1 .taken))))
 
 add-i : tie.Need-add-i Inv-loop μ-loop
@@ -96,14 +96,14 @@ loop-again c =
     let v = c .before .place-cell in
     let r = c .before .before .before .before .before .before .before .list-row in
     let x = c .before .before .before .before .to-usize .result in
-    let k = at (a .kinds .now) (a .bw) in
+    let k = blockAt (a .kinds .now) (a .bw) in
     (omega arith, l .inv .1 ∙ place-next (a .bw) (a .bh) k (a .y) (l .i) (looked k (a .y) (a .bw) 0) x (l .until) (omega (arith, r .ensures .count)) (c .before .before .before .before .to-usize .ensures ∙ r .ensures .same (l .i) (omega arith)) (v .last .0) (told-good (v .result) (v .last .0) (placeCell (a .bw) (a .bh) (k x (a .y)) x (a .y) (l .until)) (v .ensures) (not-false (v .result) (c .if1 .left))))
 
 returns-2 : tie.Need-returns-2 Inv-loop μ-loop
 returns-2 c =
     let a = c .before .before .before .before .before .args in
     let l = c .before .loop in
-    sym (l .inv .1 ∙ place-end (a .bw) (a .bh) (at (a .kinds .now) (a .bw)) (a .y) (l .i) (looked (at (a .kinds .now) (a .bw)) (a .y) (a .bw) 0) (l .until) (omega (arith, c .before .before .list-row .ensures .count)))
+    sym (l .inv .1 ∙ place-end (a .bw) (a .bh) (blockAt (a .kinds .now) (a .bw)) (a .y) (l .i) (looked (blockAt (a .kinds .now) (a .bw)) (a .y) (a .bw) 0) (l .until) (omega (arith, c .before .before .list-row .ensures .count)))
 
 pub place-row-spec : {M : Type 1} → statement M
 place-row-spec =
