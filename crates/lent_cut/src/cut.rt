@@ -179,14 +179,16 @@ fn copy_group(
     let gx = group_x(bw, index);
     let gy = group_y(bw, index);
     let group = sides_of(bw, bh, index);
+    let group_bw = group.bw;
+    let group_bh = group.bh;
     copy_cells(
         bw,
         kinds,
         hf_mul,
         32 * gx,
         32 * gy,
-        group.bw,
-        group.bh,
+        group_bw,
+        group_bh,
         out_kinds,
         out_hf_mul,
     );
