@@ -16,7 +16,7 @@ ghost use Rattle.refusal.specs.laws.Answer.{checked};
 ghost use Rattle.lent_sides.specs.Limits.{inLimits};
 ghost use Rattle.lent_check.specs.Group.{groupOf};
 ghost use Rattle.lent_cut.specs.Calls.{saidCut, outcome, cutCheck, cutOf};
-ghost use Rattle.lent_cut.specs.laws.CutSteps.{groupCheck, Passed, cutDone};
+ghost use Rattle.lent_cut.specs.laws.CutSteps.{Passed, cutDone};
 
 // What the cut answers: the sides of the group.
 pub enum CutAnswer {
@@ -87,32 +87,6 @@ fn sides_of(bw: usize, bh: usize, index: usize) -> Group
     }
 }
 
-// Of a group that the layout has: lengths (1), 18.
-fn group_check(
-    bw: usize,
-    bh: usize,
-    kinds: &[u8],
-    hf_mul: &[u32],
-    index: usize,
-    out_kinds: usize,
-    out_hf_mul: usize,
-) -> Checked
-    requires { ⌜ (inLimits 256 bw bh ≡ true) × (hasGroup bw bh index ≡ true) ⌝ }
-    ensures { λ r. ⌜ checked r ≡ groupCheck bw bh (now (kinds .entry)) (now («hf_mul» .entry)) index «out_kinds» «out_hf_mul» ⌝ }
-{
-    if !lengths_fit(bw, bh, kinds.len(), hf_mul.len()) {
-        return Checked::Refused(Refusal::Length);
-    }
-    let group = sides_of(bw, bh, index);
-    if !lengths_fit(group.bw, group.bh, out_kinds, out_hf_mul) {
-        return Checked::Refused(Refusal::Length);
-    }
-    if !is_layout(bw, bh, kinds, hf_mul) {
-        return Checked::Refused(Refusal::Layout);
-    }
-    Checked::Fine
-}
-
 // What comes before the cut: sides and index (2), lengths (1), 18.
 fn cut_check(
     bw: usize,
@@ -131,7 +105,17 @@ fn cut_check(
     if !has_group(bw, bh, index) {
         return Checked::Refused(Refusal::Size);
     }
-    group_check(bw, bh, kinds, hf_mul, index, out_kinds, out_hf_mul)
+    if !lengths_fit(bw, bh, kinds.len(), hf_mul.len()) {
+        return Checked::Refused(Refusal::Length);
+    }
+    let group = sides_of(bw, bh, index);
+    if !lengths_fit(group.bw, group.bh, out_kinds, out_hf_mul) {
+        return Checked::Refused(Refusal::Length);
+    }
+    if !is_layout(bw, bh, kinds, hf_mul) {
+        return Checked::Refused(Refusal::Layout);
+    }
+    Checked::Fine
 }
 
 // The cells of a group whose first block is (left, top).

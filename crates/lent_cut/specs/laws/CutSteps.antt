@@ -14,7 +14,7 @@ use Rattle.layout.specs.laws.Fill.{write, written}
 use Rattle.layout.specs.Check.{isLayout}
 use Rattle.layout.specs.Cut.{groupX, groupY, hasGroup, groupBw, groupBh, cut}
 use Rattle.layout.specs.laws.CutLaws.{starts-x, starts-y}
-use Rattle.refusal.specs.Answer.{Answer, gives, refuses, unless}
+use Rattle.refusal.specs.Answer.{gives, refuses}
 use Rattle.lent_sides.specs.Limits.{inLimits, lengthsFit}
 use Rattle.lent_sides.specs.laws.Limits.{in-limits, lengths-fit}
 use Rattle.lent_cut.specs.Calls.{Outcome, outcome, cutCheck, cutOf}
@@ -23,13 +23,6 @@ use Rattle.lent_check.specs.declared.Group.{Group}
 use Rattle.lent_check.specs.Group.{groupOf}
 
 module _ (bw bh : ℕ) (kinds hfMul : List ℕ) (g ok om : ℕ) where
-  -- behind sides and index: the lengths of layout and buffers, the layout
-  abbrev pub groupCheck : Answer Unit
-  groupCheck =
-      unless 1 (lengthsFit bw bh (length kinds) (length hfMul))
-      (unless 1 (lengthsFit (groupBw bw g) (groupBh bw bh g) ok om)
-      (unless 18 (isLayout bw bh kinds hfMul) (gives tt)))
-
   pub cut-size : inLimits 256 bw bh ≡ false → refuses (saidAt 2 0 0) ≡ cutCheck bw bh kinds hfMul g ok om
   unfolding cutCheck
   cut-size e = rw e
@@ -39,23 +32,24 @@ module _ (bw bh : ℕ) (kinds hfMul : List ℕ) (g ok om : ℕ) where
     unfolding cutCheck
     cut-index f = rw (e, f)
 
-    pub cut-group : hasGroup bw bh g ≡ true → groupCheck ≡ cutCheck bw bh kinds hfMul g ok om
-    unfolding cutCheck
-    cut-group f = rw (e, f)
+    module _ (f : hasGroup bw bh g ≡ true) where
+      pub cut-lent : lengthsFit bw bh (length kinds) (length hfMul) ≡ false → refuses (saidAt 1 0 0) ≡ cutCheck bw bh kinds hfMul g ok om
+      unfolding cutCheck
+      cut-lent h = rw (e, f, h)
 
-  pub group-short : lengthsFit bw bh (length kinds) (length hfMul) ≡ false → refuses (saidAt 1 0 0) ≡ groupCheck
-  group-short h = rw h
+      module _ (h : lengthsFit bw bh (length kinds) (length hfMul) ≡ true) where
+        pub cut-buffers : lengthsFit (groupBw bw g) (groupBh bw bh g) ok om ≡ false → refuses (saidAt 1 0 0) ≡ cutCheck bw bh kinds hfMul g ok om
+        unfolding cutCheck
+        cut-buffers i = rw (e, f, h, i)
 
-  module _ (h : lengthsFit bw bh (length kinds) (length hfMul) ≡ true) where
-    pub group-buffers : lengthsFit (groupBw bw g) (groupBh bw bh g) ok om ≡ false → refuses (saidAt 1 0 0) ≡ groupCheck
-    group-buffers i = rw (h, i)
+        module _ (i : lengthsFit (groupBw bw g) (groupBh bw bh g) ok om ≡ true) where
+          pub cut-fault : isLayout bw bh kinds hfMul ≡ false → refuses (saidAt 18 0 0) ≡ cutCheck bw bh kinds hfMul g ok om
+          unfolding cutCheck
+          cut-fault j = rw (e, f, h, i, j)
 
-    module _ (i : lengthsFit (groupBw bw g) (groupBh bw bh g) ok om ≡ true) where
-      pub group-fault : isLayout bw bh kinds hfMul ≡ false → refuses (saidAt 18 0 0) ≡ groupCheck
-      group-fault j = rw (h, i, j)
-
-      pub group-fine : isLayout bw bh kinds hfMul ≡ true → gives tt ≡ groupCheck
-      group-fine j = rw (h, i, j)
+          pub cut-fine : isLayout bw bh kinds hfMul ≡ true → gives tt ≡ cutCheck bw bh kinds hfMul g ok om
+          unfolding cutCheck
+          cut-fine j = rw (e, f, h, i, j)
 
   -- what passed checks tell
   pub record Passed : Type 0 where
