@@ -33,8 +33,8 @@ use Rattle.layout_filter.specs.Limits.{paramsFit}
 use Rattle.layout_filter.specs.Finite.{SIGMA-MOST, Within}
 use Rattle.layout_filter.specs.laws.Finite.{within-finite, sigma-within, sigma-back}
 use Rattle.layout_sizes.specs.Blocks.{modesFit}
-use Rattle.layout_reading.specs.Scan.{Scan, Taking, Left, isOn, sigmaWith, takeCell, scan}
-use Rattle.layout_reading.specs.Reading.{Job, Placed, start}
+use Rattle.layout_placing.specs.Scan.{Scan, Taking, Left, isOn, sigmaWith, takeCell, scan}
+use Rattle.layout_placing.specs.Reading.{Job, Placed, start}
 use Rattle.refusal.specs.Answer.{gives}
 use Rattle.layout_call.specs.Call.{Inputs, jobOf, layoutOf}
 use Rattle.layout_accepted.specs.laws.Took.{InRect, passed, cell-took}
