@@ -29,13 +29,13 @@ fn cells_fit(bw: usize, bh: usize, kinds: &[u8], hf_mul: &[u32]) -> bool
     let larger = LARGER;
     let wides = WIDE;
     let highs = HIGH;
-    let mut until = [0u16; 256];
+    let mut depth = [0u8; 256];
     let mut y = 0;
     while y < bh {
-        if !place_row(&mut until, &larger, &wides, &highs, bw, bh, kinds, y) {
+        if !place_row(&mut depth, &larger, &wides, &highs, bw, bh, kinds, y) {
             return false;
         }
-        if !close_row(&mut until, bw, kinds, y) {
+        if !close_row(&mut depth, bw, kinds, y) {
             return false;
         }
         y += 1;

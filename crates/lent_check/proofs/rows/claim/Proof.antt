@@ -5,24 +5,21 @@ use lib.ListN.{getD}
 use native.Mathlib.Omega.{arith}
 use borrow.Author.Needs.{needs}
 use Rattle.layout.specs.Check.{Covering, Fault, Until}
-use Rattle.lent_check.specs.laws.TwoSteps.{claimed, claim-start, claim-stop, claim-next, claim-end}
+use Rattle.lent_check.specs.laws.Claims.{claimed, claim-start, claim-stop, claim-next, claim-end}
 use Rattle.lent_check.proofs.rows.claim.Statement.{statement}
 use Rattle.lent_check.proofs.rows.claim.Tie as tie
 
 abbrev Inv-loop : tie.InvT-loop
-Inv-loop until₀ y x n v e i₀ until i = (i ≤ e) × (claimed until₀ y x n v ≡ claimed until y i (e - i) v)
+Inv-loop depth₀ x n v e i₀ depth i = (i ≤ e) × (claimed depth₀ x n v ≡ claimed depth i (e - i) v)
 
 abbrev μ-loop : tie.MeasureT-loop
-μ-loop until₀ y x n v e i₀ until i = e - i
+μ-loop depth₀ x n v e i₀ depth i = e - i
 
 add-e : tie.Need-add-e Inv-loop μ-loop
 add-e c = search needs
 
 loop-holds : tie.Need-loop-holds Inv-loop μ-loop
-loop-holds c = let a = c .args in (omega arith, claim-start (a .until .now) (a .y) (a .x) (a .n) (a .v))
-
-mul-if1 : tie.Need-mul-if1 Inv-loop μ-loop
-mul-if1 c = search needs
+loop-holds c = let a = c .args in (omega arith, claim-start (a .depth .now) (a .x) (a .n) (a .v))
 
 element-copy-out-if1 : tie.Need-element-copy-out-if1 Inv-loop μ-loop
 element-copy-out-if1 c = search needs
@@ -31,13 +28,10 @@ returns : tie.Need-returns Inv-loop μ-loop
 returns c =
     let a = c .before .before .before .before .args in
     let l = c .before .before .before .loop in
-    sym (l .inv .1 ∙ claim-stop (l .until) (a .y) (l .i) (a .x + a .n) (a .v) (omega arith) (omega arith))
+    sym (l .inv .1 ∙ claim-stop (l .depth) (l .i) (a .x + a .n) (a .v) (omega arith) (omega arith))
 
-mul-until : tie.Need-mul-until Inv-loop μ-loop
-mul-until c = search needs
-
-element-write-until : tie.Need-element-write-until Inv-loop μ-loop
-element-write-until c = search needs
+element-write-depth : tie.Need-element-write-depth Inv-loop μ-loop
+element-write-depth c = search needs
 
 add-i : tie.Need-add-i Inv-loop μ-loop
 add-i c = search needs
@@ -49,13 +43,13 @@ loop-again : tie.Need-loop-again Inv-loop μ-loop
 loop-again c =
     let a = c .before .before .before .before .args in
     let l = c .before .before .before .loop in
-    (omega arith, l .inv .1 ∙ claim-next (l .until) (a .y) (l .i) (a .x + a .n) (a .v) (omega arith) (omega arith))
+    (omega arith, l .inv .1 ∙ claim-next (l .depth) (l .i) (a .x + a .n) (a .v) (omega arith) (omega arith))
 
 returns-2 : tie.Need-returns-2 Inv-loop μ-loop
 returns-2 c =
     let a = c .before .before .args in
     let l = c .before .loop in
-    sym (l .inv .1 ∙ claim-end (l .until) (a .y) (l .i) (a .x + a .n) (a .v) (omega arith))
+    sym (l .inv .1 ∙ claim-end (l .depth) (l .i) (a .x + a .n) (a .v) (omega arith))
 
 pub claim-spec : {M : Type 1} → statement M
-claim-spec = tie.close (tie.spec Inv-loop μ-loop add-e loop-holds mul-if1 element-copy-out-if1 returns mul-until element-write-until add-i loop-less loop-again returns-2)
+claim-spec = tie.close (tie.spec Inv-loop μ-loop add-e loop-holds element-copy-out-if1 returns element-write-depth add-i loop-less loop-again returns-2)

@@ -6,7 +6,8 @@ use lib.ListN.{getD}
 use native.Mathlib.Omega.{arith}
 use borrow.Author.Needs.{needs}
 use Rattle.layout.specs.Grid.{at}
-use Rattle.lent_check.specs.laws.TwoSteps.{LARGER, larger-flag, Listing, list-start, list-step, list-end}
+use Rattle.lent_check.specs.laws.Sorts.{LARGER, larger-flag}
+use Rattle.lent_check.specs.laws.Listing.{Listing, list-start, list-step, list-end}
 use Rattle.lent_check.proofs.rows.list_row.Statement.{statement}
 use Rattle.lent_check.proofs.rows.list_row.Tie as tie
 

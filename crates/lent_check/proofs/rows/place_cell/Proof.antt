@@ -10,7 +10,9 @@ use Rattle.layout.specs.Kinds.{wideOf, highOf}
 use Rattle.layout.specs.Valid.{Fits}
 use Rattle.layout.specs.laws.CheckLaws.{fitting-fits}
 use Rattle.lent_check.specs.laws.Corners.{size-corner}
-use Rattle.lent_check.specs.laws.TwoSteps.{LARGER, claimed, place-plain, place-free, place-unfit, place-fit}
+use Rattle.lent_check.specs.laws.Sorts.{LARGER}
+use Rattle.lent_check.specs.laws.Steps.{place-plain, place-free, place-unfit, place-fit}
+use Rattle.lent_check.specs.laws.Claims.{claimed}
 use Rattle.lent_check.proofs.rows.place_cell.Statement.{statement}
 use Rattle.lent_check.proofs.rows.place_cell.Tie as tie
 
@@ -36,12 +38,12 @@ element-copy-out-if1 c = let t = c .to-usize .ensures in let p = c .before .pre 
 returns : tie.Need-returns
 returns c =
     let a = c .before .before .before .args in
-    sym (place-plain (a .bw) (a .bh) (a .kind) (a .x) (a .y) (a .until .now) (let t = c .if1 .taken in rw (c .before .before .before .pre .0, c .before .before .to-usize .ensures) at t))
+    sym (place-plain (a .bw) (a .bh) (a .kind) (a .x) (a .y) (a .depth .now) (let t = c .if1 .taken in rw (c .before .before .before .pre .0, c .before .before .to-usize .ensures) at t))
 
 returns-2 : tie.Need-returns-2
 returns-2 c =
     let a = c .before .before .before .before .args in
-    sym (place-free (a .bw) (a .bh) (a .kind) (a .x) (a .y) (a .until .now) (looked (c .before)) (omega arith))
+    sym (place-free (a .bw) (a .bh) (a .kind) (a .x) (a .y) (a .depth .now) (looked (c .before)) (omega arith))
 
 size-of-requires : tie.Need-size-of-requires
 size-of-requires c κs = search needs
@@ -55,20 +57,11 @@ fits-requires c κs =
 returns-3 : tie.Need-returns-3
 returns-3 c =
     let a = c .before .before .before .before .before .before .before .args in
-    sym (place-unfit (a .bw) (a .bh) (a .kind) (a .x) (a .y) (a .until .now) (looked (c .before .before .before .before)) (omega arith) (sym (c .before .fits2 .ensures) ∙ not-true (c .before .fits2 .result) (c .if3 .taken)))
+    sym (place-unfit (a .bw) (a .bh) (a .kind) (a .x) (a .y) (a .depth .now) (looked (c .before .before .before .before)) (omega arith) (sym (c .before .fits2 .ensures) ∙ not-true (c .before .fits2 .result) (c .if3 .taken)))
 
 cast-claim : tie.Need-cast-claim
-cast-claim c = search needs
-
-add-claim : tie.Need-add-claim
-add-claim c =
-    let f = fitted c .inY in
-    let h : c .before .before .before .size-of .result .high ≡ highOf (c .before .before .before .before .before .before .before .before .args .kind) = ap (λ (s : Sides). s .high) (sized (c .before .before .before)) in
-    omega arith
-
-cast-claim-2 : tie.Need-cast-claim-2
-cast-claim-2 c =
-    let f = fitted c .inY in
+cast-claim c =
+    let f = fitted c .squareY in
     let h : c .before .before .before .size-of .result .high ≡ highOf (c .before .before .before .before .before .before .before .before .args .kind) = ap (λ (s : Sides). s .high) (sized (c .before .before .before)) in
     search needs
 
@@ -85,9 +78,9 @@ returns-4 c =
     let w : s .wide ≡ wideOf (a .kind) = ap (λ (s : Sides). s .wide) (sized (c .before .before .before .before)) in
     let h : s .high ≡ highOf (a .kind) = ap (λ (s : Sides). s .high) (sized (c .before .before .before .before)) in
     c .claim .ensures
-    ∙ ap (λ (n : ℕ). claimed (a .until .now) (a .y) (a .x) n (a .y + s .high)) w
-    ∙ ap (λ (n : ℕ). claimed (a .until .now) (a .y) (a .x) (wideOf (a .kind)) (a .y + n)) h
-    ∙ sym (place-fit (a .bw) (a .bh) (a .kind) (a .x) (a .y) (a .until .now) (looked (c .before .before .before .before .before .before)) (omega arith) (sym (c .before .before .before .fits2 .ensures) ∙ not-false (c .before .before .before .fits2 .result) (c .before .before .if3 .left)))
+    ∙ ap (λ (n : ℕ). claimed (a .depth .now) (a .x) n (s .high)) w
+    ∙ ap (λ (n : ℕ). claimed (a .depth .now) (a .x) (wideOf (a .kind)) n) h
+    ∙ sym (place-fit (a .bw) (a .bh) (a .kind) (a .x) (a .y) (a .depth .now) (looked (c .before .before .before .before .before .before)) (omega arith) (sym (c .before .before .before .fits2 .ensures) ∙ not-false (c .before .before .before .fits2 .result) (c .before .before .if3 .left)))
 
 pub place-cell-spec : {M : Type 1} → statement M
 place-cell-spec =
@@ -101,7 +94,5 @@ place-cell-spec =
     fits-requires
     returns-3
     cast-claim
-    add-claim
-    cast-claim-2
     claim-requires
     returns-4)

@@ -9,16 +9,18 @@ use borrow.Author.Needs.{needs}
 use Rattle.layout.specs.Walk.{cells}
 use Rattle.layout.specs.Grid.{at}
 use Rattle.layout.specs.Check.{Until}
-use Rattle.lent_check.specs.laws.TwoSteps.{placeCell, place, placeAll, looked, column-below, place-start, place-next, place-stop, place-end, told-good, told-bad}
+use Rattle.lent_check.specs.laws.Steps.{placeCell, place}
+use Rattle.lent_check.specs.laws.Listing.{placeAll, looked, column-below, place-start, place-next, place-stop, place-end}
+use Rattle.lent_check.specs.laws.Rows.{told-good, told-bad}
 use Rattle.lent_check.proofs.rows.place_row.Statement.{statement}
 use Rattle.lent_check.proofs.rows.place_row.Tie as tie
 
 abbrev Inv-loop : tie.InvT-loop
-Inv-loop until₀ larger wides highs bw bh kinds y start list n i₀ until i =
-    (i ≤ n) × (cells (place bw bh (at kinds bw)) bw 0 y (Until until₀) ≡ placeAll bw bh (at kinds bw) y (drop i (looked (at kinds bw) y bw 0)) (Until until))
+Inv-loop depth₀ larger wides highs bw bh kinds y start list n i₀ depth i =
+    (i ≤ n) × (cells (place bw bh (at kinds bw)) bw 0 y (Until depth₀) ≡ placeAll bw bh (at kinds bw) y (drop i (looked (at kinds bw) y bw 0)) (Until depth))
 
 abbrev μ-loop : tie.MeasureT-loop
-μ-loop until₀ larger wides highs bw bh kinds y start list n i₀ until i = n - i
+μ-loop depth₀ larger wides highs bw bh kinds y start list n i₀ depth i = n - i
 
 mul-start : tie.Need-mul-start Inv-loop μ-loop
 mul-start c =
@@ -38,7 +40,7 @@ list-row-requires c κs =
     (p .0, omega arith, omega arith, omega arith, p .7, omega arith)
 
 loop-holds : tie.Need-loop-holds Inv-loop μ-loop
-loop-holds c = let a = c .before .before .before .args in (omega arith, place-start (a .bw) (a .bh) (at (a .kinds .now) (a .bw)) (a .y) (a .until .now))
+loop-holds c = let a = c .before .before .before .args in (omega arith, place-start (a .bw) (a .bh) (at (a .kinds .now) (a .bw)) (a .y) (a .depth .now))
 
 array-read-to-usize : tie.Need-array-read-to-usize Inv-loop μ-loop
 array-read-to-usize c = let r = c .before .before .list-row .ensures .room in omega arith
@@ -81,7 +83,7 @@ returns c =
     let r = c .before .before .before .before .before .before .before .list-row in
     let x = c .before .before .before .before .to-usize .result in
     let k = at (a .kinds .now) (a .bw) in
-    sym (l .inv .1 ∙ place-stop (a .bw) (a .bh) k (a .y) (l .i) (looked k (a .y) (a .bw) 0) x (l .until) (omega (arith, r .ensures .count)) (c .before .before .before .before .to-usize .ensures ∙ r .ensures .same (l .i) (omega arith)) (told-bad (v .result) (v .last .0) (placeCell (a .bw) (a .bh) (k x (a .y)) x (a .y) (l .until)) (v .ensures) (not-true (v .result) (c .if1 .taken))))
+    sym (l .inv .1 ∙ place-stop (a .bw) (a .bh) k (a .y) (l .i) (looked k (a .y) (a .bw) 0) x (l .depth) (omega (arith, r .ensures .count)) (c .before .before .before .before .to-usize .ensures ∙ r .ensures .same (l .i) (omega arith)) (told-bad (v .result) (v .last .0) (placeCell (a .bw) (a .bh) (k x (a .y)) x (a .y) (l .depth)) (v .ensures) (not-true (v .result) (c .if1 .taken))))
 
 add-i : tie.Need-add-i Inv-loop μ-loop
 add-i c = search needs
@@ -97,13 +99,13 @@ loop-again c =
     let r = c .before .before .before .before .before .before .before .list-row in
     let x = c .before .before .before .before .to-usize .result in
     let k = at (a .kinds .now) (a .bw) in
-    (omega arith, l .inv .1 ∙ place-next (a .bw) (a .bh) k (a .y) (l .i) (looked k (a .y) (a .bw) 0) x (l .until) (omega (arith, r .ensures .count)) (c .before .before .before .before .to-usize .ensures ∙ r .ensures .same (l .i) (omega arith)) (v .last .0) (told-good (v .result) (v .last .0) (placeCell (a .bw) (a .bh) (k x (a .y)) x (a .y) (l .until)) (v .ensures) (not-false (v .result) (c .if1 .left))))
+    (omega arith, l .inv .1 ∙ place-next (a .bw) (a .bh) k (a .y) (l .i) (looked k (a .y) (a .bw) 0) x (l .depth) (omega (arith, r .ensures .count)) (c .before .before .before .before .to-usize .ensures ∙ r .ensures .same (l .i) (omega arith)) (v .last .0) (told-good (v .result) (v .last .0) (placeCell (a .bw) (a .bh) (k x (a .y)) x (a .y) (l .depth)) (v .ensures) (not-false (v .result) (c .if1 .left))))
 
 returns-2 : tie.Need-returns-2 Inv-loop μ-loop
 returns-2 c =
     let a = c .before .before .before .before .before .args in
     let l = c .before .loop in
-    sym (l .inv .1 ∙ place-end (a .bw) (a .bh) (at (a .kinds .now) (a .bw)) (a .y) (l .i) (looked (at (a .kinds .now) (a .bw)) (a .y) (a .bw) 0) (l .until) (omega (arith, c .before .before .list-row .ensures .count)))
+    sym (l .inv .1 ∙ place-end (a .bw) (a .bh) (at (a .kinds .now) (a .bw)) (a .y) (l .i) (looked (at (a .kinds .now) (a .bw)) (a .y) (a .bw) 0) (l .depth) (omega (arith, c .before .before .list-row .ensures .count)))
 
 pub place-row-spec : {M : Type 1} → statement M
 place-row-spec =
