@@ -11,51 +11,58 @@ ghost use Rattle.layout.specs.Walk.{cells};
 ghost use Rattle.layout.specs.Grid.{at, fillFrom};
 ghost use Rattle.layout.specs.Check.{Fault, Until, clear, fitting};
 ghost use Rattle.lent_sides.specs.laws.Sizes.{widths, heights};
-ghost use Rattle.lent_check.specs.laws.Flaws.{flagOf, Known};
-ghost use Rattle.lent_check.specs.laws.Sorts.{LARGER as largers, withinOf};
+ghost use Rattle.lent_check.specs.laws.Flaws.{flagOf};
+ghost use Rattle.lent_check.specs.laws.Sorts.{withinOf, largerOf};
 ghost use Rattle.lent_check.specs.laws.Steps.{gapOf, placeCell, place, close};
-ghost use Rattle.lent_check.specs.laws.Listing.{looked, Listed};
+ghost use Rattle.lent_check.specs.laws.Listing.{Flags, Flagged, looked, Listed};
+ghost use Rattle.lent_check.specs.laws.Claims.{claimed};
 
-// Not 0 for the kinds that a row's walk looks at: a free block, and the corners of more than one block.
-pub(crate) const LARGER: [u8; 29] = [
-    1,
-    0,
-    0,
-    0,
-    0,
-    0,
-    1,
-    1,
-    1,
-    1,
-    1,
-    1,
-    1,
-    1,
-    0,
-    0,
-    0,
-    0,
-    0,
-    0,
-    1,
-    1,
-    1,
-    1,
-    1,
-    1,
-    1,
-    1,
-    1,
-];
+// a for the first n, b for the others.
+fn pick(i: usize, n: usize, a: u8, b: u8) -> u8
+    ensures { λ r. ⌜ r ≡ cond (ltb i n) a b ⌝ }
+{
+    if i < n {
+        return a;
+    }
+    b
+}
+
+fn most(a: u8, b: u8) -> u8
+    ensures { λ r. ⌜ r ≡ max a b ⌝ }
+{
+    if a < b {
+        return b;
+    }
+    a
+}
+
+// The first four of n columns from x on, which must be clear, now have depth v. No branch hangs on how many there are, which
+// cannot be guessed; most corners have no more than four.
+fn claim_four(depth: &mut [u8; 259], x: usize, n: usize, v: u8) -> bool
+    requires { ⌜ x < 256 ⌝ }
+    ensures { λ r. ⌜ cond r (claimed (now (depth .exit)) (x + 4) (n - 4) v) Fault ≡ claimed (now (depth .entry)) x n v ⌝ }
+{
+    let mut found = 0;
+    let mut i = 0;
+    while i < 4 {
+        let old = depth[x + i];
+        found = most(found, pick(i, n, old, 0));
+        depth[x + i] = pick(i, n, v, old);
+        i += 1;
+    }
+    found == 0
+}
 
 // The columns x to x + n - 1, which must be clear, now have depth v.
-fn claim(depth: &mut [u8; 256], x: usize, n: usize, v: u8) -> bool
-    requires { ⌜ x + n ≤ 256 ⌝ }
-    ensures { λ r. ⌜ cond r (Until (now (depth .exit))) Fault ≡ cond (clear (now (depth .entry)) 0 x n) (Until (fillFrom (now (depth .entry)) x n v)) Fault ⌝ }
+fn claim(depth: &mut [u8; 259], x: usize, n: usize, v: u8) -> bool
+    requires { ⌜ (x < 256) × (x + n ≤ 256) ⌝ }
+    ensures { λ r. ⌜ cond r (Until (now (depth .exit))) Fault ≡ claimed (now (depth .entry)) x n v ⌝ }
 {
+    if !claim_four(depth, x, n, v) {
+        return false;
+    }
     let e = x + n;
-    let mut i = x;
+    let mut i = x + 4;
     while i < e {
         if 0 < depth[i] {
             return false;
@@ -86,6 +93,29 @@ fn fits(bw: usize, bh: usize, kind: u8, w: usize, h: usize, x: usize, y: usize) 
     y % 32 + h <= 32
 }
 
+// 1 for a kind within bounds, else 0.
+fn within(kind: u8, first: u8, last: u8) -> u8
+    ensures { λ r. ⌜ (r ≡ withinOf kind first last) × (r ≤ 1) ⌝ }
+{
+    if kind < first {
+        return 0;
+    }
+    if last < kind {
+        return 0;
+    }
+    1
+}
+
+// 0 for an occupied block and for a corner of one block, 1 for a free block and for a corner of more than one.
+fn larger(kind: u8) -> u8
+    ensures { λ r. ⌜ r ≡ largerOf kind ⌝ }
+{
+    if within(kind, 1, 5) + within(kind, 14, 19) == 0 {
+        return 1;
+    }
+    0
+}
+
 fn to_usize(x: u8) -> usize
     ensures { λ r. ⌜ r ≡ x ⌝ }
 {
@@ -94,8 +124,7 @@ fn to_usize(x: u8) -> usize
 
 // A corner of more than one block, at (x, y), on clear columns; any other cell is passed.
 fn place_cell(
-    depth: &mut [u8; 256],
-    larger: &[u8; 29],
+    depth: &mut [u8; 259],
     wides: &[usize; 27],
     highs: &[usize; 27],
     bw: usize,
@@ -104,10 +133,10 @@ fn place_cell(
     x: usize,
     y: usize,
 ) -> bool
-    requires { ⌜ (now larger ≡ largers) × (now wides ≡ widths) × (now highs ≡ heights) × (kind < 29) × (x < bw) × (bw ≤ 256) × (y < bh) × (bh ≤ 256) ⌝ }
+    requires { ⌜ (now wides ≡ widths) × (now highs ≡ heights) × (x < bw) × (bw ≤ 256) × (y < bh) × (bh ≤ 256) ⌝ }
     ensures { λ r. ⌜ cond r (Until (now (depth .exit))) Fault ≡ placeCell bw bh kind x y (now (depth .entry)) ⌝ }
 {
-    if larger[to_usize(kind)] == 0 {
+    if larger(kind) == 0 {
         return true;
     }
     if kind < 2 {
@@ -122,18 +151,30 @@ fn place_cell(
     claim(depth, x, w, h as u8)
 }
 
-// The columns of row y that are looked at, from the first: how many, and as many places of the list. No branch hangs on
-// what a cell holds, which cannot be guessed.
-fn list_row(list: &mut [u8; 256], larger: &[u8; 29], bw: usize, kinds: &[u8], y: usize) -> usize
-    requires { ⌜ (now larger ≡ largers) × (bw ≤ 256) × (y < 256) × ((y + 1) * bw ≤ length (now kinds)) × Known (now kinds) × (length (now list) ≡ 256) ⌝ }
-    ensures { λ r. ⌜ Listed (looked (at (now (kinds .entry)) bw) y bw 0) r (now (list .exit)) ⌝ }
+// Which columns of row y are looked at: 1 for each of them, many at a time.
+fn flag_row(flags: &mut [u8; 256], bw: usize, kinds: &[u8], y: usize)
+    requires { ⌜ (bw ≤ 256) × (y < 256) × ((y + 1) * bw ≤ length (now kinds)) × (length (now flags) ≡ 256) ⌝ }
+    ensures { λ r. ⌜ Flagged (at (now (kinds .entry)) bw) y bw (now (flags .exit)) ⌝ }
 {
     let start = y * bw;
+    let mut x = 0;
+    while x < bw {
+        flags[x] = larger(kinds[start + x]);
+        x += 1;
+    }
+}
+
+// The columns that are flagged, from the first: how many, and as many places of the list. No branch hangs on a flag, which
+// cannot be guessed.
+fn list_row(list: &mut [u8; 256], flags: &[u8; 256], bw: usize) -> usize
+    requires { ⌜ (bw ≤ 256) × (length (now list) ≡ 256) × Flags bw (now flags) ⌝ }
+    ensures { λ r. ⌜ Listed (looked (λ x. getD (now (flags .entry)) x 0) bw 0) r (now (list .exit)) ⌝ }
+{
     let mut n = 0;
     let mut x = 0;
     while x < bw {
         list[n] = x as u8;
-        n += to_usize(larger[to_usize(kinds[start + x])]);
+        n += to_usize(flags[x]);
         x += 1;
     }
     n
@@ -141,8 +182,7 @@ fn list_row(list: &mut [u8; 256], larger: &[u8; 29], bw: usize, kinds: &[u8], y:
 
 // The corners of more than one block in row y.
 pub(crate) fn place_row(
-    depth: &mut [u8; 256],
-    larger: &[u8; 29],
+    depth: &mut [u8; 259],
     wides: &[usize; 27],
     highs: &[usize; 27],
     bw: usize,
@@ -150,35 +190,24 @@ pub(crate) fn place_row(
     kinds: &[u8],
     y: usize,
 ) -> bool
-    requires { ⌜ (now larger ≡ largers) × (now wides ≡ widths) × (now highs ≡ heights) × (bw ≤ 256) × (y < bh) × (bh ≤ 256) × (length (now kinds) ≡ bh * bw) × Known (now kinds) ⌝ }
+    requires { ⌜ (now wides ≡ widths) × (now highs ≡ heights) × (bw ≤ 256) × (y < bh) × (bh ≤ 256) × (length (now kinds) ≡ bh * bw) ⌝ }
     ensures { λ r. ⌜ cond r (Until (now (depth .exit))) Fault ≡ cells (place bw bh (at (now (kinds .entry)) bw)) bw 0 y (Until (now (depth .entry))) ⌝ }
 {
     let start = y * bw;
     let mut list = [0u8; 256];
-    let n = list_row(&mut list, larger, bw, kinds, y);
+    let mut flags = [0u8; 256];
+    flag_row(&mut flags, bw, kinds, y);
+    let n = list_row(&mut list, &flags, bw);
     let mut i = 0;
     while i < n {
         let x = to_usize(list[i]);
         let kind = kinds[start + x];
-        if !place_cell(depth, larger, wides, highs, bw, bh, kind, x, y) {
+        if !place_cell(depth, wides, highs, bw, bh, kind, x, y) {
             return false;
         }
         i += 1;
     }
     true
-}
-
-// 1 for a kind within bounds, else 0.
-fn within(kind: u8, first: u8, last: u8) -> u8
-    ensures { λ r. ⌜ (r ≡ withinOf kind first last) × (r ≤ 1) ⌝ }
-{
-    if kind < first {
-        return 0;
-    }
-    if last < kind {
-        return 0;
-    }
-    1
 }
 
 // 1 for a column that is covered, else 0.
@@ -202,15 +231,6 @@ fn gap(kind: u8, v: u8) -> u8
     0
 }
 
-fn most(a: u8, b: u8) -> u8
-    ensures { λ r. ⌜ r ≡ max a b ⌝ }
-{
-    if a < b {
-        return b;
-    }
-    a
-}
-
 fn one_less(v: u8) -> u8
     ensures { λ r. ⌜ r ≡ v - 1 ⌝ }
 {
@@ -222,7 +242,7 @@ fn one_less(v: u8) -> u8
 
 // Row y has no gap; depths count from the next row on then. The loop has no early exit, and all in it is bytes, so that 16
 // columns are taken at a time.
-pub(crate) fn close_row(depth: &mut [u8; 256], bw: usize, kinds: &[u8], y: usize) -> bool
+pub(crate) fn close_row(depth: &mut [u8; 259], bw: usize, kinds: &[u8], y: usize) -> bool
     requires { ⌜ (bw ≤ 256) × (y < 256) × ((y + 1) * bw ≤ length (now kinds)) ⌝ }
     ensures { λ r. ⌜ cond r (Until (now (depth .exit))) Fault ≡ cells (close (at (now (kinds .entry)) bw)) bw 0 y (Until (now (depth .entry))) ⌝ }
 {

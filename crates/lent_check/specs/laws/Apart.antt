@@ -14,7 +14,7 @@ use Rattle.layout.specs.laws.Grid.{fill-left}
 use Rattle.layout.specs.Valid.{Cells}
 use Rattle.layout.specs.Check.{Covering, Fault, Until, clear, fitting}
 use Rattle.lent_check.specs.laws.Flaws.{flagOf}
-use Rattle.lent_check.specs.laws.Sorts.{LARGER, oneBlock}
+use Rattle.lent_check.specs.laws.Sorts.{largerOf, oneBlock}
 use Rattle.lent_check.specs.laws.Steps.{placeCell, place, closeCell, close}
 
 pub clear-set : (d : List ℕ) (x v y j n : ℕ) → x < j → clear (set d x v) y j n ≡ clear d y j n
@@ -31,7 +31,7 @@ module _ (bw bh : ℕ) (K : Cells) (x y : ℕ) where
   swap-cell : (j : ℕ) (s : Covering) → x < j → close K x y (place bw bh K j y s) ≡ place bw bh K j y (close K x y s)
   unfolding placeCell closeCell
   swap-cell j Fault h = refl
-  swap-cell j (Until d) h = go (eqb (getD LARGER k 0) 0) refl (eqb (flagOf (ltb 0 (getD d x 0))) (oneBlock (K x y))) refl
+  swap-cell j (Until d) h = go (eqb (largerOf k) 0) refl (eqb (flagOf (ltb 0 (getD d x 0))) (oneBlock (K x y))) refl
     where
       k : ℕ
       k = K j y
@@ -48,14 +48,14 @@ module _ (bw bh : ℕ) (K : Cells) (x y : ℕ) where
       moved : fits (set d x v) ≡ fits d
       moved = rw (clear-set d x v 0 j (wideOf k) h)
 
-      inner : (t : Bool) → fits d ≡ t → (b : Bool) → eqb (flagOf (ltb 0 (getD d x 0))) (oneBlock (K x y)) ≡ b → eqb (getD LARGER k 0) 0 ≡ false
+      inner : (t : Bool) → fits d ≡ t → (b : Bool) → eqb (flagOf (ltb 0 (getD d x 0))) (oneBlock (K x y)) ≡ b → eqb (largerOf k) 0 ≡ false
           → close K x y (place bw bh K j y (Until d)) ≡ place bw bh K j y (close K x y (Until d))
       inner true t true f e = rw (e, t, kept, f)
       inner true t false f e = rw (e, t, kept, f, e, moved, t) (ap Until (fill-set d x v j (wideOf k) (highOf k) h))
       inner false t true f e = rw (e, t, f)
       inner false t false f e = rw (e, t, f, e, moved, t)
 
-      go : (a : Bool) → eqb (getD LARGER k 0) 0 ≡ a → (b : Bool) → eqb (flagOf (ltb 0 (getD d x 0))) (oneBlock (K x y)) ≡ b
+      go : (a : Bool) → eqb (largerOf k) 0 ≡ a → (b : Bool) → eqb (flagOf (ltb 0 (getD d x 0))) (oneBlock (K x y)) ≡ b
           → close K x y (place bw bh K j y (Until d)) ≡ place bw bh K j y (close K x y (Until d))
       go true e true f = rw (e, f)
       go true e false f = rw (e, f, e)

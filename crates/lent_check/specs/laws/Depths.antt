@@ -189,10 +189,10 @@ module _ (bw bh : ℕ) (K M : Cells) where
       let t′ = cells (visitDepths bw bh K M) bw 0 y t in
       rows-alike n (y + 1) s′ t′ (next-alike y s′ t′ (cells-alike bw 0 y s t (omega arith) a))
 
--- A layout is what the check by depths passes, with room for 256 columns.
+-- A layout is what the check by depths passes, with room for more columns.
 pub depths-check : (bw bh : ℕ) (kinds hfMul : List ℕ) → bw ≤ 256
-    → isLayout bw bh kinds hfMul ≡ passes (rows (visitDepths bw bh (at kinds bw) (at hfMul bw)) bw bh 0 (Until (replicate 256 0)))
+    → isLayout bw bh kinds hfMul ≡ passes (rows (visitDepths bw bh (at kinds bw) (at hfMul bw)) bw bh 0 (Until (replicate 259 0)))
 unfolding checkRun
 depths-check bw bh kinds hfMul h =
-    rows-alike bw bh (at kinds bw) (at hfMul bw) bh 0 (Until (replicate bw 0)) (Until (replicate 256 0))
-    (record { wideU = omega (arith, length-replicate {A = ℕ} bw 0); wideD = omega (arith, length-replicate {A = ℕ} 256 0); done = λ i l b. absurd (omega arith); ahead = λ i l b. getD-replicate {A = ℕ} 256 i 0 0 (omega arith) ∙ omega (arith, getD-replicate {A = ℕ} bw i 0 0 b) })
+    rows-alike bw bh (at kinds bw) (at hfMul bw) bh 0 (Until (replicate bw 0)) (Until (replicate 259 0))
+    (record { wideU = omega (arith, length-replicate {A = ℕ} bw 0); wideD = omega (arith, length-replicate {A = ℕ} 259 0); done = λ i l b. absurd (omega arith); ahead = λ i l b. getD-replicate {A = ℕ} 259 i 0 0 (omega arith) ∙ omega (arith, getD-replicate {A = ℕ} bw i 0 0 b) })

@@ -14,7 +14,7 @@ use Rattle.layout.specs.Valid.{Cells}
 use Rattle.layout.specs.Check.{Covering, Fault, Until, passes, clear, fitting, isLayout}
 use Rattle.layout.specs.laws.WalkSteps.{cells-stuck, rows-step, rows-end, rows-stuck}
 use Rattle.lent_check.specs.laws.Flaws.{flagOf, Sound}
-use Rattle.lent_check.specs.laws.Sorts.{LARGER, oneBlock}
+use Rattle.lent_check.specs.laws.Sorts.{largerOf, oneBlock}
 use Rattle.lent_check.specs.laws.Depths.{visitDepths, depths-check}
 use Rattle.lent_check.specs.laws.Steps.{placeCell, place, closeCell, close, visit-steps}
 use Rattle.lent_check.specs.laws.Apart.{swap}
@@ -28,7 +28,7 @@ module _ (bw bh : ℕ) (K : Cells) (y : ℕ) where
   place-wide : (x : ℕ) (s : Covering) → Wide bw s → Wide bw (place bw bh K x y s)
   unfolding placeCell
   place-wide x Fault r = tt
-  place-wide x (Until d) r = go (eqb (getD LARGER (K x y) 0) 0) (leb 2 (K x y) && (fitting bw bh x y (K x y) 1 && clear d 0 x (wideOf (K x y))))
+  place-wide x (Until d) r = go (eqb (largerOf (K x y)) 0) (leb 2 (K x y) && (fitting bw bh x y (K x y) 1 && clear d 0 x (wideOf (K x y))))
     where
       go : (a b : Bool) → Wide bw (cond a (Until d) (cond b (Until (fillFrom d x (wideOf (K x y)) (highOf (K x y)))) Fault))
       go true b = r
@@ -82,10 +82,10 @@ module _ (kinds hfMul : List ℕ) (bw bh : ℕ) where
   abbrev pub rowsLeft : ℕ → List ℕ → Bool
   rowsLeft y d = passes (rows (visitDepths bw bh (at kinds bw) (at hfMul bw)) bw (bh - y) y (Until d))
 
-  pub rows-start : bw ≤ 256 → isLayout bw bh kinds hfMul ≡ rowsLeft 0 (replicate 256 0)
+  pub rows-start : bw ≤ 256 → isLayout bw bh kinds hfMul ≡ rowsLeft 0 (replicate 259 0)
   rows-start h =
       let e : bh ≡ bh - 0 = omega arith in
-      depths-check bw bh kinds hfMul h ∙ ap (λ (n : ℕ). passes (rows (visitDepths bw bh (at kinds bw) (at hfMul bw)) bw n 0 (Until (replicate 256 0)))) e
+      depths-check bw bh kinds hfMul h ∙ ap (λ (n : ℕ). passes (rows (visitDepths bw bh (at kinds bw) (at hfMul bw)) bw n 0 (Until (replicate 259 0)))) e
 
   pub rows-finish : (y : ℕ) (d : List ℕ) → bh ≤ y → rowsLeft y d ≡ true
   rows-finish y d h = ap passes (rows-end (visitDepths bw bh (at kinds bw) (at hfMul bw)) bw bh y (Until d) h)

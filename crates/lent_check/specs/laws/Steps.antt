@@ -17,13 +17,13 @@ use Rattle.layout.specs.Valid.{Cells, Fits}
 use Rattle.layout.specs.Check.{Covering, Fault, Until, clear, fitting}
 use Rattle.layout.specs.laws.CheckLaws.{each-clear, fits-fitting}
 use Rattle.lent_check.specs.laws.Flaws.{flagOf, Sound}
-use Rattle.lent_check.specs.laws.Sorts.{LARGER, withinOf, oneBlock, Single, Larger, sort}
+use Rattle.lent_check.specs.laws.Sorts.{largerOf, withinOf, oneBlock, Single, Larger, sort}
 use Rattle.lent_check.specs.laws.Depths.{visitDepth, depth-not-one, depth-one, depth-small, depth-unfit, depth-unclear, depth-raised}
 
 -- First step, at one cell. Its hf_mul is seen to before.
 unfoldable pub placeCell : ℕ → ℕ → ℕ → ℕ → ℕ → List ℕ → Covering
 placeCell bw bh k x y d =
-    cond (eqb (getD LARGER k 0) 0) (Until d)
+    cond (eqb (largerOf k) 0) (Until d)
     (cond (leb 2 k && (fitting bw bh x y k 1 && clear d 0 x (wideOf k))) (Until (fillFrom d x (wideOf k) (highOf k))) Fault)
 
 abbrev pub place : ℕ → ℕ → Cells → ℕ → ℕ → Covering → Covering
@@ -47,23 +47,23 @@ close K x y = closeAt (K x y) x
 
 -- The ends of each, for code.
 module _ (bw bh k x y : ℕ) (d : List ℕ) where
-  pub place-plain : getD LARGER k 0 ≡ 0 → placeCell bw bh k x y d ≡ Until d
+  pub place-plain : largerOf k ≡ 0 → placeCell bw bh k x y d ≡ Until d
   unfolding placeCell
-  place-plain e = rw (eq-eqb (getD LARGER k 0) 0 e)
+  place-plain e = rw (eq-eqb (largerOf k) 0 e)
 
-  module _ (n : getD LARGER k 0 ≡ 0 → ⊥) where
+  module _ (n : largerOf k ≡ 0 → ⊥) where
     pub place-free : k < 2 → placeCell bw bh k x y d ≡ Fault
     unfolding placeCell
-    place-free h = rw (ne-eqb (getD LARGER k 0) 0 n, lt-leb 2 k h)
+    place-free h = rw (ne-eqb (largerOf k) 0 n, lt-leb 2 k h)
 
     module _ (h : 2 ≤ k) where
       pub place-unfit : fitting bw bh x y k 1 ≡ false → placeCell bw bh k x y d ≡ Fault
       unfolding placeCell
-      place-unfit f = rw (ne-eqb (getD LARGER k 0) 0 n, le-leb 2 k h, f)
+      place-unfit f = rw (ne-eqb (largerOf k) 0 n, le-leb 2 k h, f)
 
       pub place-fit : fitting bw bh x y k 1 ≡ true → placeCell bw bh k x y d ≡ cond (clear d 0 x (wideOf k)) (Until (fillFrom d x (wideOf k) (highOf k))) Fault
       unfolding placeCell
-      place-fit f = rw (ne-eqb (getD LARGER k 0) 0 n, le-leb 2 k h, f)
+      place-fit f = rw (ne-eqb (largerOf k) 0 n, le-leb 2 k h, f)
 
 module _ (k x : ℕ) (d : List ℕ) where
   close-covered : 0 < getD d x 0 → oneBlock k ≡ 0 → closeCell k x d ≡ Until (set d x (getD d x 0 - 1))
@@ -97,16 +97,16 @@ module _ (bw bh k m x y : ℕ) (d : List ℕ) (i : x < bw) (j : y < bh) (r : x <
   Goal = visitDepth bw bh k m x y d ≡ closeAt k x (placeCell bw bh k x y d)
 
   free : k ≡ 0 → Goal
-  unfolding LARGER
+  unfolding largerOf withinOf
   free e =
-      let p = place-free bw bh k x y d (λ z. let q : getD LARGER 0 0 ≡ 0 = rw e at z in omega arith) (omega arith) in
+      let p = place-free bw bh k x y d (λ z. let q : largerOf 0 ≡ 0 = rw e at z in omega arith) (omega arith) in
       ⊎-elim
       (λ (h : getD d x 0 ≤ 0). depth-small bw bh k m x y d h (omega arith) ∙ sym (ap (closeAt k x) p))
       (λ (h : 0 < getD d x 0). depth-not-one bw bh k m x y d h (λ q. omega arith) ∙ sym (ap (closeAt k x) p))
       (le-or-lt (getD d x 0) 0)
 
   taken : k ≡ 1 → Goal
-  unfolding LARGER oneBlock withinOf
+  unfolding largerOf oneBlock withinOf
   taken e =
       let p = place-plain bw bh k x y d (rw e) in
       let o : oneBlock k ≡ 0 = rw e in
