@@ -132,11 +132,11 @@ uint32_t __wrap_netbuff_column_count(const uint8_t *bytes, size_t length, uint32
 uint32_t __wrap_netbuff_cut(size_t bw, size_t bh, const uint8_t *kinds, size_t kinds_length,
                             const int32_t *hf_mul, size_t hf_mul_length, size_t index,
                             uint8_t *out_kinds, size_t out_kinds_length, int32_t *out_hf_mul,
-                            size_t out_hf_mul_length, size_t *wide, size_t *high, size_t *x, size_t *y)
+                            size_t out_hf_mul_length, size_t *out_bw, size_t *out_bh, size_t *x, size_t *y)
 {
     uint32_t refused =
         __real_netbuff_cut(bw, bh, kinds, kinds_length, hf_mul, hf_mul_length, index, out_kinds,
-                           out_kinds_length, out_hf_mul, out_hf_mul_length, wide, high, x, y);
+                           out_kinds_length, out_hf_mul, out_hf_mul_length, out_bw, out_bh, x, y);
     if (planted() == BYTE_BEHIND && refused == 0)
         out_kinds[out_kinds_length] = 1;
     if (planted() == BYTE_BEFORE && refused == 0)
@@ -144,7 +144,7 @@ uint32_t __wrap_netbuff_cut(size_t bw, size_t bh, const uint8_t *kinds, size_t k
     if (planted() == WRITE_TO_LENT && refused == 0)
         ((uint8_t *)(uintptr_t)kinds)[kinds_length - 1] ^= 1;
     if (planted() == SIDES_ZERO && refused != 0)
-        *wide = *high = 0;
+        *out_bw = *out_bh = 0;
     return refused;
 }
 
@@ -281,7 +281,7 @@ static void log_other(uint8_t *last, const uint8_t *cluster_map, size_t length)
 }
 
 uint32_t __wrap_netbuff_coefficients(
-    size_t wide, size_t high, const uint8_t *kinds, size_t kinds_length, const int32_t *hf_mul,
+    size_t bw, size_t bh, const uint8_t *kinds, size_t kinds_length, const int32_t *hf_mul,
     size_t hf_mul_length, uint32_t num_block_clusters, const uint32_t lengths[4],
     const int32_t lf_thresholds[45], const uint32_t qf_thresholds[15], const uint8_t block_ctx_map[2496],
     bool lf_there, const int32_t *lf0, size_t lf0_length, const int32_t *lf1, size_t lf1_length,
@@ -295,7 +295,7 @@ uint32_t __wrap_netbuff_coefficients(
         memcpy(grid_before, grid0, grid0_length * sizeof grid0[0]);
     size_t read_before = *symbols_read;
     uint32_t refused = __real_netbuff_coefficients(
-        wide, high, kinds, kinds_length, hf_mul, hf_mul_length, num_block_clusters, lengths,
+        bw, bh, kinds, kinds_length, hf_mul, hf_mul_length, num_block_clusters, lengths,
         lf_thresholds, qf_thresholds, block_ctx_map, lf_there, lf0, lf0_length, lf1, lf1_length, lf2,
         lf2_length, store, store_length, presets, cluster_map, cluster_map_length, shift, bytes,
         bytes_length, symbols, symbols_length, log, log_length, grid0, grid0_length, grid1, grid1_length,

@@ -126,22 +126,22 @@ void host_cut(struct input *in)
     struct cut_call call;
     take_cut(in, &call);
     const struct lent_layout *layout = &call.layout;
-    size_t *wide = lend_size(in, "wide"), *high = lend_size(in, "high");
+    size_t *out_bw = lend_size(in, "out_bw"), *out_bh = lend_size(in, "out_bh");
     size_t *x = lend_size(in, "x"), *y = lend_size(in, "y");
     lend_note();
     uint32_t refused =
         netbuff_cut(layout->sides.wide, layout->sides.high, layout->kinds, layout->kinds_length,
                     layout->hf_mul, layout->hf_mul_length, call.index, call.kinds, call.kinds_length,
-                    call.hf_mul, call.hf_mul_length, wide, high, x, y);
+                    call.hf_mul, call.hf_mul_length, out_bw, out_bh, x, y);
     lend_check();
     answered((struct answer){refused, *x, *y}, (struct answer){cut_due(&call), 0, 0});
     if (refused == 0) {
-        promise(*wide == call.sides.wide && *high == call.sides.high, "sides of the group");
+        promise(*out_bw == call.sides.wide && *out_bh == call.sides.high, "sides of the group");
         check_window(&call);
         return;
     }
-    stays(wide, 0);
-    stays(high, 0);
+    stays(out_bw, 0);
+    stays(out_bh, 0);
     stays(call.kinds, 0);
     stays(call.hf_mul, 0);
 }

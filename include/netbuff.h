@@ -358,10 +358,10 @@ uint32_t netbuff_layout(uint32_t width, uint32_t height, uint32_t mode0, uint32_
 
 /*
  * Cuts the pass group with this index out of a layout of bw x bh blocks (1 to 256 each way). The
- * 32 x 32 squares of a layout, cut at its edges, are counted row by row from 0. *wide and *high
+ * 32 x 32 squares of a layout, cut at its edges, are counted row by row from 0. *out_bw and *out_bh
  * receive the group's sides in blocks, which are netbuff_group_bw and netbuff_group_bh.
  *
- * Lengths that fit: bw * bh for kinds and hf_mul, wide * high for out_kinds and out_hf_mul.
+ * Lengths that fit: bw * bh for kinds and hf_mul, *out_bw * *out_bh for out_kinds and out_hf_mul.
  * Refused: 2 (sides, or an index outside the layout), 1, 18; out_kinds and out_hf_mul stay as they
  * were. A layout that netbuff_layout accepted is never refused with 18.
  *
@@ -373,7 +373,7 @@ uint32_t netbuff_layout(uint32_t width, uint32_t height, uint32_t mode0, uint32_
 uint32_t netbuff_cut(size_t bw, size_t bh, const uint8_t *kinds, size_t kinds_length,
                      const int32_t *hf_mul, size_t hf_mul_length, size_t index, uint8_t *out_kinds,
                      size_t out_kinds_length, int32_t *out_hf_mul, size_t out_hf_mul_length,
-                     size_t *wide, size_t *high, size_t *x, size_t *y);
+                     size_t *out_bw, size_t *out_bh, size_t *x, size_t *y);
 
 /*
  * Whether two layouts (1 to 256 blocks each way) have the same rectangles and hf_mul. Layouts of
@@ -444,7 +444,7 @@ bool netbuff_places_fit(const uint16_t *store, size_t store_length);
 /* ---- Coefficients ---- */
 
 /*
- * The coefficients of a pass group of wide x high blocks (1 to 32 each way), all three channels at
+ * The coefficients of a pass group of bw x bh blocks (1 to 32 each way), all three channels at
  * full size: subsampled colour is not read. kinds and hf_mul are those of a cut, the record is one
  * of netbuff_block_context, the store one of netbuff_orders. Where lf_there is false the LF grids
  * are not looked at, else they hold the LF coefficients of channels 0, 1, 2, one for each block.
@@ -463,16 +463,16 @@ bool netbuff_places_fit(const uint16_t *store, size_t store_length);
  * are accepted. *symbols_read receives the symbols read; log[i] receives the cluster that the map
  * names for symbol i.
  *
- * Lengths that fit: wide * high for kinds, hf_mul and each LF grid that is there;
+ * Lengths that fit: bw * bh for kinds, hf_mul and each LF grid that is there;
  * NETBUFF_STORE_LENGTH for the store; 495 * num_block_clusters * presets (0 to 256) for the cluster
- * map; 64 * wide * high for each grid, whose rows have 8 * wide cells; at least 192 * wide * high
+ * map; 64 * bw * bh for each grid, whose rows have 8 * bw cells; at least 192 * bw * bh
  * for the log.
  *
  * Refused: 2, 11, 12, 1, 18, 13 (a stored place), 3, 14: grids and log stay as they were. Then 15,
  * 16, 17: what was added and logged before stays, the refused count of 16 logged too. Log bytes
  * behind the symbols read keep their contents.
  */
-uint32_t netbuff_coefficients(size_t wide, size_t high, const uint8_t *kinds, size_t kinds_length,
+uint32_t netbuff_coefficients(size_t bw, size_t bh, const uint8_t *kinds, size_t kinds_length,
                               const int32_t *hf_mul, size_t hf_mul_length,
                               uint32_t num_block_clusters, const uint32_t lengths[4],
                               const int32_t lf_thresholds[45], const uint32_t qf_thresholds[15],

@@ -263,15 +263,15 @@ static void try_cut(void)
         netbuff_group_bw(from.bw, from.bh, index) * netbuff_group_bh(from.bw, from.bh, index);
     struct netbuff_blocks group = {5, 6, MAYBE(layer.out_kinds), MAYBE(layer.out_hf_mul),
                                    length_near(wanted > BLOCKS_MOST ? 1 : wanted)};
-    size_t wide = 5, high = 6;
+    size_t out_bw = 5, out_bh = 6;
     struct netbuff_refusal no = {0, 0, 0};
     no.number = netbuff_cut(from.bw, from.bh, LEND(const uint8_t, from.kinds, from.length),
                             LEND(const int32_t, from.hf_mul, from.length), index, base.out_kinds,
                             group.kinds ? group.length : 0, base.out_hf_mul,
-                            group.hf_mul ? group.length : 0, &wide, &high, &no.x, &no.y);
+                            group.hf_mul ? group.length : 0, &out_bw, &out_bh, &no.x, &no.y);
     hold_answer(CUT, netbuff_cut_group(&from, index, &group), no);
-    hold(CUT, group.bw == wide && group.bh == high, "sides");
-    hold(CUT, no.number != 0 || wide * high == wanted, "netbuff_group_bw and netbuff_group_bh");
+    hold(CUT, group.bw == out_bw && group.bh == out_bh, "sides");
+    hold(CUT, no.number != 0 || out_bw * out_bh == wanted, "netbuff_group_bw and netbuff_group_bh");
     hold_lent(CUT);
 }
 

@@ -34,9 +34,6 @@ const READ_AS: [(&str, &str); 15] = [
     ("netbuff_unpack_signed", "i32"),
 ];
 
-/// Parameters that Rattle calls otherwise: Rattle's name, then that of C and Rust.
-const CALLED: [(&str, &str); 1] = [("read", "symbols_read")];
-
 /// Calls that no crate exports: they are written in C, and the C compiler holds them against the
 /// header.
 const IN_C: [&str; 1] = ["netbuff_version"];
@@ -328,8 +325,7 @@ fn read_as(name: &str, of: &str) -> String {
 
 /// What C sees of a Rattle parameter: a slice is a pointer and a length.
 fn rattle_parameter(name: &str, of: &str) -> Result<Vec<(String, Type)>, String> {
-    let called = CALLED.iter().find(|(rattle, _)| *rattle == name);
-    let name = called.map_or(name, |(_, other)| other).to_string();
+    let name = name.to_string();
     let Some(lent) = of.strip_prefix('&') else {
         return Ok(vec![(name.clone(), Type::Value(read_as(&name, of)))]);
     };
@@ -430,7 +426,7 @@ fn numbers(text: &str, open: &str, skipped: usize) -> BTreeSet<u32> {
 
 fn refusals(header: &str, rattle: &str) -> Vec<String> {
     let ours = numbers(header, "refusal(", 1);
-    let theirs = numbers(rattle, " at(", 0);
+    let theirs = numbers(rattle, " said_at(", 0);
     if ours.is_empty() || theirs.is_empty() {
         return vec!["no refusals found in the header, or none in Rattle".to_string()];
     }
@@ -553,9 +549,9 @@ mod tests {
     #[test]
     fn numbers_of_refusals() {
         let header = "refusal(LENGTH, 1, \"a\", \"0\") refusal(SIZE, 2, \"b\", \"0\")";
-        let rattle = "Refusal::Length => at(1, 0, 0), Refusal::Size => at(2, 0, 0)";
+        let rattle = "Refusal::Length => said_at(1, 0, 0), Refusal::Size => said_at(2, 0, 0)";
         assert!(refusals(header, rattle).is_empty());
-        assert_eq!(refusals(header, &changed(rattle, "at(2", "at(3")).len(), 2);
+        assert_eq!(refusals(header, &changed(rattle, "said_at(2", "said_at(3")).len(), 2);
         assert_eq!(refusals(&changed(header, ", 2,", ", 1,"), rattle).len(), 1);
         assert_eq!(refusals("", rattle).len(), 1);
     }

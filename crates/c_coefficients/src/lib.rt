@@ -2,16 +2,19 @@
 use coeff_call::CoeffAnswer;
 use context_record::HfBlockContext;
 use lent_check::Group;
-ghost use Rattle.refusal.specs.Said.{at};
+ghost use Rattle.refusal.specs.Said.{saidAt};
+ghost use Rattle.refusal.specs.Handed.{with};
+ghost use Rattle.lent_check.specs.Group.{groupOf};
+ghost use Rattle.context_record.specs.Record.{recordOf};
 ghost use Rattle.coeff_group.specs.Pass.{passWith};
 ghost use Rattle.coeff_call.specs.Call.{lent, call};
-ghost use Rattle.c_coefficients.specs.Coefficients.{groupOf, contextsOf, with, CoeffLeaves};
+ghost use Rattle.c_coefficients.specs.Coefficients.{CoeffLeaves};
 
 // Beside a refusal the number of symbols read stays as it was.
 #[no_mangle]
 pub extern "C" fn netbuff_coefficients<'a, 'b>(
-    wide: usize,
-    high: usize,
+    bw: usize,
+    bh: usize,
     kinds: &'a [u8],
     hf_mul: &'a [u32],
     num_block_clusters: u32,
@@ -33,12 +36,12 @@ pub extern "C" fn netbuff_coefficients<'a, 'b>(
     grid0: &mut [u32],
     grid1: &mut [u32],
     grid2: &mut [u32],
-    read: &'b mut usize,
+    symbols_read: &'b mut usize,
     x: &'b mut usize,
     y: &'b mut usize,
 ) -> u32
-    ensures { λ r. ⌜ CoeffLeaves (with (at r (now (x .exit)) (now (y .exit))) (now (read .exit))) (now (log .exit)) (now (grid0 .exit)) (now (grid1 .exit)) (now (grid2 .exit)) (now (read .entry))
-        (call (lent (passWith (groupOf wide high) (now (kinds .entry)) (now («hf_mul» .entry)) (contextsOf «num_block_clusters» (now (lengths .entry)) (now («lf_thresholds» .entry)) (now («qf_thresholds» .entry)) (now («block_ctx_map» .entry))) «lf_there» (now (lf0 .entry)) (now (lf1 .entry)) (now (lf2 .entry)) (now (store .entry))) presets (now («cluster_map» .entry)) shift (now (bytes .entry)) (now (symbols .entry)) (now (log .entry)) (now (grid0 .entry)) (now (grid1 .entry)) (now (grid2 .entry)))) ⌝ }
+    ensures { λ r. ⌜ CoeffLeaves (with (saidAt r (now (x .exit)) (now (y .exit))) (now («symbols_read» .exit))) (now (log .exit)) (now (grid0 .exit)) (now (grid1 .exit)) (now (grid2 .exit)) (now («symbols_read» .entry))
+        (call (lent (passWith (groupOf bw bh) (now (kinds .entry)) (now («hf_mul» .entry)) (recordOf «num_block_clusters» (now (lengths .entry)) (now («lf_thresholds» .entry)) (now («qf_thresholds» .entry)) (now («block_ctx_map» .entry))) «lf_there» (now (lf0 .entry)) (now (lf1 .entry)) (now (lf2 .entry)) (now (store .entry))) presets (now («cluster_map» .entry)) shift (now (bytes .entry)) (now (symbols .entry)) (now (log .entry)) (now (grid0 .entry)) (now (grid1 .entry)) (now (grid2 .entry)))) ⌝ }
 {
     let list_lengths = *lengths;
     let lf = *lf_thresholds;
@@ -52,7 +55,7 @@ pub extern "C" fn netbuff_coefficients<'a, 'b>(
         block_ctx_map: map,
     };
     let answer = coeff_call::write_hf_coeff(
-        Group { bw: wide, bh: high },
+        Group { bw, bh },
         kinds,
         hf_mul,
         contexts,
@@ -72,8 +75,8 @@ pub extern "C" fn netbuff_coefficients<'a, 'b>(
         grid2,
     );
     match answer {
-        CoeffAnswer::Accepted(symbols_read) => {
-            *read = symbols_read;
+        CoeffAnswer::Accepted(at) => {
+            *symbols_read = at;
             *x = 0;
             *y = 0;
             0

@@ -1,9 +1,10 @@
 // C interface: the context call.
 use context_call::ContextAnswer;
 ghost use mathlib.Core.Path.{_≡_};
-ghost use Rattle.refusal.specs.Said.{at};
+ghost use Rattle.refusal.specs.Said.{saidAt};
 ghost use Rattle.refusal.specs.Handed.{with, handed};
-ghost use Rattle.context_call.specs.Call.{recordOf, parsed};
+ghost use Rattle.context_record.specs.Record.{recordOf};
+ghost use Rattle.context_call.specs.Call.{parsed};
 ghost use Rattle.c_contexts.specs.Contexts.{results, answered};
 
 // Beside a refusal the record and the bits read stay as they were.
@@ -21,7 +22,7 @@ pub extern "C" fn netbuff_block_context<'a, 'b>(
     x: &'b mut usize,
     y: &'b mut usize,
 ) -> u32
-    ensures { λ r. ⌜ with (at r (now (x .exit)) (now (y .exit)))
+    ensures { λ r. ⌜ with (saidAt r (now (x .exit)) (now (y .exit)))
         (results (recordOf (now («num_block_clusters» .exit)) (now (lengths .exit)) (now («lf_thresholds» .exit)) (now («qf_thresholds» .exit)) (now («block_ctx_map» .exit))) (now («bits_read» .exit)))
         ≡ handed (answered (parsed (now (bytes .entry)) «num_clusters» (now (map .entry))))
         (results (recordOf (now («num_block_clusters» .entry)) (now (lengths .entry)) (now («lf_thresholds» .entry)) (now («qf_thresholds» .entry)) (now («block_ctx_map» .entry))) (now («bits_read» .entry))) ⌝ }

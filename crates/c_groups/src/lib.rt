@@ -2,10 +2,11 @@
 use lent_cut::cut::CutAnswer;
 use lent_likeness::LikeAnswer;
 ghost use mathlib.Core.Path.{_≡_};
-ghost use Rattle.layout.specs.Like.{lent};
-ghost use Rattle.refusal.specs.Said.{at};
+ghost use Rattle.layout.specs.Like.{lentLayout};
+ghost use Rattle.refusal.specs.Said.{saidAt};
 ghost use Rattle.refusal.specs.Handed.{with, handed};
-ghost use Rattle.lent_cut.specs.Calls.{group, cutOf};
+ghost use Rattle.lent_check.specs.Group.{groupOf};
+ghost use Rattle.lent_cut.specs.Calls.{cutOf};
 ghost use Rattle.lent_likeness.specs.Calls.{likeOf};
 ghost use Rattle.c_groups.specs.Record.{CutLeaves};
 
@@ -19,19 +20,19 @@ pub extern "C" fn netbuff_cut(
     index: usize,
     out_kinds: &mut [u8],
     out_hf_mul: &mut [u32],
-    wide: &mut usize,
-    high: &mut usize,
+    out_bw: &mut usize,
+    out_bh: &mut usize,
     x: &mut usize,
     y: &mut usize,
 ) -> u32
-    ensures { λ r. ⌜ CutLeaves (with (at r (now (x .exit)) (now (y .exit))) (group (now (wide .exit)) (now (high .exit)))) (now («out_kinds» .exit)) (now («out_hf_mul» .exit)) (group (now (wide .entry)) (now (high .entry)))
+    ensures { λ r. ⌜ CutLeaves (with (saidAt r (now (x .exit)) (now (y .exit))) (groupOf (now («out_bw» .exit)) (now («out_bh» .exit)))) (now («out_kinds» .exit)) (now («out_hf_mul» .exit)) (groupOf (now («out_bw» .entry)) (now («out_bh» .entry)))
         (cutOf bw bh (now (kinds .entry)) (now («hf_mul» .entry)) index (now («out_kinds» .entry)) (now («out_hf_mul» .entry))) ⌝ }
 {
     let answer = lent_cut::cut::cut(bw, bh, kinds, hf_mul, index, out_kinds, out_hf_mul);
     match answer {
         CutAnswer::Accepted(group) => {
-            *wide = group.bw;
-            *high = group.bh;
+            *out_bw = group.bw;
+            *out_bh = group.bh;
             *x = 0;
             *y = 0;
             0
@@ -60,8 +61,8 @@ pub extern "C" fn netbuff_alike(
     x: &mut usize,
     y: &mut usize,
 ) -> u32
-    ensures { λ r. ⌜ with (at r (now (x .exit)) (now (y .exit))) (now (alike .exit))
-        ≡ handed (likeOf (lent bw bh (now (kinds .entry)) (now («hf_mul» .entry))) (lent bw2 bh2 (now (kinds2 .entry)) (now («hf_mul2» .entry)))) (now (alike .entry)) ⌝ }
+    ensures { λ r. ⌜ with (saidAt r (now (x .exit)) (now (y .exit))) (now (alike .exit))
+        ≡ handed (likeOf (lentLayout bw bh (now (kinds .entry)) (now («hf_mul» .entry))) (lentLayout bw2 bh2 (now (kinds2 .entry)) (now («hf_mul2» .entry)))) (now (alike .entry)) ⌝ }
 {
     let answer = lent_likeness::alike(bw, bh, kinds, hf_mul, bw2, bh2, kinds2, hf_mul2);
     match answer {

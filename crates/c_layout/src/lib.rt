@@ -4,7 +4,7 @@ use layout_column_count::ColumnCount;
 use layout_filter::Filter;
 ghost use mathlib.Core.Path.{_≡_};
 ghost use mathlib.Core.List.{[], _∷_};
-ghost use Rattle.refusal.specs.Said.{at};
+ghost use Rattle.refusal.specs.Said.{saidAt};
 ghost use Rattle.refusal.specs.Handed.{with, handed};
 ghost use Rattle.layout_column_count.specs.Count.{counts, countOf};
 ghost use Rattle.layout_call.specs.Call.{inputs, layoutOf};
@@ -33,7 +33,7 @@ pub extern "C" fn netbuff_column_count(
     x: &mut usize,
     y: &mut usize,
 ) -> u32
-    ensures { λ r. ⌜ with (at r (now (x .exit)) (now (y .exit))) (counts (now (count .exit)) (now (bits .exit)))
+    ensures { λ r. ⌜ with (saidAt r (now (x .exit)) (now (y .exit))) (counts (now (count .exit)) (now (bits .exit)))
         ≡ handed (countOf width height (mode0 ∷ mode1 ∷ mode2 ∷ []) (now (bytes .entry))) (counts (now (count .entry)) (now (bits .entry))) ⌝ }
 {
     match layout_column_count::column_count(width, height, [mode0, mode1, mode2], bytes) {
@@ -75,7 +75,7 @@ pub extern "C" fn netbuff_layout(
     x: &mut usize,
     y: &mut usize,
 ) -> u32
-    ensures { λ r. ⌜ LayoutLeaves (with (at r (now (x .exit)) (now (y .exit))) (now (used .exit))) (now (kinds .exit)) (now («hf_mul» .exit)) (now (sigma .exit)) (now (used .entry))
+    ensures { λ r. ⌜ LayoutLeaves (with (saidAt r (now (x .exit)) (now (y .exit))) (now (used .exit))) (now (kinds .exit)) (now («hf_mul» .exit)) (now (sigma .exit)) (now (used .entry))
         (layoutOf (inputs width height (mode0 ∷ mode1 ∷ mode2 ∷ []) (now (types .entry)) (now (muls .entry)) (now (sharpness .entry)) (filterOf «filter_on» multiplier) (now (lookup .entry)) scale)
         (now (kinds .entry)) (now («hf_mul» .entry)) (now (sigma .entry))) ⌝ }
 {

@@ -2,7 +2,7 @@
 use order_call::OrdersAnswer;
 ghost use mathlib.Core.Path.{_≡_};
 ghost use lib.ListN.{length};
-ghost use Rattle.refusal.specs.Said.{at};
+ghost use Rattle.refusal.specs.Said.{saidAt};
 ghost use Rattle.refusal.specs.Handed.{with};
 ghost use Rattle.order_call.specs.Call.{parsed};
 ghost use Rattle.order_store.specs.Store.{placesFit};
@@ -15,17 +15,17 @@ pub extern "C" fn netbuff_orders(
     bytes: &[u8],
     symbols: &[u32],
     store: &mut [u16],
-    read: &mut usize,
+    symbols_read: &mut usize,
     x: &mut usize,
     y: &mut usize,
 ) -> u32
-    ensures { λ r. ⌜ OrdersLeave (with (at r (now (x .exit)) (now (y .exit))) (now (read .exit))) (now (store .exit)) (now (read .entry))
+    ensures { λ r. ⌜ OrdersLeave (with (saidAt r (now (x .exit)) (now (y .exit))) (now («symbols_read» .exit))) (now (store .exit)) (now («symbols_read» .entry))
         (parsed (now (bytes .entry)) (now (symbols .entry)) (now (store .entry))) ⌝ }
 {
     let answer = order_call::parse(bytes, symbols, &mut store[..]);
     match answer {
-        OrdersAnswer::Accepted(symbols_read) => {
-            *read = symbols_read;
+        OrdersAnswer::Accepted(at) => {
+            *symbols_read = at;
             *x = 0;
             *y = 0;
             0
@@ -52,7 +52,7 @@ pub extern "C" fn netbuff_order(
 {
     let s = order_store::stretch_of(store.len(), order, channel);
     *first = s.first;
-    *count = s.count;
+    *count = s.len;
 }
 
 #[no_mangle]

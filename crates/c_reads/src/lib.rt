@@ -1,11 +1,11 @@
 // C interface: reads of the bit reader, one at a time.
+use bits::BitPlace;
 use bits::Got;
-use bits::Place;
 use bits::U32Specifier;
 use refusal::Refusal;
 ghost use mathlib.Core.Path.{_≡_};
 ghost use Prim.Native.Nat.{min};
-ghost use Rattle.refusal.specs.Said.{at};
+ghost use Rattle.refusal.specs.Said.{saidAt};
 ghost use Rattle.refusal.specs.Handed.{with, handed};
 ghost use Rattle.bits.specs.Bits.{readBits, readU32};
 ghost use Rattle.bits.specs.Reads.{gotOf};
@@ -21,7 +21,7 @@ fn hand_out(
     next_bit: &mut u32,
     taken: &mut u32,
 ) -> u32
-    ensures { λ r. ⌜ with (at r (now (taken .exit)) 0) (results (now (value .exit)) (now («next_byte» .exit)) (now («next_bit» .exit)))
+    ensures { λ r. ⌜ with (saidAt r (now (taken .exit)) 0) (results (now (value .exit)) (now («next_byte» .exit)) (now («next_bit» .exit)))
         ≡ handed (answered got) (results (now (value .entry)) (now («next_byte» .entry)) (now («next_bit» .entry))) ⌝ }
 {
     match got {
@@ -51,11 +51,11 @@ pub extern "C" fn netbuff_read_bits(
     next_bit: &mut u32,
     taken: &mut u32,
 ) -> u32
-    ensures { λ r. ⌜ with (at r (now (taken .exit)) 0) (results (now (value .exit)) (now («next_byte» .exit)) (now («next_bit» .exit)))
+    ensures { λ r. ⌜ with (saidAt r (now (taken .exit)) 0) (results (now (value .exit)) (now («next_byte» .exit)) (now («next_bit» .exit)))
         ≡ handed (answered (gotOf (bitsAt byte bit) (readBits (now (bytes .entry)) (bitsAt byte bit) (min n 32))))
         (results (now (value .entry)) (now («next_byte» .entry)) (now («next_bit» .entry))) ⌝ }
 {
-    let got = bits::read_bits(bytes, Place { byte, bit }, n);
+    let got = bits::read_bits(bytes, BitPlace { byte, bit }, n);
     hand_out(got, value, next_byte, next_bit, taken)
 }
 
@@ -71,7 +71,7 @@ pub extern "C" fn netbuff_read_u32(
     next_bit: &mut u32,
     taken: &mut u32,
 ) -> u32
-    ensures { λ r. ⌜ with (at r (now (taken .exit)) 0) (results (now (value .exit)) (now («next_byte» .exit)) (now («next_bit» .exit)))
+    ensures { λ r. ⌜ with (saidAt r (now (taken .exit)) 0) (results (now (value .exit)) (now («next_byte» .exit)) (now («next_bit» .exit)))
         ≡ handed (answered (gotOf (bitsAt byte bit)
         (readU32 (now (bytes .entry)) (bitsAt byte bit) (choice (now (choices .entry)) 0) (choice (now (choices .entry)) 1) (choice (now (choices .entry)) 2) (choice (now (choices .entry)) 3))))
         (results (now (value .entry)) (now («next_byte» .entry)) (now («next_bit» .entry))) ⌝ }
@@ -92,7 +92,7 @@ pub extern "C" fn netbuff_read_u32(
         offset: choices[6],
         bits: choices[7],
     };
-    let got = bits::read_u32(bytes, Place { byte, bit }, d0, d1, d2, d3);
+    let got = bits::read_u32(bytes, BitPlace { byte, bit }, d0, d1, d2, d3);
     hand_out(got, value, next_byte, next_bit, taken)
 }
 

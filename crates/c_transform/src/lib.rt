@@ -2,7 +2,7 @@
 use dct_select::Looked;
 use dct_select::TransformType;
 ghost use mathlib.Core.Path.{_≡_};
-ghost use Rattle.refusal.specs.Said.{at};
+ghost use Rattle.refusal.specs.Said.{saidAt};
 ghost use Rattle.refusal.specs.Handed.{with, handed};
 ghost use Rattle.dct_select.specs.LookUp.{lookUp};
 ghost use Rattle.c_transform.specs.Transform.{results, answered};
@@ -18,7 +18,7 @@ pub extern "C" fn netbuff_transform(
     x: &mut usize,
     y: &mut usize,
 ) -> u32
-    ensures { λ r. ⌜ with (at r (now (x .exit)) (now (y .exit))) (results (now (wide .exit)) (now (high .exit)) (now (order .exit)) (now (turn .exit)))
+    ensures { λ r. ⌜ with (saidAt r (now (x .exit)) (now (y .exit))) (results (now (wide .exit)) (now (high .exit)) (now (order .exit)) (now (turn .exit)))
         ≡ handed (answered (lookUp number)) (results (now (wide .entry)) (now (high .entry)) (now (order .entry)) (now (turn .entry))) ⌝ }
 {
     match TransformType::from_number(number) {

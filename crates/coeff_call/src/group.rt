@@ -1,7 +1,7 @@
 // The varblocks of a group in turn: corners row by row.
 use crate::plan::plan_of;
 use crate::varblock::step_varblock;
-use coeff_walk::Walk;
+use coeff_walk::WalkEnd;
 use coeff_walk::walked::is_stopped;
 use coeff_walk::walked::symbols_read;
 use context_record::HfBlockContext;
@@ -9,7 +9,7 @@ use lent_check::Group;
 ghost use mathlib.Core.List.{[], _∷_};
 ghost use lib.ListN.{length};
 ghost use Rattle.coeff_group.specs.Pass.{passWith};
-ghost use Rattle.coeff_group.specs.laws.Due.{GroupReady, GroupHanded, wholeOf};
+ghost use Rattle.coeff_group.specs.laws.Due.{GroupReady, GroupShown, wholeOf};
 
 // Holds the rows of counts. `preset_map` is the preset's part of the cluster map.
 pub(crate) fn read_group<'a>(
@@ -29,9 +29,9 @@ pub(crate) fn read_group<'a>(
     g0: &mut [u32],
     g1: &mut [u32],
     g2: &mut [u32],
-) -> Walk
+) -> WalkEnd
     requires { ⌜ GroupReady (passWith group (now kinds) (now «hf_mul») contexts «lf_there» (now lf0) (now lf1) (now lf2) (now store)) (contexts .«num_block_clusters») (length (now «preset_map»)) shift (length (now log)) ⌝ }
-    ensures { λ r. ⌜ GroupHanded r (now (log .exit)) (now (g0 .exit) ∷ now (g1 .exit) ∷ now (g2 .exit) ∷ []) (wholeOf shift (contexts .«num_block_clusters») (now («preset_map» .entry)) (passWith group (now (kinds .entry)) (now («hf_mul» .entry)) contexts «lf_there» (now (lf0 .entry)) (now (lf1 .entry)) (now (lf2 .entry)) (now (store .entry))) (now (symbols .entry)) (now (log .entry)) (now (g0 .entry) ∷ now (g1 .entry) ∷ now (g2 .entry) ∷ [])) ⌝ }
+    ensures { λ r. ⌜ GroupShown r (now (log .exit)) (now (g0 .exit) ∷ now (g1 .exit) ∷ now (g2 .exit) ∷ []) (wholeOf shift (contexts .«num_block_clusters») (now («preset_map» .entry)) (passWith group (now (kinds .entry)) (now («hf_mul» .entry)) contexts «lf_there» (now (lf0 .entry)) (now (lf1 .entry)) (now (lf2 .entry)) (now (store .entry))) (now (symbols .entry)) (now (log .entry)) (now (g0 .entry) ∷ now (g1 .entry) ∷ now (g2 .entry) ∷ [])) ⌝ }
 {
     let bw = group.bw;
     let bh = group.bh;
@@ -87,5 +87,5 @@ pub(crate) fn read_group<'a>(
         }
         y += 1;
     }
-    Walk::Ended(at)
+    WalkEnd::Done(at)
 }

@@ -3,7 +3,7 @@ use crate::group::read_group;
 use coeff_checks::before_work;
 use coeff_preset::PresetAnswer;
 use coeff_preset::read_preset;
-use coeff_walk::Walk;
+use coeff_walk::WalkEnd;
 use context_record::HfBlockContext;
 use lent_check::Group;
 use refusal::Checked;
@@ -28,12 +28,12 @@ pub enum CoeffAnswer {
 }
 
 // What a reading of the group gives.
-fn answer(walk: Walk) -> CoeffAnswer
+fn answer(walk: WalkEnd) -> CoeffAnswer
     ensures { λ r. ⌜ r ≡ answerBy walk ⌝ }
 {
     match walk {
-        Walk::Ended(at) => CoeffAnswer::Accepted(at),
-        Walk::Stopped(why) => CoeffAnswer::Refused(why),
+        WalkEnd::Done(at) => CoeffAnswer::Accepted(at),
+        WalkEnd::Stopped(why) => CoeffAnswer::Refused(why),
     }
 }
 

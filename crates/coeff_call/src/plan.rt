@@ -9,7 +9,7 @@ ghost use mathlib.Core.Path.{_≡_};
 ghost use Prim.Native.Nat.{_-_, _≤_, _<_};
 ghost use lib.ListN.{getD};
 ghost use Rattle.dct_select.specs.Transforms.{orderOf};
-ghost use Rattle.coeff_group.specs.laws.Sizes.{exponentOf};
+ghost use Rattle.dct_select.specs.laws.Exponents.{exponentOf};
 ghost use Rattle.coeff_group.specs.laws.Plans.{shapeOf, planBy};
 
 // The exponent of each transform's number of blocks.
@@ -134,7 +134,7 @@ pub(crate) fn plan_of<'a>(
     let i = y * group.bw + x;
     let order = order_of(kind);
     let shape = shape_of(x, y, kind);
-    let contexts = block_contexts(
+    let block_contexts = block_contexts(
         lengths,
         lf_thresholds,
         qf_thresholds,
@@ -149,6 +149,6 @@ pub(crate) fn plan_of<'a>(
     Plan {
         shape,
         order,
-        contexts,
+        block_contexts,
     }
 }

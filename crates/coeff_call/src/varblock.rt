@@ -2,14 +2,14 @@
 use crate::rows::rewrite;
 use coeff_group::plan::Plan;
 use coeff_varblock::read_varblock;
-use coeff_walk::Walk;
+use coeff_walk::WalkEnd;
 use coeff_walk::walked::is_stopped;
 use lent_check::Group;
 ghost use mathlib.Core.Path.{_≡_};
 ghost use mathlib.Core.List.{[], _∷_};
 ghost use Prim.Native.Nat.{ℕ, _+_, _*_, _^_, _≤_};
 ghost use lib.ListN.{length, drop};
-ghost use Rattle.coeff_group.specs.Group.{going, read};
+ghost use Rattle.coeff_group.specs.Group.{going, readItems};
 ghost use Rattle.coeff_group.specs.laws.Steps.{Shown};
 ghost use Rattle.coeff_group.specs.laws.Plans.{itemsBy, Planned};
 
@@ -28,9 +28,9 @@ pub(crate) fn step_varblock<'a>(
     g0: &mut [u32],
     g1: &mut [u32],
     g2: &mut [u32],
-) -> Walk
+) -> WalkEnd
     requires { ⌜ Planned plan group clusters (now «preset_map») (now store) shift × (at + 192 * 2 ^ (plan .shape .exponent) ≤ length (now log)) × (plan .shape .x + plan .shape .wide ≤ 32) × (length (now rows) ≡ 3) ⌝ }
-    ensures { λ r. ⌜ (length (now (rows .exit)) ≡ 3) × ((left : ℕ) → Shown (now (symbols .entry)) (at + 192 * 2 ^ (plan .shape .exponent)) r (now (rows .exit)) (now (log .exit)) (now (g0 .exit) ∷ now (g1 .exit) ∷ now (g2 .exit) ∷ []) (read shift clusters (now («preset_map» .entry)) (itemsBy plan group (now (store .entry))) (going (drop at (now (symbols .entry))) at (now (log .entry)) (now (g0 .entry) ∷ now (g1 .entry) ∷ now (g2 .entry) ∷ []) (now (rows .entry)) left))) ⌝ }
+    ensures { λ r. ⌜ (length (now (rows .exit)) ≡ 3) × ((left : ℕ) → Shown (now (symbols .entry)) (at + 192 * 2 ^ (plan .shape .exponent)) r (now (rows .exit)) (now (log .exit)) (now (g0 .exit) ∷ now (g1 .exit) ∷ now (g2 .exit) ∷ []) (readItems shift clusters (now («preset_map» .entry)) (itemsBy plan group (now (store .entry))) (going (drop at (now (symbols .entry))) at (now (log .entry)) (now (g0 .entry) ∷ now (g1 .entry) ∷ now (g2 .entry) ∷ []) (now (rows .entry)) left))) ⌝ }
 {
     let read = read_varblock(
         plan,
@@ -52,8 +52,23 @@ pub(crate) fn step_varblock<'a>(
         return walk;
     }
     // Each channel's count goes into its row, in the order of the walk.
-    rewrite(&mut rows[1], plan.shape.x, plan.shape.wide, read.counts[1]);
-    rewrite(&mut rows[0], plan.shape.x, plan.shape.wide, read.counts[0]);
-    rewrite(&mut rows[2], plan.shape.x, plan.shape.wide, read.counts[2]);
+    rewrite(
+        &mut rows[1],
+        plan.shape.x,
+        plan.shape.wide,
+        read.counts_over[1],
+    );
+    rewrite(
+        &mut rows[0],
+        plan.shape.x,
+        plan.shape.wide,
+        read.counts_over[0],
+    );
+    rewrite(
+        &mut rows[2],
+        plan.shape.x,
+        plan.shape.wide,
+        read.counts_over[2],
+    );
     walk
 }

@@ -4,7 +4,7 @@ use Prim.Native.Nat.{ℕ, _+_}
 use lib.ListN.{getD, set, replicate}
 use Rattle.refusal.specs.declared.Refusal.{Refusal}
 use Rattle.layout.specs.Varblocks.{Varblock}
-use Rattle.coeff_walk.specs.Walk.{Walked, ended, stopped}
+use Rattle.coeff_walk.specs.Walk.{Walked, done, stopped}
 use Rattle.coeff_walk.specs.Item.{Item, newRow, counted}
 use Rattle.coeff_group.specs.Pass.{Pass, channels}
 
@@ -23,28 +23,28 @@ pub data Reading : Type 0 where
 
 -- a channel c that was walked
 abbrev pub after : ℕ → Grids → Grids → ℕ → Walked → Reading
-after c grids rows left (ended us at log g n) = going us at log (set grids c g) rows (left + n)
+after c grids rows left (done us at log g n) = going us at log (set grids c g) rows (left + n)
 after c grids rows left (stopped why at log g) = refused why at log (set grids c g)
 
 module _ (shift clusters : ℕ) (presetMap : List ℕ) where
-  unfoldable pub item : Item → Reading → Reading
-  item it (going us at log grids rows left) =
+  unfoldable pub readItem : Item → Reading → Reading
+  readItem it (going us at log grids rows left) =
       let c = it .channel in
       let row = getD rows c [] in
       after c grids (set rows c (newRow it row us)) left (counted shift clusters presetMap it row us at log (getD grids c []))
-  item it (refused why at log grids) = refused why at log grids
+  readItem it (refused why at log grids) = refused why at log grids
 
-  unfoldable pub read : List Item → Reading → Reading
-  read [] r = r
-  read (it ∷ its) r = read its (item it r)
+  unfoldable pub readItems : List Item → Reading → Reading
+  readItems [] r = r
+  readItems (it ∷ its) r = readItems its (readItem it r)
 
   module _ (P : Pass) where
-    abbrev pub varblock : Varblock → Reading → Reading
-    varblock v r = read (channels P v) r
+    abbrev pub readVarblock : Varblock → Reading → Reading
+    readVarblock v r = readItems (channels P v) r
 
-    unfoldable pub group : List Varblock → Reading → Reading
-    group [] r = r
-    group (v ∷ vs) r = group vs (varblock v r)
+    unfoldable pub readGroup : List Varblock → Reading → Reading
+    readGroup [] r = r
+    readGroup (v ∷ vs) r = readGroup vs (readVarblock v r)
 
 -- what was left over of the counts, in all
 abbrev pub leftOf : Reading → ℕ

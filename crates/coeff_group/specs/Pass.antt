@@ -2,17 +2,17 @@
 use mathlib.Core.Bool.{Bool}
 use mathlib.Core.List.{List, [], _∷_, _++_}
 use Prim.Native.Nat.{ℕ, _+_, _*_}
-use lib.ListN.{drop}
+use lib.ListN.{getD, drop}
 use Rattle.dct_select.specs.Transforms.{wide, high, orderOf, turns}
-use Rattle.layout.specs.Grid.{at}
+use Rattle.layout.specs.Grid.{blockAt}
 use Rattle.layout.specs.Varblocks.{Varblock, varblocksOf}
 use Rattle.lent_check.specs.declared.Group.{Group}
 use Rattle.order_store.specs.Store.{stretch}
 use Rattle.context_record.specs.declared.HfBlockContext.{HfBlockContext}
 use Rattle.context_index.specs.Lists.{used}
-use Rattle.context_index.specs.Contexts.{blockContext}
+use Rattle.context_index.specs.Contexts.{blockIndex}
 use Rattle.order_natural.specs.Places.{paired}
-use Rattle.coeff_walk.specs.Places.{placesOf}
+use Rattle.coeff_walk.specs.Places.{cellsOf}
 use Rattle.coeff_walk.specs.Item.{Item}
 
 pub record Pass : Type 0 where
@@ -52,16 +52,19 @@ varblocks P = varblocksOf (P .bw) (P .bh) (P .kinds) (P .hfMul)
 abbrev pub blocksOf : Varblock → ℕ
 blocksOf v = wide (v .type) * high (v .type)
 
--- the block context for the n-th channel walked
-abbrev pub contextOf : Pass → Varblock → ℕ → ℕ
-contextOf P v n =
-    blockContext (used (P .contexts)) n (orderOf (v .type)) (v .hfMul) (P .lfThere)
-    (at (P .lf0) (P .bw) (v .x) (v .y)) (at (P .lf1) (P .bw) (v .x) (v .y)) (at (P .lf2) (P .bw) (v .x) (v .y))
+-- the entry of the map of block contexts for the n-th channel walked, and the block context there
+abbrev pub contextEntry : Pass → Varblock → ℕ → ℕ
+contextEntry P v n =
+    blockIndex (used (P .contexts)) n (orderOf (v .type)) (v .hfMul) (P .lfThere)
+    (blockAt (P .lf0) (P .bw) (v .x) (v .y)) (blockAt (P .lf1) (P .bw) (v .x) (v .y)) (blockAt (P .lf2) (P .bw) (v .x) (v .y))
 
--- the cells that are read in channel c: the order's places, but for the first, which are the low-frequency cells
-abbrev pub placesAt : Pass → Varblock → ℕ → List ℕ
-placesAt P v c =
-    placesOf (turns (v .type)) (8 * P .bw) (8 * v .x) (8 * v .y)
+abbrev pub contextOf : Pass → Varblock → ℕ → ℕ
+contextOf P v n = getD (P .contexts .«block_ctx_map») (contextEntry P v n) 0
+
+-- the cells that are read in channel c: those of its list's places, but for the first, which are the low-frequency cells
+abbrev pub cellsIn : Pass → Varblock → ℕ → List ℕ
+cellsIn P v c =
+    cellsOf (turns (v .type)) (8 * P .bw) (8 * v .x) (8 * v .y)
     (drop (blocksOf v) (paired (stretch (P .store) (orderOf (v .type)) c)))
 
 -- channel c, the n-th walked
@@ -72,8 +75,8 @@ itemOf P v n c = record {
   y = v .y;
   wide = wide (v .type);
   blocks = blocksOf v;
-  context = contextOf P v n;
-  places = placesAt P v c;
+  blockContext = contextOf P v n;
+  cells = cellsIn P v c;
 }
 
 -- channels 1, 0, 2

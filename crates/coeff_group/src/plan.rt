@@ -5,5 +5,5 @@ use coeff_walk::shape::Shape;
 pub struct Plan {
     pub shape: Shape,
     pub order: usize,
-    pub contexts: [usize; 3],
+    pub block_contexts: [usize; 3],
 }

@@ -2,7 +2,7 @@
 use crate::context::COEFF_FREQ_CONTEXT;
 use crate::context::COEFF_NUM_NONZERO_CONTEXT;
 use crate::walk::walk_places;
-use coeff_walk::Walk;
+use coeff_walk::WalkEnd;
 use coeff_walk::place::Spot;
 use refusal::Refusal;
 
@@ -13,8 +13,8 @@ pub mod walk;
 ghost use mathlib.Core.Path.{_≡_};
 ghost use mathlib.Core.Bool.{cond};
 ghost use Prim.Native.Nat.{_≤_};
-ghost use Rattle.coeff_walk.specs.laws.Outcome.{Handed};
-ghost use Rattle.coeff_walk.specs.laws.Lent.{placesFit, placesRead};
+ghost use Rattle.coeff_walk.specs.laws.Outcome.{WalkShown};
+ghost use Rattle.coeff_walk.specs.laws.Lent.{lentFits, placesRead};
 
 // 1 for true.
 fn to_usize(b: bool) -> usize
@@ -27,10 +27,17 @@ fn to_usize(b: bool) -> usize
 }
 
 // What is lent fits: lengths and limits.
-fn places_fit(spot: Spot, order: usize, start: usize, part: usize, shift: u32, log: usize) -> bool
-    ensures { λ r. ⌜ r ≡ placesFit spot order start part shift log ⌝ }
+fn lent_fits(
+    spot: Spot,
+    list: usize,
+    start: usize,
+    coeff_map: usize,
+    shift: u32,
+    log: usize,
+) -> bool
+    ensures { λ r. ⌜ r ≡ lentFits spot list start «coeff_map» shift log ⌝ }
 {
-    if 256 < spot.row {
+    if 256 < spot.width {
         return false;
     }
     if 256 < spot.x {
@@ -45,53 +52,53 @@ fn places_fit(spot: Spot, order: usize, start: usize, part: usize, shift: u32, l
     if 3 < shift {
         return false;
     }
-    if 63 << spot.exponent < order / 2 {
+    if 63 << spot.exponent < list / 2 {
         return false;
     }
-    if part != 458 {
+    if coeff_map != 458 {
         return false;
     }
     if log < start {
         return false;
     }
-    order / 2 <= log - start
+    list / 2 <= log - start
 }
 
-// The coefficients behind a count of `count`: refused where what is lent does not fit. `order` without its first places, which
-// are the low-frequency cells, `start` the symbols read, `few` whether the count is at most four for each block, `part` the
-// 458 entries of the cluster map.
+// The coefficients behind a count of `count`: refused where what is lent does not fit. `list` is the channel's without its
+// first places, which are the low-frequency cells, `start` the symbols read, `first_prev` whether the count is at most four
+// for each block, `coeff_map` the 458 entries of the cluster map.
 pub fn read_places(
-    order: &[u16],
+    list: &[u16],
     spot: Spot,
     symbols: &[u32],
     start: usize,
     count: usize,
-    few: bool,
-    part: &[u8],
+    first_prev: bool,
+    coeff_map: &[u8],
     shift: u32,
     log: &mut [u8],
     grid: &mut [u32],
-) -> Walk
-    ensures { λ r. ⌜ Handed r (now (log .exit)) (now (grid .exit)) (placesRead spot (now (order .entry)) (now (symbols .entry)) start count few (now (part .entry)) shift (now (log .entry)) (now (grid .entry))) ⌝ }
+) -> WalkEnd
+    ensures { λ r. ⌜ WalkShown r (now (log .exit)) (now (grid .exit)) (placesRead spot (now (list .entry)) (now (symbols .entry)) start count «first_prev» (now («coeff_map» .entry)) shift (now (log .entry)) (now (grid .entry))) ⌝ }
 {
-    if !places_fit(spot, order.len(), start, part.len(), shift, log.len()) {
-        return Walk::Stopped(Refusal::Length);
+    if !lent_fits(spot, list.len(), start, coeff_map.len(), shift, log.len()) {
+        return WalkEnd::Stopped(Refusal::Length);
     }
     if 63 << spot.exponent < count {
-        return Walk::Stopped(Refusal::Count(start));
+        return WalkEnd::Stopped(Refusal::Count(start));
     }
     let nonzeros = COEFF_NUM_NONZERO_CONTEXT;
     let frequencies = COEFF_FREQ_CONTEXT;
     walk_places(
         &nonzeros,
         &frequencies,
-        order,
+        list,
         spot,
         symbols,
         start,
         count,
-        to_usize(few),
-        part,
+        to_usize(first_prev),
+        coeff_map,
         shift,
         log,
         grid,

@@ -3,7 +3,7 @@ use coeff_walk::place::Spot;
 ghost use mathlib.Core.Path.{_≡_};
 ghost use Prim.Native.Nat.{_/_, _≤_, _<_};
 ghost use lib.ListN.{length, getD};
-ghost use Rattle.coeff_walk.specs.laws.Outcome.{spotPlaces};
+ghost use Rattle.coeff_walk.specs.laws.Outcome.{spotCells};
 
 fn to_usize(x: u16) -> usize
     ensures { λ r. ⌜ (r ≡ x) × (r ≤ 65535) ⌝ }
@@ -12,16 +12,16 @@ fn to_usize(x: u16) -> usize
 }
 
 // The cell of place k.
-pub(crate) fn cell(order: &[u16], k: usize, spot: Spot) -> usize
-    requires { ⌜ (k < length (now order) / 2) × (spot .row ≤ 256) × (spot .x ≤ 256) × (spot .y ≤ 256) ⌝ }
-    ensures { λ r. ⌜ r ≡ getD (spotPlaces spot (now (order .entry))) k 0 ⌝ }
+pub(crate) fn cell(list: &[u16], k: usize, spot: Spot) -> usize
+    requires { ⌜ (k < length (now list) / 2) × (spot .width ≤ 256) × (spot .x ≤ 256) × (spot .y ≤ 256) ⌝ }
+    ensures { λ r. ⌜ r ≡ getD (spotCells spot (now (list .entry))) k 0 ⌝ }
 {
     let i = 2 * k;
-    let a = to_usize(order[i]);
+    let a = to_usize(list[i]);
     let j = i + 1;
-    let b = to_usize(order[j]);
+    let b = to_usize(list[j]);
     if spot.turn {
-        return (spot.y + a) * spot.row + (spot.x + b);
+        return (spot.y + a) * spot.width + (spot.x + b);
     }
-    (spot.y + b) * spot.row + (spot.x + a)
+    (spot.y + b) * spot.width + (spot.x + a)
 }

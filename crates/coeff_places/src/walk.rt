@@ -4,14 +4,14 @@ use crate::context::count_entry;
 use crate::context::place_entry;
 use crate::place::cell;
 use coded_numbers::unpack_signed;
-use coeff_walk::Walk;
+use coeff_walk::WalkEnd;
 use coeff_walk::place::Spot;
 use refusal::Refusal;
 ghost use mathlib.Core.Path.{_≡_};
 ghost use Prim.Native.Nat.{_+_, _-_, _/_, _*_, _%_, _^_, _≤_, _<_};
 ghost use lib.ListN.{length, getD, drop};
 ghost use Rattle.coeff_walk.specs.Walk.{FREQ, NUM-NONZERO, flag, gain, walk};
-ghost use Rattle.coeff_walk.specs.laws.Outcome.{Ready, Handed, spotPlaces};
+ghost use Rattle.coeff_walk.specs.laws.Outcome.{Ready, WalkShown, spotCells};
 ghost use Rattle.coeff_walk.specs.laws.Runs.{ZerosReady, Zeros};
 
 // x shifted, losing top bits.
@@ -31,11 +31,11 @@ fn sum(a: u32, b: u32) -> u32
 
 // The cell of place k gains what symbol u says, shifted, if the grid has that cell. A symbol 0 adds 0: there is no test of
 // it, so that a walk over many that are not 0 has nothing to guess.
-fn gain_at(order: &[u16], k: usize, spot: Spot, u: u32, shift: u32, grid: &mut [u32])
-    requires { ⌜ (k < length (now order) / 2) × (spot .row ≤ 256) × (spot .x ≤ 256) × (spot .y ≤ 256) × (shift ≤ 3) ⌝ }
-    ensures { λ r. ⌜ now (grid .exit) ≡ gain shift (now (grid .entry)) (getD (spotPlaces spot (now (order .entry))) k 0) u ⌝ }
+fn gain_at(list: &[u16], k: usize, spot: Spot, u: u32, shift: u32, grid: &mut [u32])
+    requires { ⌜ (k < length (now list) / 2) × (spot .width ≤ 256) × (spot .x ≤ 256) × (spot .y ≤ 256) × (shift ≤ 3) ⌝ }
+    ensures { λ r. ⌜ now (grid .exit) ≡ gain shift (now (grid .entry)) (getD (spotCells spot (now (list .entry))) k 0) u ⌝ }
 {
-    let p = cell(order, k, spot);
+    let p = cell(list, k, spot);
     if grid.len() <= p {
         return;
     }
@@ -53,50 +53,50 @@ fn flag_of(u: u32) -> usize
     1
 }
 
-// The coefficients of an order's places, until `count` of them were not 0; with the two tables of contexts. Each place is
+// The coefficients of a list's places, until `count` of them were not 0; with the two tables of contexts. Each place is
 // done in the same way, whatever its symbol.
 fn walk_dense(
     nonzeros: &[u8; 63],
     frequencies: &[u8; 63],
-    order: &[u16],
+    list: &[u16],
     spot: Spot,
     symbols: &[u32],
     start: usize,
     count: usize,
-    first: usize,
-    part: &[u8],
+    first_prev: usize,
+    coeff_map: &[u8],
     shift: u32,
     log: &mut [u8],
     grid: &mut [u32],
-) -> Walk
-    requires { ⌜ (now nonzeros ≡ NUM-NONZERO) × (now frequencies ≡ FREQ) × Ready spot (now order) start count first (length (now part)) shift (length (now log)) ⌝ }
-    ensures { λ r. ⌜ Handed r (now (log .exit)) (now (grid .exit)) (walk shift (2 ^ (spot .exponent)) (now (part .entry)) (spotPlaces spot (now (order .entry))) 0 first count (drop start (now (symbols .entry))) start (now (log .entry)) (now (grid .entry))) ⌝ }
+) -> WalkEnd
+    requires { ⌜ (now nonzeros ≡ NUM-NONZERO) × (now frequencies ≡ FREQ) × Ready spot (now list) start count «first_prev» (length (now «coeff_map»)) shift (length (now log)) ⌝ }
+    ensures { λ r. ⌜ WalkShown r (now (log .exit)) (now (grid .exit)) (walk shift (2 ^ (spot .exponent)) (now («coeff_map» .entry)) (spotCells spot (now (list .entry))) 0 «first_prev» count (drop start (now (symbols .entry))) start (now (log .entry)) (now (grid .entry))) ⌝ }
 {
     let mut at = start;
     let mut left = count;
-    let mut prev = first;
+    let mut prev = first_prev;
     let mut k = 0;
-    let end = order.len() / 2;
+    let end = list.len() / 2;
     while k < end {
         if left == 0 {
-            return Walk::Ended(at);
+            return WalkEnd::Done(at);
         }
         let context = coeff_context(nonzeros, frequencies, spot.exponent, left - 1, k, prev);
         if 458 <= context {
-            return Walk::Stopped(Refusal::TooManyZeros(at));
+            return WalkEnd::Stopped(Refusal::TooManyZeros(at));
         }
         if symbols.len() <= at {
-            return Walk::Stopped(Refusal::SymbolsEnd(at));
+            return WalkEnd::Stopped(Refusal::SymbolsEnd(at));
         }
         let u = symbols[at];
-        log[at] = part[context];
-        gain_at(order, k, spot, u, shift, grid);
+        log[at] = coeff_map[context];
+        gain_at(list, k, spot, u, shift, grid);
         prev = flag_of(u);
         left -= prev;
         at += 1;
         k += 1;
     }
-    Walk::Ended(at)
+    WalkEnd::Done(at)
 }
 
 // Passes the zeros from place `from` on, below place `stop`: logs each, and tells the place behind them. A 0 leaves the
@@ -181,33 +181,33 @@ fn behind(n: usize, start: usize) -> usize
 fn walk_sparse(
     nonzeros: &[u8; 63],
     frequencies: &[u8; 63],
-    order: &[u16],
+    list: &[u16],
     spot: Spot,
     symbols: &[u32],
     start: usize,
     count: usize,
-    first: usize,
-    part: &[u8],
+    first_prev: usize,
+    coeff_map: &[u8],
     shift: u32,
     log: &mut [u8],
     grid: &mut [u32],
-) -> Walk
-    requires { ⌜ (now nonzeros ≡ NUM-NONZERO) × (now frequencies ≡ FREQ) × Ready spot (now order) start count first (length (now part)) shift (length (now log)) × (count ≤ 32 * 2 ^ (spot .exponent)) ⌝ }
-    ensures { λ r. ⌜ Handed r (now (log .exit)) (now (grid .exit)) (walk shift (2 ^ (spot .exponent)) (now (part .entry)) (spotPlaces spot (now (order .entry))) 0 first count (drop start (now (symbols .entry))) start (now (log .entry)) (now (grid .entry))) ⌝ }
+) -> WalkEnd
+    requires { ⌜ (now nonzeros ≡ NUM-NONZERO) × (now frequencies ≡ FREQ) × Ready spot (now list) start count «first_prev» (length (now «coeff_map»)) shift (length (now log)) × (count ≤ 32 * 2 ^ (spot .exponent)) ⌝ }
+    ensures { λ r. ⌜ WalkShown r (now (log .exit)) (now (grid .exit)) (walk shift (2 ^ (spot .exponent)) (now («coeff_map» .entry)) (spotCells spot (now (list .entry))) 0 «first_prev» count (drop start (now (symbols .entry))) start (now (log .entry)) (now (grid .entry))) ⌝ }
 {
     let mut left = count;
-    let mut prev = first;
+    let mut prev = first_prev;
     let mut k = 0;
-    let end = order.len() / 2;
+    let end = list.len() / 2;
     let stop = lesser_of(end, behind(symbols.len(), start));
     while k < stop {
         if left == 0 {
-            return Walk::Ended(start + k);
+            return WalkEnd::Done(start + k);
         }
         let at = start + k;
         let context = coeff_context(nonzeros, frequencies, spot.exponent, left - 1, k, prev);
         let u = symbols[at];
-        log[at] = part[context];
+        log[at] = coeff_map[context];
         if u == 0 {
             let entry = 2 * count_entry(nonzeros, spot.exponent, left - 1);
             k = zeros_from(
@@ -217,56 +217,56 @@ fn walk_sparse(
                 start,
                 k + 1,
                 stop,
-                &part[entry..],
+                &coeff_map[entry..],
                 log,
             );
             prev = 0;
             continue;
         }
-        gain_at(order, k, spot, u, shift, grid);
+        gain_at(list, k, spot, u, shift, grid);
         left -= 1;
         prev = 1;
         k += 1;
     }
     if end <= k {
-        return Walk::Ended(start + k);
+        return WalkEnd::Done(start + k);
     }
     if left == 0 {
-        return Walk::Ended(start + k);
+        return WalkEnd::Done(start + k);
     }
-    Walk::Stopped(Refusal::SymbolsEnd(start + k))
+    WalkEnd::Stopped(Refusal::SymbolsEnd(start + k))
 }
 
-// The same, by the way that suits the count: few, that is at most a quarter of the places, or many. An order has two numbers
+// The same, by the way that suits the count: sparse, that is at most a quarter of the places, or dense. A list has two numbers
 // for each place.
 pub(crate) fn walk_places(
     nonzeros: &[u8; 63],
     frequencies: &[u8; 63],
-    order: &[u16],
+    list: &[u16],
     spot: Spot,
     symbols: &[u32],
     start: usize,
     count: usize,
-    first: usize,
-    part: &[u8],
+    first_prev: usize,
+    coeff_map: &[u8],
     shift: u32,
     log: &mut [u8],
     grid: &mut [u32],
-) -> Walk
-    requires { ⌜ (now nonzeros ≡ NUM-NONZERO) × (now frequencies ≡ FREQ) × Ready spot (now order) start count first (length (now part)) shift (length (now log)) ⌝ }
-    ensures { λ r. ⌜ Handed r (now (log .exit)) (now (grid .exit)) (walk shift (2 ^ (spot .exponent)) (now (part .entry)) (spotPlaces spot (now (order .entry))) 0 first count (drop start (now (symbols .entry))) start (now (log .entry)) (now (grid .entry))) ⌝ }
+) -> WalkEnd
+    requires { ⌜ (now nonzeros ≡ NUM-NONZERO) × (now frequencies ≡ FREQ) × Ready spot (now list) start count «first_prev» (length (now «coeff_map»)) shift (length (now log)) ⌝ }
+    ensures { λ r. ⌜ WalkShown r (now (log .exit)) (now (grid .exit)) (walk shift (2 ^ (spot .exponent)) (now («coeff_map» .entry)) (spotCells spot (now (list .entry))) 0 «first_prev» count (drop start (now (symbols .entry))) start (now (log .entry)) (now (grid .entry))) ⌝ }
 {
-    if order.len() / 8 < count {
+    if list.len() / 8 < count {
         return walk_dense(
             nonzeros,
             frequencies,
-            order,
+            list,
             spot,
             symbols,
             start,
             count,
-            first,
-            part,
+            first_prev,
+            coeff_map,
             shift,
             log,
             grid,
@@ -275,13 +275,13 @@ pub(crate) fn walk_places(
     walk_sparse(
         nonzeros,
         frequencies,
-        order,
+        list,
         spot,
         symbols,
         start,
         count,
-        first,
-        part,
+        first_prev,
+        coeff_map,
         shift,
         log,
         grid,

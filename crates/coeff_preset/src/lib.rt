@@ -1,6 +1,6 @@
 // The preset number: as many bits as number the presets.
+use bits::BitPlace;
 use bits::Got;
-use bits::Place;
 use refusal::Refusal;
 ghost use mathlib.Core.Path.{_≡_};
 ghost use Rattle.bits.specs.Bits.{readBits};
@@ -17,7 +17,7 @@ pub fn read_preset(bytes: &[u8], presets: u32) -> PresetAnswer
     ensures { λ r. ⌜ answered r ≡ presetOf presets (readBits (now (bytes .entry)) 0 (exponentOf presets)) ⌝ }
 {
     let n = coded_numbers::exponent(presets);
-    let Got::Value(v, _) = bits::read_bits(bytes, Place::start(), n) else {
+    let Got::Value(v, _) = bits::read_bits(bytes, BitPlace::start(), n) else {
         return PresetAnswer::Refused(Refusal::BitsEnd(0));
     };
     if presets <= v {

@@ -1,8 +1,8 @@
 // One channel of a varblock: its count, then its coefficients (`hf_coeff.rs`).
 use crate::count::count_cluster;
-use crate::count::is_few;
+use crate::count::first_prev;
 use coeff_places::read_places;
-use coeff_walk::Walk;
+use coeff_walk::WalkEnd;
 use coeff_walk::place::Spot;
 use coeff_walk::shape::Shape;
 use refusal::Refusal;
@@ -11,7 +11,7 @@ ghost use mathlib.Core.List.{[], _∷_};
 ghost use Prim.Native.Nat.{_<_, _≤_};
 ghost use lib.ListN.{length, drop};
 ghost use Rattle.coeff_walk.specs.Item.{counted};
-ghost use Rattle.coeff_walk.specs.laws.Outcome.{Handed};
+ghost use Rattle.coeff_walk.specs.laws.Outcome.{WalkShown};
 ghost use Rattle.coeff_walk.specs.laws.Items.{ItemReady, itemAt, spotOf};
 ghost use Rattle.coeff_group.specs.laws.Steps.{InGrid};
 
@@ -21,13 +21,13 @@ fn to_usize(x: u32) -> usize
     x as usize
 }
 
-// The first cell of a varblock, in a grid of a group `width` blocks wide.
-fn spot_of(v: Shape, width: usize) -> Spot
-    requires { ⌜ (v .x < 32) × (v .y < 32) × (width ≤ 32) ⌝ }
-    ensures { λ r. ⌜ r ≡ spotOf v width ⌝ }
+// The first cell of a varblock, in a grid of a group `bw` blocks wide.
+fn spot_of(v: Shape, bw: usize) -> Spot
+    requires { ⌜ (v .x < 32) × (v .y < 32) × (bw ≤ 32) ⌝ }
+    ensures { λ r. ⌜ r ≡ spotOf v bw ⌝ }
 {
     Spot {
-        row: 8 * width,
+        width: 8 * bw,
         x: 8 * v.x,
         y: 8 * v.y,
         exponent: v.exponent,
@@ -35,46 +35,46 @@ fn spot_of(v: Shape, width: usize) -> Spot
     }
 }
 
-// A count, then coefficients. `width` blocks to a row, `context` the block context, `order` the order of this channel, `row`
-// its row of counts, `at` the symbols read.
-fn read_channel<'a>(
+// A count, then coefficients, in a group `bw` blocks wide. `list` is the order's list of this channel, `row` its row of counts,
+// `at` the symbols read.
+fn read_counted<'a>(
     v: Shape,
-    width: usize,
-    context: usize,
+    bw: usize,
+    block_context: usize,
     clusters: usize,
     preset_map: &'a [u8],
-    order: &'a [u16],
+    list: &'a [u16],
     row: &'a [u32; 32],
     symbols: &'a [u32],
     at: usize,
     shift: u32,
     log: &mut [u8],
     grid: &mut [u32],
-) -> Walk
-    requires { ⌜ ItemReady v width context clusters (length (now «preset_map»)) (length (now order)) at shift (length (now log)) ⌝ }
-    ensures { λ r. ⌜ Handed r (now (log .exit)) (now (grid .exit)) (counted shift clusters (now («preset_map» .entry)) (itemAt v width context (now (order .entry))) (now (row .entry)) (drop at (now (symbols .entry))) at (now (log .entry)) (now (grid .entry))) ⌝ }
+) -> WalkEnd
+    requires { ⌜ ItemReady v bw «block_context» clusters (length (now «preset_map»)) (length (now list)) at shift (length (now log)) ⌝ }
+    ensures { λ r. ⌜ WalkShown r (now (log .exit)) (now (grid .exit)) (counted shift clusters (now («preset_map» .entry)) (itemAt v bw «block_context» (now (list .entry))) (now (row .entry)) (drop at (now (symbols .entry))) at (now (log .entry)) (now (grid .entry))) ⌝ }
 {
     if symbols.len() <= at {
-        return Walk::Stopped(Refusal::SymbolsEnd(at));
+        return WalkEnd::Stopped(Refusal::SymbolsEnd(at));
     }
     let n = to_usize(symbols[at]);
-    log[at] = count_cluster(preset_map, row, v.x, v.y, context, clusters);
+    log[at] = count_cluster(preset_map, row, v.x, v.y, block_context, clusters);
     let next = at + 1;
     if n == 0 {
-        return Walk::Ended(next);
+        return WalkEnd::Done(next);
     }
-    let spot = spot_of(v, width);
-    let few = is_few(n, v.exponent);
+    let spot = spot_of(v, bw);
+    let prev = first_prev(n, v.exponent);
     let low = 2 << v.exponent;
-    let begin = context * 458 + 37 * clusters;
+    let begin = block_context * 458 + 37 * clusters;
     let end = begin + 458;
     read_places(
-        &order[low..],
+        &list[low..],
         spot,
         symbols,
         next,
         n,
-        few,
+        prev,
         &preset_map[begin..end],
         shift,
         log,
@@ -82,15 +82,15 @@ fn read_channel<'a>(
     )
 }
 
-// The walk of channel c, in its grid.
-pub(crate) fn walk_channel<'a>(
+// Channel c, in its grid.
+pub(crate) fn read_in_grid<'a>(
     c: usize,
     v: Shape,
-    width: usize,
-    context: usize,
+    bw: usize,
+    block_context: usize,
     clusters: usize,
     preset_map: &'a [u8],
-    order: &'a [u16],
+    list: &'a [u16],
     row: &'a [u32; 32],
     symbols: &'a [u32],
     at: usize,
@@ -99,18 +99,18 @@ pub(crate) fn walk_channel<'a>(
     g0: &mut [u32],
     g1: &mut [u32],
     g2: &mut [u32],
-) -> Walk
-    requires { ⌜ (c < 3) × ItemReady v width context clusters (length (now «preset_map»)) (length (now order)) at shift (length (now log)) ⌝ }
-    ensures { λ r. ⌜ InGrid c (now (g0 .entry) ∷ now (g1 .entry) ∷ now (g2 .entry) ∷ []) r (now (log .exit)) (now (g0 .exit) ∷ now (g1 .exit) ∷ now (g2 .exit) ∷ []) (λ g. counted shift clusters (now («preset_map» .entry)) (itemAt v width context (now (order .entry))) (now (row .entry)) (drop at (now (symbols .entry))) at (now (log .entry)) g) ⌝ }
+) -> WalkEnd
+    requires { ⌜ (c < 3) × ItemReady v bw «block_context» clusters (length (now «preset_map»)) (length (now list)) at shift (length (now log)) ⌝ }
+    ensures { λ r. ⌜ InGrid c (now (g0 .entry) ∷ now (g1 .entry) ∷ now (g2 .entry) ∷ []) r (now (log .exit)) (now (g0 .exit) ∷ now (g1 .exit) ∷ now (g2 .exit) ∷ []) (λ g. counted shift clusters (now («preset_map» .entry)) (itemAt v bw «block_context» (now (list .entry))) (now (row .entry)) (drop at (now (symbols .entry))) at (now (log .entry)) g) ⌝ }
 {
     if c == 0 {
-        return read_channel(
+        return read_counted(
             v,
-            width,
-            context,
+            bw,
+            block_context,
             clusters,
             preset_map,
-            order,
+            list,
             row,
             symbols,
             at,
@@ -120,13 +120,13 @@ pub(crate) fn walk_channel<'a>(
         );
     }
     if c == 1 {
-        return read_channel(
+        return read_counted(
             v,
-            width,
-            context,
+            bw,
+            block_context,
             clusters,
             preset_map,
-            order,
+            list,
             row,
             symbols,
             at,
@@ -135,13 +135,13 @@ pub(crate) fn walk_channel<'a>(
             g1,
         );
     }
-    read_channel(
+    read_counted(
         v,
-        width,
-        context,
+        bw,
+        block_context,
         clusters,
         preset_map,
-        order,
+        list,
         row,
         symbols,
         at,

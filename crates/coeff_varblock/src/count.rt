@@ -40,7 +40,7 @@ fn count_index(p: usize) -> usize
 }
 
 // A count of at most four for each of 2 to the power `exponent` blocks.
-pub(crate) fn is_few(n: usize, exponent: usize) -> bool
+pub(crate) fn first_prev(n: usize, exponent: usize) -> bool
     requires { ⌜ exponent ≤ 10 ⌝ }
     ensures { λ r. ⌜ r ≡ leb n (4 * 2 ^ exponent) ⌝ }
 {
@@ -62,14 +62,14 @@ pub(crate) fn count_cluster(
     row: &[u32; 32],
     x: usize,
     y: usize,
-    context: usize,
+    block_context: usize,
     clusters: usize,
 ) -> u8
-    requires { ⌜ (x < 32) × (context < clusters) × (clusters ≤ 16) ⌝ }
-    ensures { λ r. ⌜ r ≡ getD (now («preset_map» .entry)) (context + countIndex (predicted (now (row .entry)) x y) * clusters) 0 ⌝ }
+    requires { ⌜ (x < 32) × («block_context» < clusters) × (clusters ≤ 16) ⌝ }
+    ensures { λ r. ⌜ r ≡ getD (now («preset_map» .entry)) («block_context» + countIndex (predicted (now (row .entry)) x y) * clusters) 0 ⌝ }
 {
     let predicted = predict(row, x, y);
-    let entry = context + count_index(predicted) * clusters;
+    let entry = block_context + count_index(predicted) * clusters;
     if preset_map.len() <= entry {
         return 0;
     }

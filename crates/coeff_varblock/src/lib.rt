@@ -1,8 +1,8 @@
 // One varblock: the counts and coefficients of its three channels (`hf_coeff.rs`).
-use crate::channel::walk_channel;
+use crate::channel::read_in_grid;
 use crate::count::count_over;
 use coeff_group::plan::Plan;
-use coeff_walk::Walk;
+use coeff_walk::WalkEnd;
 use coeff_walk::walked::is_stopped;
 use coeff_walk::walked::symbols_read;
 use lent_check::Group;
@@ -18,10 +18,10 @@ ghost use mathlib.Core.List.{[], _∷_};
 ghost use Prim.Native.Nat.{ℕ, _+_, _*_, _^_, _<_, _≤_};
 ghost use lib.ListN.{length, take, drop};
 ghost use Rattle.order_store.specs.LookedUp.{stretchAt};
-ghost use Rattle.coeff_group.specs.Group.{going, read};
+ghost use Rattle.coeff_group.specs.Group.{going, readItems};
 ghost use Rattle.coeff_group.specs.laws.Rewritten.{three, VarblockShown};
 ghost use Rattle.coeff_group.specs.laws.Plans.{channelWalked, itemsBy, Planned};
-ghost use Rattle.coeff_group.specs.laws.Turn.{TurnShown};
+ghost use Rattle.coeff_group.specs.laws.Channel.{ChannelShown};
 ghost use Rattle.coeff_group.specs.laws.Lent.{varblockFits, varblockRead};
 
 fn to_usize(x: u32) -> usize
@@ -44,23 +44,23 @@ fn channel_walked(n: usize) -> usize
 
 // The list of channel c, where `lists` is that of channel 0: the three stand one behind the other.
 fn list_of(store: &[u16], lists: Stretch, c: usize) -> &[u16]
-    requires { ⌜ (c < 3) × (lists .first + 3 * lists .count ≤ length (now store)) ⌝ }
-    ensures { λ r. ⌜ now r ≡ take (lists .count) (drop (lists .first + c * lists .count) (now (store .entry))) ⌝ }
+    requires { ⌜ (c < 3) × (lists .first + 3 * lists .len ≤ length (now store)) ⌝ }
+    ensures { λ r. ⌜ now r ≡ take (lists .len) (drop (lists .first + c * lists .len) (now (store .entry))) ⌝ }
 {
-    let n = lists.count;
+    let n = lists.len;
     let a = lists.first + c * n;
     let e = a + n;
     &store[a..e]
 }
 
-// How the turn of a channel ended, and what its count comes to over the varblock's blocks; 0 where it was stopped.
-struct TurnRead {
-    walk: Walk,
-    count: u32,
+// How the reading of a channel ended, and what its count comes to over the varblock's blocks; 0 where it was stopped.
+struct ChannelRead {
+    walk: WalkEnd,
+    count_over: u32,
 }
 
-// The turn of the channel that is walked n-th, of what fits. `lists` is where the order's list of channel 0 lies.
-fn read_turn<'a>(
+// The channel that is walked n-th, of what fits. `lists` is where the order's list of channel 0 lies.
+fn read_channel<'a>(
     n: usize,
     lists: Stretch,
     plan: Plan,
@@ -76,16 +76,16 @@ fn read_turn<'a>(
     g0: &mut [u32],
     g1: &mut [u32],
     g2: &mut [u32],
-) -> TurnRead
+) -> ChannelRead
     requires { ⌜ (n < 3) × (lists ≡ stretchAt (length (now store)) (plan .order) 0) × Planned plan group clusters (now «preset_map») (now store) shift × (at + 64 * 2 ^ (plan .shape .exponent) ≤ length (now log)) ⌝ }
-    ensures { λ r. ⌜ TurnShown plan group clusters (now («preset_map» .entry)) (now (store .entry)) (now (symbols .entry)) at shift (now (rows .entry)) (now (log .entry)) (now (g0 .entry) ∷ now (g1 .entry) ∷ now (g2 .entry) ∷ []) n (r .walk) (r .count) (now (log .exit)) (now (g0 .exit) ∷ now (g1 .exit) ∷ now (g2 .exit) ∷ []) ⌝ }
+    ensures { λ r. ⌜ ChannelShown plan group clusters (now («preset_map» .entry)) (now (store .entry)) (now (symbols .entry)) at shift (now (rows .entry)) (now (log .entry)) (now (g0 .entry) ∷ now (g1 .entry) ∷ now (g2 .entry) ∷ []) n (r .walk) (r .«count_over») (now (log .exit)) (now (g0 .exit) ∷ now (g1 .exit) ∷ now (g2 .exit) ∷ []) ⌝ }
 {
     let c = channel_walked(n);
-    let walk = walk_channel(
+    let walk = read_in_grid(
         c,
         plan.shape,
         group.bw,
-        plan.contexts[n],
+        plan.block_contexts[n],
         clusters,
         preset_map,
         list_of(store, lists, c),
@@ -99,21 +99,24 @@ fn read_turn<'a>(
         g2,
     );
     if is_stopped(walk) {
-        return TurnRead { walk, count: 0 };
+        return ChannelRead {
+            walk,
+            count_over: 0,
+        };
     }
-    let count = count_over(to_usize(symbols[at]), plan.shape.exponent);
-    TurnRead { walk, count }
+    let count_over = count_over(to_usize(symbols[at]), plan.shape.exponent);
+    ChannelRead { walk, count_over }
 }
 
 // How the reading of a varblock ended, and what the counts of channels 0, 1, 2 come to over its blocks; 0 where it was
 // stopped.
 pub struct VarblockRead {
-    pub walk: Walk,
-    pub counts: [u32; 3],
+    pub walk: WalkEnd,
+    pub counts_over: [u32; 3],
 }
 
 // The three channels in turn, of what fits. `lists` is where the order's list of channel 0 lies.
-fn read_turns<'a>(
+fn read_channels<'a>(
     lists: Stretch,
     plan: Plan,
     group: Group,
@@ -130,13 +133,13 @@ fn read_turns<'a>(
     g2: &mut [u32],
 ) -> VarblockRead
     requires { ⌜ (lists ≡ stretchAt (length (now store)) (plan .order) 0) × Planned plan group clusters (now «preset_map») (now store) shift × (at + 192 * 2 ^ (plan .shape .exponent) ≤ length (now log)) ⌝ }
-    ensures { λ r. ⌜ ((left : ℕ) → VarblockShown plan (now (symbols .entry)) (at + 192 * 2 ^ (plan .shape .exponent)) (r .walk) (r .counts) (now (rows .entry)) (now (log .exit)) (now (g0 .exit) ∷ now (g1 .exit) ∷ now (g2 .exit) ∷ []) (read shift clusters (now («preset_map» .entry)) (itemsBy plan group (now (store .entry))) (going (drop at (now (symbols .entry))) at (now (log .entry)) (now (g0 .entry) ∷ now (g1 .entry) ∷ now (g2 .entry) ∷ []) (three (now (rows .entry))) left))) ⌝ }
+    ensures { λ r. ⌜ ((left : ℕ) → VarblockShown plan (now (symbols .entry)) (at + 192 * 2 ^ (plan .shape .exponent)) (r .walk) (r .«counts_over») (now (rows .entry)) (now (log .exit)) (now (g0 .exit) ∷ now (g1 .exit) ∷ now (g2 .exit) ∷ []) (readItems shift clusters (now («preset_map» .entry)) (itemsBy plan group (now (store .entry))) (going (drop at (now (symbols .entry))) at (now (log .entry)) (now (g0 .entry) ∷ now (g1 .entry) ∷ now (g2 .entry) ∷ []) (three (now (rows .entry))) left))) ⌝ }
 {
-    let mut counts = [0u32; 3];
+    let mut counts_over = [0u32; 3];
     let mut at = at;
     let mut n = 0;
     while n < 3 {
-        let turn = read_turn(
+        let channel = read_channel(
             n,
             lists,
             plan,
@@ -153,21 +156,21 @@ fn read_turns<'a>(
             g1,
             g2,
         );
-        let walk = turn.walk;
+        let walk = channel.walk;
         if is_stopped(walk) {
             return VarblockRead {
                 walk,
-                counts: [0; 3],
+                counts_over: [0; 3],
             };
         }
         let c = channel_walked(n);
-        counts[c] = turn.count;
+        counts_over[c] = channel.count_over;
         at = symbols_read(walk);
         n += 1;
     }
     VarblockRead {
-        walk: Walk::Ended(at),
-        counts,
+        walk: WalkEnd::Done(at),
+        counts_over,
     }
 }
 
@@ -196,13 +199,13 @@ fn varblock_fits(
     if 32 < group.bw {
         return false;
     }
-    if clusters <= plan.contexts[0] {
+    if clusters <= plan.block_contexts[0] {
         return false;
     }
-    if clusters <= plan.contexts[1] {
+    if clusters <= plan.block_contexts[1] {
         return false;
     }
-    if clusters <= plan.contexts[2] {
+    if clusters <= plan.block_contexts[2] {
         return false;
     }
     if 16 < clusters {
@@ -244,7 +247,7 @@ pub fn read_varblock<'a>(
     g1: &mut [u32],
     g2: &mut [u32],
 ) -> VarblockRead
-    ensures { λ r. ⌜ ((left : ℕ) → VarblockShown plan (now (symbols .entry)) (at + 192 * 2 ^ (plan .shape .exponent)) (r .walk) (r .counts) (now (rows .entry)) (now (log .exit)) (now (g0 .exit) ∷ now (g1 .exit) ∷ now (g2 .exit) ∷ []) (varblockRead plan group clusters (now («preset_map» .entry)) (now (store .entry)) (now (rows .entry)) (now (symbols .entry)) at shift (now (log .entry)) (now (g0 .entry) ∷ now (g1 .entry) ∷ now (g2 .entry) ∷ []) left)) ⌝ }
+    ensures { λ r. ⌜ ((left : ℕ) → VarblockShown plan (now (symbols .entry)) (at + 192 * 2 ^ (plan .shape .exponent)) (r .walk) (r .«counts_over») (now (rows .entry)) (now (log .exit)) (now (g0 .exit) ∷ now (g1 .exit) ∷ now (g2 .exit) ∷ []) (varblockRead plan group clusters (now («preset_map» .entry)) (now (store .entry)) (now (rows .entry)) (now (symbols .entry)) at shift (now (log .entry)) (now (g0 .entry) ∷ now (g1 .entry) ∷ now (g2 .entry) ∷ []) left)) ⌝ }
 {
     let lists = stretch_of(store.len(), plan.order, 0);
     if !varblock_fits(
@@ -252,17 +255,17 @@ pub fn read_varblock<'a>(
         group,
         clusters,
         preset_map.len(),
-        lists.count,
+        lists.len,
         at,
         shift,
         log.len(),
     ) {
         return VarblockRead {
-            walk: Walk::Stopped(Refusal::Length),
-            counts: [0; 3],
+            walk: WalkEnd::Stopped(Refusal::Length),
+            counts_over: [0; 3],
         };
     }
-    read_turns(
+    read_channels(
         lists,
         plan,
         group,

@@ -7,16 +7,16 @@ use lib.ListN.{getD, set, take, drop}
 use Rattle.refusal.specs.declared.Refusal.the-variants.{SymbolsEnd, Count}
 use Rattle.coeff_walk.specs.Walk.{Walked, stopped, walk}
 
--- what no symbol decides: the varblock's corner x, y, its width, the number of its blocks,
--- the block context, and the cells that are read, in reading order
+-- what no symbol decides: the varblock's corner x, y, how many blocks it is wide and how many it has,
+-- the block context, and the cells that are read, in the order of their places
 pub record Item : Type 0 where
   pub channel : ℕ
   pub x : ℕ
   pub y : ℕ
   pub wide : ℕ
   pub blocks : ℕ
-  pub context : ℕ
-  pub places : List ℕ
+  pub blockContext : ℕ
+  pub cells : List ℕ
 
 -- the count that a channel's row predicts at x, y
 abbrev pub predicted : List ℕ → ℕ → ℕ → ℕ
@@ -42,15 +42,19 @@ abbrev pub newRow : Item → List ℕ → List ℕ → List ℕ
 newRow it row [] = row
 newRow it row (n ∷ us) = rowOf row (it .x) (it .wide) (countOver n (it .blocks))
 
+-- the entry of the preset map for an item's count
+abbrev pub countEntry : ℕ → Item → List ℕ → ℕ
+countEntry clusters it row = it .blockContext + countIndex (predicted row (it .x) (it .y)) * clusters
+
 -- with a preset's part of the cluster map
 module _ (clusters : ℕ) (presetMap : List ℕ) where
-  -- the entry of the count
+  -- the cluster of the count
   abbrev pub countCluster : Item → List ℕ → ℕ
-  countCluster it row = getD presetMap (it .context + countIndex (predicted row (it .x) (it .y)) * clusters) 0
+  countCluster it row = getD presetMap (countEntry clusters it row) 0
 
   -- the 458 entries of the coefficients
-  abbrev pub coeffPart : Item → List ℕ
-  coeffPart it = take 458 (drop (it .context * 458 + 37 * clusters) presetMap)
+  abbrev pub coeffMapOf : Item → List ℕ
+  coeffMapOf it = take 458 (drop (it .blockContext * 458 + 37 * clusters) presetMap)
 
 module _ (shift clusters : ℕ) (presetMap : List ℕ) where
   -- the channel's row, symbols left, symbols read, log, grid
@@ -59,5 +63,5 @@ module _ (shift clusters : ℕ) (presetMap : List ℕ) where
   counted it row (n ∷ us) at log g =
       let log₁ = set log at (countCluster clusters presetMap it row) in
       cond (leb n (63 * it .blocks))
-      (walk shift (it .blocks) (coeffPart clusters presetMap it) (it .places) 0 (cond (leb n (4 * it .blocks)) 1 0) n us (at + 1) log₁ g)
+      (walk shift (it .blocks) (coeffMapOf clusters presetMap it) (it .cells) 0 (cond (leb n (4 * it .blocks)) 1 0) n us (at + 1) log₁ g)
       (stopped Count (at + 1) log₁ g)

@@ -1,5 +1,4 @@
 -- what is proved of a channel's reading
-pub mod SignedLaws
 pub mod Outcome
 pub mod Runs
 pub mod PlaceLaws

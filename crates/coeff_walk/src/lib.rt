@@ -6,9 +6,9 @@ pub mod place;
 pub mod shape;
 pub mod walked;
 
-// How a reading ended.
-pub enum Walk {
+// How a reading ended: done, or stopped by a refusal.
+pub enum WalkEnd {
     // Symbols read so far.
-    Ended(usize),
+    Done(usize),
     Stopped(Refusal),
 }

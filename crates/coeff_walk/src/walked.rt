@@ -1,24 +1,24 @@
 // How a reading of one channel or varblock ended.
-use crate::Walk;
+use crate::WalkEnd;
 ghost use mathlib.Core.Path.{_≡_};
 ghost use Rattle.coeff_walk.specs.laws.Outcome.{isStopped, readBy};
 
 // Whether it was stopped.
-pub fn is_stopped(walk: Walk) -> bool
+pub fn is_stopped(walk: WalkEnd) -> bool
     ensures { λ r. ⌜ r ≡ isStopped walk ⌝ }
 {
     match walk {
-        Walk::Ended(_) => false,
-        Walk::Stopped(_) => true,
+        WalkEnd::Done(_) => false,
+        WalkEnd::Stopped(_) => true,
     }
 }
 
 // Symbols read, of a reading that was not stopped.
-pub fn symbols_read(walk: Walk) -> usize
+pub fn symbols_read(walk: WalkEnd) -> usize
     ensures { λ r. ⌜ r ≡ readBy walk ⌝ }
 {
     match walk {
-        Walk::Ended(at) => at,
-        Walk::Stopped(_) => 0,
+        WalkEnd::Done(at) => at,
+        WalkEnd::Stopped(_) => 0,
     }
 }

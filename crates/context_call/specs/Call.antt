@@ -10,7 +10,7 @@ use Rattle.refusal.specs.Said.{said}
 use Rattle.refusal.specs.Answer.{Answer, gives, refuses, unless, passed, answeredBy}
 use Rattle.bits.specs.Bits.{Read, Value, Ended, readBits}
 use Rattle.context_record.specs.declared.HfBlockContext.{HfBlockContext}
-use Rattle.context_record.specs.Record.{bsizeOf}
+use Rattle.context_record.specs.Record.{recordOf, bsizeOf}
 use Rattle.bytes_below.specs.Below.{bytesBelow}
 use Rattle.context_call.specs.declared.ContextAnswer.{ContextAnswer}
 use Rattle.context_call.specs.declared.ContextAnswer.the-variants.{Accepted, Refused}
@@ -19,16 +19,6 @@ use Rattle.context_thresholds.specs.Thresholds.{Lists, listsOf, readLists, pad}
 
 abbrev pub lengthsOf : Lists → List ℕ
 lengthsOf l = length (l .lf0) ∷ length (l .lf1) ∷ length (l .lf2) ∷ length (l .qf) ∷ []
-
-abbrev pub recordOf : ℕ → List ℕ → List ℕ → List ℕ → List ℕ → HfBlockContext
-recordOf count lengths lf qf map =
-    record {
-      «num_block_clusters» = count;
-      lengths = lengths;
-      «lf_thresholds» = lf;
-      «qf_thresholds» = qf;
-      «block_ctx_map» = map;
-    }
 
 -- the record of a count, lists and a map
 unfoldable pub contextsOf : ℕ → Lists → List ℕ → HfBlockContext
@@ -54,8 +44,8 @@ pub record Outcome : Type 0 where
   pub contexts : HfBlockContext
 
 -- what the code hands back
-abbrev pub handed : ContextResult → Outcome
-handed r = record { answer = answered (r .answer); contexts = r .contexts }
+abbrev pub leaves : ContextResult → Outcome
+leaves r = record { answer = answered (r .answer); contexts = r .contexts }
 
 abbrev pub accepted : ℕ → HfBlockContext → Outcome
 accepted at contexts = record { answer = gives at; contexts = contexts }

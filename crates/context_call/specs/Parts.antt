@@ -5,7 +5,8 @@ use Rattle.refusal.specs.declared.Said.{Said}
 use Rattle.refusal.specs.Answer.{Answer, answeredBy}
 use Rattle.context_record.specs.declared.HfBlockContext.{HfBlockContext}
 use Rattle.context_call.specs.declared.ContextParts.{ContextParts}
-use Rattle.context_call.specs.Call.{Outcome, answered, recordOf}
+use Rattle.context_record.specs.Record.{recordOf}
+use Rattle.context_call.specs.Call.{Outcome, answered}
 
 -- what the code hands back, with what the places of lists and map hold
 abbrev pub withLists : ContextParts → List ℕ → List ℕ → List ℕ → Outcome

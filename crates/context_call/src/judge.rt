@@ -14,7 +14,8 @@ ghost use lib.ListN.{getD};
 ghost use Rattle.refusal.specs.Said.{said};
 ghost use Rattle.refusal.specs.laws.Answer.{checked};
 ghost use Rattle.context_thresholds.specs.Thresholds.{pad};
-ghost use Rattle.context_call.specs.Call.{recordOf, refused, judged, judgedAs, accepted, contextsOf, noLists, DEFAULT-MAP};
+ghost use Rattle.context_record.specs.Record.{recordOf};
+ghost use Rattle.context_call.specs.Call.{refused, judged, judgedAs, accepted, contextsOf, noLists, DEFAULT-MAP};
 ghost use Rattle.context_call.specs.Parts.{withLists, orKept};
 
 // A refusal writes nothing; what is handed back by value is 0.

@@ -3,8 +3,8 @@ mod judge;
 mod map;
 mod record;
 
+use bits::BitPlace;
 use bits::Got;
-use bits::Place;
 use context_record::HfBlockContext;
 use context_thresholds::Kind;
 use context_thresholds::ListStep;
@@ -21,7 +21,7 @@ ghost use Rattle.refusal.specs.declared.Refusal.the-variants.{BitsEnd};
 ghost use Rattle.refusal.specs.Said.{said};
 ghost use Rattle.bits.specs.Reads.{bitsBefore};
 ghost use Rattle.context_thresholds.specs.Thresholds.{qfValue, readList, readLists};
-ghost use Rattle.context_call.specs.Call.{handed, refused, judgedLists, orEnded, parsed};
+ghost use Rattle.context_call.specs.Call.{leaves, refused, judgedLists, orEnded, parsed};
 ghost use Rattle.context_call.specs.Parts.{withLists, orKept};
 ghost use Rattle.context_call.specs.laws.CallLaws.{judgedQf};
 
@@ -45,7 +45,7 @@ pub struct ContextParts {
 }
 
 // The bits end in a list that starts at p, after so many bits of it.
-fn ended(p: Place, taken: usize) -> ContextParts
+fn ended(p: BitPlace, taken: usize) -> ContextParts
     requires { ⌜ bitsBefore p + taken ≤ 4096 ⌝ }
     ensures { λ r. ⌜ ((lf qf map : List ℕ) → withLists r lf qf map ≡ orKept (refused (said (BitsEnd (bitsBefore p + taken)))) lf qf map) ⌝ }
 {
@@ -55,7 +55,7 @@ fn ended(p: Place, taken: usize) -> ContextParts
 // The LF lists are read: the qf list, then the tests.
 fn with_qf<'a>(
     bytes: &'a [u8],
-    p: Place,
+    p: BitPlace,
     num_clusters: u32,
     map: &'a [u8],
     n0: u32,
@@ -94,7 +94,7 @@ fn with_qf<'a>(
 // First bit 0: three LF lists, then one qf list.
 fn by_lists<'a>(
     bytes: &'a [u8],
-    p: Place,
+    p: BitPlace,
     num_clusters: u32,
     map: &'a [u8],
     lf_thresholds: &mut [u32; 45],
@@ -155,7 +155,7 @@ pub fn parse_into<'a>(
     ensures { λ r. ⌜ withLists r (now («lf_thresholds» .exit)) (now («qf_thresholds» .exit)) (now («block_ctx_map» .exit))
         ≡ orKept (parsed (now (bytes .entry)) «num_clusters» (now (map .entry))) (now («lf_thresholds» .entry)) (now («qf_thresholds» .entry)) (now («block_ctx_map» .entry)) ⌝ }
 {
-    let first = bits::read_bits(bytes, Place::start(), 1);
+    let first = bits::read_bits(bytes, BitPlace::start(), 1);
     match first {
         Got::End(taken) => refuse(Refusal::BitsEnd(taken as usize)),
         Got::Value(bit, next) => {
@@ -178,7 +178,7 @@ pub fn parse_into<'a>(
 
 // The call, with everything handed back by value.
 pub fn parse<'a>(bytes: &'a [u8], num_clusters: u32, map: &'a [u8]) -> ContextResult
-    ensures { λ r. ⌜ handed r ≡ parsed (now (bytes .entry)) «num_clusters» (now (map .entry)) ⌝ }
+    ensures { λ r. ⌜ leaves r ≡ parsed (now (bytes .entry)) «num_clusters» (now (map .entry)) ⌝ }
 {
     let mut lf_thresholds = [0u32; 45];
     let mut qf_thresholds = [0u32; 15];

@@ -39,7 +39,7 @@ above (t ∷ ts) q = cond (greater q t) 1 0 + above ts q
 
 -- of hf_mul
 abbrev pub qfIndex : Contexts → ℕ → ℕ
-qfIndex C mul = above (C .qf) mul
+qfIndex C hfMul = above (C .qf) hfMul
 
 -- LF numbers q0, q1, q2 against lists t0, t1, t2: channels in the order 0, 2, 1
 unfoldable pub lfIndexIn : List ℕ → List ℕ → List ℕ → ℕ → ℕ → ℕ → ℕ
@@ -52,16 +52,16 @@ lfIndex C = lfIndexIn (C .lf0) (C .lf1) (C .lf2)
 abbrev pub lfIndexOf : Contexts → Bool → ℕ → ℕ → ℕ → ℕ
 lfIndexOf C there q0 q1 q2 = cond there (lfIndex C q0 q1 q2) 0
 
--- place in the map: n-th channel walked (from 0), order, qf index of so many, LF index of so many
+-- entry of the map: n-th channel walked (from 0), order, qf index of so many, LF index of so many
 unfoldable pub placeOf : ℕ → ℕ → ℕ → ℕ → ℕ → ℕ → ℕ
 placeOf qfs lfs n order qf lf = ((n * 13 + order) * qfs + qf) * lfs + lf
 
 abbrev pub contextIndex : Contexts → ℕ → ℕ → ℕ → ℕ → ℕ
 contextIndex C = placeOf (length (C .qf) + 1) (lfSize C)
 
-abbrev pub contextAt : Contexts → ℕ → ℕ → ℕ → ℕ → ℕ
-contextAt C n order qf lf = getD (C .map) (contextIndex C n order qf lf) 0
+-- of the n-th channel walked, in a varblock of an order with its hf_mul and LF numbers q0, q1, q2, if there are any
+abbrev pub blockIndex : Contexts → ℕ → ℕ → ℕ → Bool → ℕ → ℕ → ℕ → ℕ
+blockIndex C n order hfMul there q0 q1 q2 = contextIndex C n order (qfIndex C hfMul) (lfIndexOf C there q0 q1 q2)
 
--- of the n-th channel walked, in a varblock of an order with hf_mul mul and LF numbers q0, q1, q2, if there are any
 abbrev pub blockContext : Contexts → ℕ → ℕ → ℕ → Bool → ℕ → ℕ → ℕ → ℕ
-blockContext C n order mul there q0 q1 q2 = contextAt C n order (qfIndex C mul) (lfIndexOf C there q0 q1 q2)
+blockContext C n order hfMul there q0 q1 q2 = getD (C .map) (blockIndex C n order hfMul there q0 q1 q2) 0

@@ -1,4 +1,4 @@
--- When a context record as it is lent is fit (document 01, Block contexts).
+-- A context record as it is lent, and when it is fit (document 01, Block contexts).
 use mathlib.Core.Bool.{Bool, _&&_}
 use mathlib.Core.List.{List}
 use Prim.Native.Nat.{ℕ, _+_, _*_}
@@ -7,6 +7,16 @@ use lib.ListN.{getD, take}
 use Rattle.laws.specs.Tables.{every}
 use Rattle.bytes_below.specs.Below.{bytesBelow}
 use Rattle.context_record.specs.declared.HfBlockContext.{HfBlockContext}
+
+abbrev pub recordOf : (clusters : ℕ) (lengths lf qf map : List ℕ) → HfBlockContext
+recordOf clusters lengths lf qf map =
+    record {
+      «num_block_clusters» = clusters;
+      lengths = lengths;
+      «lf_thresholds» = lf;
+      «qf_thresholds» = qf;
+      «block_ctx_map» = map;
+    }
 
 -- bsize: the product of the four (length + 1)
 unfoldable pub bsizeOf : List ℕ → ℕ

@@ -1,6 +1,6 @@
 // Lists of thresholds, read from bits.
+use bits::BitPlace;
 use bits::Got;
-use bits::Place;
 use bits::U32Specifier;
 ghost use mathlib.Core.Path.{_≡_};
 ghost use Prim.Native.Nat.{_+_, _≤_, _<_};
@@ -15,7 +15,7 @@ pub enum Kind {
 
 // A list's length and the place behind the list, or the bits of the list that were read where they end.
 pub enum ListStep {
-    Listed(u32, Place),
+    Listed(u32, BitPlace),
     End(usize),
 }
 
@@ -26,7 +26,7 @@ pub struct Thresholds {
 }
 
 // A signed number, as its bit pattern.
-fn lf_value(bytes: &[u8], p: Place) -> Got
+fn lf_value(bytes: &[u8], p: BitPlace) -> Got
     ensures { λ r. ⌜ r ≡ gotOf (bitsBefore p) (lfValue (now (bytes .entry)) (bitsBefore p)) ⌝ }
 {
     let d0 = U32Specifier { offset: 0, bits: 4 };
@@ -49,7 +49,7 @@ fn lf_value(bytes: &[u8], p: Place) -> Got
     }
 }
 
-fn qf_value(bytes: &[u8], p: Place) -> Got
+fn qf_value(bytes: &[u8], p: BitPlace) -> Got
     ensures { λ r. ⌜ r ≡ gotOf (bitsBefore p) (qfValue (now (bytes .entry)) (bitsBefore p)) ⌝ }
 {
     let d0 = U32Specifier { offset: 0, bits: 2 };
@@ -69,7 +69,7 @@ fn qf_value(bytes: &[u8], p: Place) -> Got
     }
 }
 
-fn read_value(bytes: &[u8], p: Place, kind: Kind) -> Got
+fn read_value(bytes: &[u8], p: BitPlace, kind: Kind) -> Got
     ensures { λ r. ⌜ r ≡ gotOf (bitsBefore p) (readValue kind (now (bytes .entry)) (bitsBefore p)) ⌝ }
 {
     match kind {
@@ -79,7 +79,7 @@ fn read_value(bytes: &[u8], p: Place, kind: Kind) -> Got
 }
 
 // n values one after the other, of a list that starts at start.
-fn read_values(bytes: &[u8], start: Place, from: Place, kind: Kind, n: u32) -> Thresholds
+fn read_values(bytes: &[u8], start: BitPlace, from: BitPlace, kind: Kind, n: u32) -> Thresholds
     requires { ⌜ (n ≤ 15) × (from .bit < 8) × (bitsBefore from ≡ bitsBefore start + 4) ⌝ }
     ensures { λ r. ⌜ r ≡ thresholdsOf (bitsBefore start) (readValues (readValue kind (now (bytes .entry))) n (bitsBefore from)) ⌝ }
 {
@@ -111,7 +111,7 @@ fn read_values(bytes: &[u8], start: Place, from: Place, kind: Kind, n: u32) -> T
 }
 
 // Four bits give the length.
-pub fn read_list(bytes: &[u8], p: Place, kind: Kind) -> Thresholds
+pub fn read_list(bytes: &[u8], p: BitPlace, kind: Kind) -> Thresholds
     ensures { λ r. ⌜ r ≡ thresholdsOf (bitsBefore p) (readList (now (bytes .entry)) (readValue kind (now (bytes .entry))) (bitsBefore p)) ⌝ }
 {
     let length = bits::read_bits(bytes, p, 4);

@@ -2,3 +2,4 @@
 pub mod Rules
 pub mod Sides
 pub mod LookUp
+pub mod Exponents

@@ -4,7 +4,7 @@ use mathlib.Core.List.{List}
 use Prim.Native.Nat.{ℕ, _+_, _*_}
 use lib.ListN.{getD}
 use lib.Ieee.{Float}
-use Rattle.layout.specs.Grid.{at}
+use Rattle.layout.specs.Grid.{blockAt}
 use Rattle.layout.specs.Varblocks.{Varblock, varblocksOf}
 use Rattle.layout_sizes.specs.Blocks.{bwIn, bhIn}
 use Rattle.layout_filter.specs.Strength.{sigmaOf}
@@ -35,4 +35,4 @@ module _ (i : Inputs) (kinds hfMul sigma : List ℕ) where
   -- sigma of the block (x, y), which is in the varblock of the corner (cx, cy): multiplier × 65536, / scale, / hf_mul, × look-up[sharpness];
   -- +0.0 with the filter off
   abbrev pub strengthAt : ℕ → ℕ → ℕ → ℕ → Float
-  strengthAt cx cy x y = sigmaOf (i .filter) (i .scale) (at (layoutOf i kinds hfMul sigma .hfMul) (bwOf i) cx cy) (i .lookups) (at (i .sharpness) (bwOf i) x y)
+  strengthAt cx cy x y = sigmaOf (i .filter) (i .scale) (blockAt (layoutOf i kinds hfMul sigma .hfMul) (bwOf i) cx cy) (i .lookups) (blockAt (i .sharpness) (bwOf i) x y)

@@ -7,7 +7,7 @@ use Prim.Native.Nat.{ℕ, _*_, _≤_, _<_}
 use lib.ListN.{length, replicate}
 use Rattle.refusal.specs.declared.Said.{Said}
 use Rattle.refusal.specs.Said as refusals
-use Rattle.layout.specs.Grid.{at}
+use Rattle.layout.specs.Grid.{blockAt}
 use Rattle.layout.specs.Valid.{Cells, Covers, Fits, Owned}
 use Rattle.layout.specs.Walk.{Before}
 use Rattle.layout_sizes.specs.Blocks.{sizeFits}
@@ -27,9 +27,9 @@ module _ (J : Job) where
   pub record Sofar (x y : ℕ) (p : Placed) : Type 0 where
     pub lengthK : length (p .kinds) ≡ J .bh * J .bw
     pub lengthM : length (p .hfMul) ≡ J .bh * J .bw
-    pub part : Part (J .bw) (J .bh) (at (p .kinds) (J .bw)) (at (p .hfMul) (J .bw))
-    pub done : (a b : ℕ) → a < J .bw → b < J .bh → Before a b x y → 0 < at (p .kinds) (J .bw) a b
-    pub behind : (a b : ℕ) → a < J .bw → b < J .bh → 2 ≤ at (p .kinds) (J .bw) a b → Before a b x y
+    pub part : Part (J .bw) (J .bh) (blockAt (p .kinds) (J .bw)) (blockAt (p .hfMul) (J .bw))
+    pub done : (a b : ℕ) → a < J .bw → b < J .bh → Before a b x y → 0 < blockAt (p .kinds) (J .bw) a b
+    pub behind : (a b : ℕ) → a < J .bw → b < J .bh → 2 ≤ blockAt (p .kinds) (J .bw) a b → Before a b x y
 
 -- 4 to 10, at a block of the grid
 pub record AtBlock (bw bh : ℕ) (r : Said) : Type 0 where
@@ -43,13 +43,13 @@ module _ (J : Job) where
   pub record AtFree (r : Said) : Type 0 where
     pub before : Placed
     pub sofar : Sofar J (r .x) (r .y) before
-    pub free : at (before .kinds) (J .bw) (r .x) (r .y) ≡ 0
+    pub free : blockAt (before .kinds) (J .bw) (r .x) (r .y) ≡ 0
     pub stops : column J (r .x) (r .y) before ≡ Stopped (before .used) r
 
 module _ (i : Inputs) (kinds hfMul sigma : List ℕ) where
   -- before work: position 0, 0, and nothing is written
   pub record BeforeWork (n : ℕ) (r : Said) : Type 0 where
-    pub saidIs : r ≡ refusals.at n 0 0
+    pub saidIs : r ≡ refusals.saidAt n 0 0
     pub kindsKept : layoutOf i kinds hfMul sigma .kinds ≡ kinds
     pub hfMulKept : layoutOf i kinds hfMul sigma .hfMul ≡ hfMul
     pub sigmaKept : layoutOf i kinds hfMul sigma .sigma ≡ sigma

@@ -1,7 +1,7 @@
 -- The column count (document 01, Layout and filter strength; Refused).
 use mathlib.Core.List.{List}
 use Prim.Native.Nat.{ℕ, _+_, _*_}
-use Rattle.refusal.specs.Said.{said, at}
+use Rattle.refusal.specs.Said.{said, saidAt}
 use Rattle.refusal.specs.Answer.{Answer, gives, refuses, unless}
 use Rattle.bits.specs.Bits.{Read, Value, Ended, readBits}
 use Rattle.coded_numbers.specs.Exponent.{exponent}
@@ -25,7 +25,7 @@ counted (Refused r) = refuses (said r)
 -- 1 plus the number that was read
 abbrev pub plusOne : Read ℕ → Answer Counted
 plusOne (Value v bits) = gives (counts (1 + v) bits)
-plusOne (Ended bits) = refuses (at 3 bits 0)
+plusOne (Ended bits) = refuses (saidAt 3 bits 0)
 
 -- as many bits as the exponent of the least power of two not below bw x bh
 abbrev pub fieldBits : ℕ → ℕ → List ℕ → ℕ

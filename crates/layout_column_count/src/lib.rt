@@ -1,6 +1,6 @@
 // How many columns an LF group's layout has (`HfMetadata::parse`, `nb_blocks`).
+use bits::BitPlace;
 use bits::Got;
-use bits::Place;
 use refusal::Refusal;
 ghost use mathlib.Core.Path.{_≡_};
 ghost use Rattle.layout_column_count.specs.Count.{counted, countOf};
@@ -24,7 +24,7 @@ pub fn column_count(width: u32, height: u32, modes: [u32; 3], bytes: &[u8]) -> C
     }
     let blocks = layout_sizes::blocks_of(width, height, modes);
     let n = coded_numbers::exponent((blocks.bh * blocks.bw) as u32);
-    let got = bits::read_bits(bytes, Place::start(), n);
+    let got = bits::read_bits(bytes, BitPlace::start(), n);
     match got {
         Got::Value(v, _) => ColumnCount::Count(1 + v, n as usize),
         Got::End(_) => ColumnCount::Refused(Refusal::BitsEnd(0)),

@@ -9,8 +9,8 @@ use Rattle.refusal.specs.declared.Said.{Said}
 use Rattle.refusal.specs.Said as refusals
 use Rattle.refusal.specs.Answer.{Answer, unless, answeredBy}
 use Rattle.dct_select.specs.Transforms.{wide, high}
-use Rattle.layout.specs.Walk.{walk}
-use Rattle.layout.specs.Grid.{at}
+use Rattle.layout.specs.Walk.{rowByRow}
+use Rattle.layout.specs.Grid.{blockAt}
 use Rattle.layout_filter.specs.declared.Filter.{Filter}
 use Rattle.layout_filter.specs.declared.ScaledFilter.{ScaledFilter}
 use Rattle.layout_filter.specs.Strength.{scaledBy, dividedBy}
@@ -42,7 +42,7 @@ pub data Placing : Type 0 where
 
 -- refused with n at the free block (x, y)
 abbrev pub stopAt : ℕ → ℕ → ℕ → Placed → Placing
-stopAt n x y p = Stopped (p .used) (refusals.at n x y)
+stopAt n x y p = Stopped (p .used) (refusals.saidAt n x y)
 
 -- after the scan of the rectangle: the corner gets its kind and hf_mul
 abbrev pub placed : ℕ → ℕ → ℕ → ℕ → ℕ → Placed → Scan → Placing
@@ -83,7 +83,7 @@ module _ (J : Job) where
 
   abbrev pub visit : ℕ → ℕ → Placing → Placing
   visit x y (Stopped n s) = Stopped n s
-  visit x y (Going p) = cond (eqb (at (p .kinds) (J .bw) x y) 0) (column x y p) (Going p)
+  visit x y (Going p) = cond (eqb (blockAt (p .kinds) (J .bw) x y) 0) (column x y p) (Going p)
 
   -- all free, hf_mul 0, sigma +0.0
   abbrev pub zeros : List ℕ
@@ -93,7 +93,7 @@ module _ (J : Job) where
   start = record { used = 0; kinds = zeros; hfMul = zeros; sigma = zeros }
 
   unfoldable pub reading : Placing
-  reading = walk visit (J .bw) (J .bh) (Going start)
+  reading = rowByRow visit (J .bw) (J .bh) (Going start)
 
 abbrev pub jobWith : ℕ → ℕ → List ℕ → List ℕ → List ℕ → ScaledFilter → List Float → Job
 jobWith bw bh types muls sharpness filter lookups =

@@ -10,7 +10,7 @@ ghost use mathlib.Core.Path.{_≡_};
 ghost use Prim.Native.Nat.{_*_, _≤_};
 ghost use lib.ListN.{length};
 ghost use Rattle.layout_filter.specs.laws.Finite.{ScaledBounded};
-ghost use Rattle.layout.specs.Walk.{walk};
+ghost use Rattle.layout.specs.Walk.{rowByRow};
 ghost use Rattle.layout_reading.specs.Reading.{Going, visit as visitOf, reading as readingOf, jobWith, jobBy};
 ghost use Rattle.layout_reading.specs.laws.Outcome.{stateOf, stepped, toldBy, handed, readOf};
 
@@ -28,7 +28,7 @@ fn read_blocks(
     bh: usize,
 ) -> Step
     requires { ⌜ (length (now kinds) ≡ bh * bw) × (length (now «hf_mul») ≡ bh * bw) × (length (now sigma) ≡ bh * bw) × (length (now sharpness) ≡ bh * bw) × (length (now muls) ≡ length (now types)) × (bw ≤ 256) × (bh ≤ 256) × ScaledBounded filter (now lookups) ⌝ }
-    ensures { λ r. ⌜ stepped r (now (kinds .exit)) (now («hf_mul» .exit)) (now (sigma .exit)) ≡ walk (visitOf (jobWith bw bh (now (types .entry)) (now (muls .entry)) (now (sharpness .entry)) filter (now (lookups .entry)))) bw bh (Going (stateOf 0 (now (kinds .entry)) (now («hf_mul» .entry)) (now (sigma .entry)))) ⌝ }
+    ensures { λ r. ⌜ stepped r (now (kinds .exit)) (now («hf_mul» .exit)) (now (sigma .exit)) ≡ rowByRow (visitOf (jobWith bw bh (now (types .entry)) (now (muls .entry)) (now (sharpness .entry)) filter (now (lookups .entry)))) bw bh (Going (stateOf 0 (now (kinds .entry)) (now («hf_mul» .entry)) (now (sigma .entry)))) ⌝ }
 {
     let mut used = 0;
     let mut y = 0;

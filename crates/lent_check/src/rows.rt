@@ -8,7 +8,7 @@ ghost use lib.Dec.{ltb};
 ghost use lib.ListN.{length, getD};
 ghost use Rattle.layout.specs.Kinds.{wideOf, highOf};
 ghost use Rattle.layout.specs.Walk.{cells};
-ghost use Rattle.layout.specs.Grid.{at, fillFrom};
+ghost use Rattle.layout.specs.Grid.{blockAt, fillFrom};
 ghost use Rattle.layout.specs.Check.{Fault, Until, clear, fitting};
 ghost use Rattle.lent_sides.specs.laws.Sizes.{widths, heights};
 ghost use Rattle.lent_check.specs.laws.Flaws.{flagOf};
@@ -154,7 +154,7 @@ fn place_cell(
 // Which columns of row y are looked at: 1 for each of them, many at a time.
 fn flag_row(flags: &mut [u8; 256], bw: usize, kinds: &[u8], y: usize)
     requires { ⌜ (bw ≤ 256) × (y < 256) × ((y + 1) * bw ≤ length (now kinds)) × (length (now flags) ≡ 256) ⌝ }
-    ensures { λ r. ⌜ Flagged (at (now (kinds .entry)) bw) y bw (now (flags .exit)) ⌝ }
+    ensures { λ r. ⌜ Flagged (blockAt (now (kinds .entry)) bw) y bw (now (flags .exit)) ⌝ }
 {
     let start = y * bw;
     let mut x = 0;
@@ -191,7 +191,7 @@ pub(crate) fn place_row(
     y: usize,
 ) -> bool
     requires { ⌜ (now wides ≡ widths) × (now highs ≡ heights) × (bw ≤ 256) × (y < bh) × (bh ≤ 256) × (length (now kinds) ≡ bh * bw) ⌝ }
-    ensures { λ r. ⌜ cond r (Until (now (depth .exit))) Fault ≡ cells (place bw bh (at (now (kinds .entry)) bw)) bw 0 y (Until (now (depth .entry))) ⌝ }
+    ensures { λ r. ⌜ cond r (Until (now (depth .exit))) Fault ≡ cells (place bw bh (blockAt (now (kinds .entry)) bw)) bw 0 y (Until (now (depth .entry))) ⌝ }
 {
     let start = y * bw;
     let mut list = [0u8; 256];
@@ -244,7 +244,7 @@ fn one_less(v: u8) -> u8
 // columns are taken at a time.
 pub(crate) fn close_row(depth: &mut [u8; 259], bw: usize, kinds: &[u8], y: usize) -> bool
     requires { ⌜ (bw ≤ 256) × (y < 256) × ((y + 1) * bw ≤ length (now kinds)) ⌝ }
-    ensures { λ r. ⌜ cond r (Until (now (depth .exit))) Fault ≡ cells (close (at (now (kinds .entry)) bw)) bw 0 y (Until (now (depth .entry))) ⌝ }
+    ensures { λ r. ⌜ cond r (Until (now (depth .exit))) Fault ≡ cells (close (blockAt (now (kinds .entry)) bw)) bw 0 y (Until (now (depth .entry))) ⌝ }
 {
     let start = y * bw;
     let mut gaps = 0;

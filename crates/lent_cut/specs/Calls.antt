@@ -6,13 +6,11 @@ use Rattle.refusal.specs.Said.{said}
 use Rattle.layout.specs.Check.{isLayout}
 use Rattle.layout.specs.Cut.{hasGroup, groupBw, groupBh, cut}
 use Rattle.lent_check.specs.declared.Group.{Group}
+use Rattle.lent_check.specs.Group.{groupOf}
 use Rattle.refusal.specs.declared.Said.{Said}
 use Rattle.refusal.specs.Answer.{Answer, gives, refuses, unless, passed, answeredBy}
 use Rattle.lent_sides.specs.Limits.{inLimits, lengthsFit}
 use Rattle.lent_cut.specs.declared.cut.CutAnswer.{CutAnswer}
-
-abbrev pub group : ℕ → ℕ → Group
-group w h = record { bw = w; bh = h }
 
 abbrev pub saidCut : CutAnswer → Answer Group
 saidCut (CutAnswer.Accepted g) = gives g
@@ -43,4 +41,4 @@ cutBy checks done kinds hfMul = answeredBy checks (λ (s : Said). outcome (refus
 unfoldable pub cutOf : ℕ → ℕ → List ℕ → List ℕ → ℕ → List ℕ → List ℕ → Outcome
 cutOf bw bh kinds hfMul g outKinds outHfMul =
     cutBy (cutCheck bw bh kinds hfMul g (length outKinds) (length outHfMul))
-    (outcome (gives (group (groupBw bw g) (groupBh bw bh g))) (cut bw bh g kinds) (cut bw bh g hfMul)) outKinds outHfMul
+    (outcome (gives (groupOf (groupBw bw g) (groupBh bw bh g))) (cut bw bh g kinds) (cut bw bh g hfMul)) outKinds outHfMul

@@ -9,11 +9,12 @@ ghost use mathlib.Core.Path.{_≡_};
 ghost use mathlib.Core.Bool.{true};
 ghost use Prim.Native.Nat.{_+_, _*_, _≤_, _<_};
 ghost use lib.ListN.{length};
-ghost use Rattle.layout.specs.Grid.{at, gridOf};
+ghost use Rattle.layout.specs.Grid.{blockAt, gridOf};
 ghost use Rattle.layout.specs.Cut.{groups, groupX, groupY, hasGroup, side, groupBw, groupBh};
 ghost use Rattle.refusal.specs.laws.Answer.{checked};
 ghost use Rattle.lent_sides.specs.Limits.{inLimits};
-ghost use Rattle.lent_cut.specs.Calls.{saidCut, group, outcome, cutCheck, cutOf};
+ghost use Rattle.lent_check.specs.Group.{groupOf};
+ghost use Rattle.lent_cut.specs.Calls.{saidCut, outcome, cutCheck, cutOf};
 
 // What the cut answers: the sides of the group.
 pub enum CutAnswer {
@@ -72,7 +73,7 @@ fn blocks_along(n: usize, q: usize) -> usize
 // The sides of a group that the layout has.
 fn sides_of(bw: usize, bh: usize, index: usize) -> Group
     requires { ⌜ (inLimits 256 bw bh ≡ true) × (hasGroup bw bh index ≡ true) ⌝ }
-    ensures { λ r. ⌜ r ≡ group (groupBw bw index) (groupBh bw bh index) ⌝ }
+    ensures { λ r. ⌜ r ≡ groupOf (groupBw bw index) (groupBh bw bh index) ⌝ }
 {
     let gx = group_x(bw, index);
     let gy = group_y(bw, index);
@@ -125,7 +126,7 @@ fn copy_cells(
     out_hf_mul: &mut [u32],
 )
     requires { ⌜ (left + wide ≤ bw) × (top + high ≤ 256) × ((top + high) * bw ≤ length (now kinds)) × (length (now «hf_mul») ≡ length (now kinds)) × (length (now «out_kinds») ≡ high * wide) × (length (now «out_hf_mul») ≡ high * wide) ⌝ }
-    ensures { λ r. ⌜ (now («out_kinds» .exit) ≡ gridOf (λ x y. at (now (kinds .entry)) bw (left + x) (top + y)) wide high) × (now («out_hf_mul» .exit) ≡ gridOf (λ x y. at (now («hf_mul» .entry)) bw (left + x) (top + y)) wide high) ⌝ }
+    ensures { λ r. ⌜ (now («out_kinds» .exit) ≡ gridOf (λ x y. blockAt (now (kinds .entry)) bw (left + x) (top + y)) wide high) × (now («out_hf_mul» .exit) ≡ gridOf (λ x y. blockAt (now («hf_mul» .entry)) bw (left + x) (top + y)) wide high) ⌝ }
 {
     let mut y = 0;
     while y < high {

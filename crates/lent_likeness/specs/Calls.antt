@@ -3,7 +3,7 @@ use mathlib.Core.Bool.{Bool, true, false, _&&_}
 use lib.ListN.{length}
 use Rattle.refusal.specs.Said.{said}
 use Rattle.layout.specs.Check.{isLayout}
-use Rattle.layout.specs.Like.{Lent, alike}
+use Rattle.layout.specs.Like.{LentLayout, alike}
 use Rattle.refusal.specs.Answer.{Answer, gives, refuses, unless}
 use Rattle.lent_sides.specs.Limits.{inLimits, lengthsFit}
 use Rattle.lent_likeness.specs.declared.LikeAnswer.{LikeAnswer}
@@ -13,17 +13,17 @@ saidLike LikeAnswer.Alike = gives true
 saidLike LikeAnswer.Unlike = gives false
 saidLike (LikeAnswer.Refused r) = refuses (said r)
 
-abbrev pub sided : Lent → Bool
+abbrev pub sided : LentLayout → Bool
 sided L = inLimits 256 (L .bw) (L .bh)
 
-abbrev pub filled : Lent → Bool
+abbrev pub filled : LentLayout → Bool
 filled L = lengthsFit (L .bw) (L .bh) (length (L .kinds)) (length (L .hfMul))
 
-abbrev pub holdsLayout : Lent → Bool
+abbrev pub holdsLayout : LentLayout → Bool
 holdsLayout L = isLayout (L .bw) (L .bh) (L .kinds) (L .hfMul)
 
 -- each number is tried over both layouts before the next; yes exactly for the same rectangles and hf_mul (Theorems: like-yes, like-no)
-unfoldable pub likeOf : Lent → Lent → Answer Bool
+unfoldable pub likeOf : LentLayout → LentLayout → Answer Bool
 likeOf L N =
     unless 2 (sided L && sided N)
     (unless 1 (filled L && filled N)

@@ -8,7 +8,7 @@ use lent_sides::sizes::size_of;
 use refusal::Refusal;
 ghost use mathlib.Core.Path.{_≡_};
 ghost use lib.ListN.{length};
-ghost use Rattle.layout.specs.Like.{lent, alikeCell, alikeFrom};
+ghost use Rattle.layout.specs.Like.{lentLayout, alikeCell, alikeFrom};
 ghost use Rattle.lent_sides.specs.laws.Sizes.{widths, heights};
 ghost use Rattle.lent_likeness.specs.Calls.{saidLike, likeOf};
 
@@ -75,7 +75,7 @@ pub fn alike(
     kinds2: &[u8],
     hf_mul2: &[u32],
 ) -> LikeAnswer
-    ensures { λ r. ⌜ saidLike r ≡ likeOf (lent bw bh (now (kinds .entry)) (now («hf_mul» .entry))) (lent bw2 bh2 (now (kinds2 .entry)) (now («hf_mul2» .entry))) ⌝ }
+    ensures { λ r. ⌜ saidLike r ≡ likeOf (lentLayout bw bh (now (kinds .entry)) (now («hf_mul» .entry))) (lentLayout bw2 bh2 (now (kinds2 .entry)) (now («hf_mul2» .entry))) ⌝ }
 {
     if !in_limits(256, bw, bh) {
         return LikeAnswer::Refused(Refusal::Size);

@@ -1,6 +1,6 @@
 // Blocks across and down of the varblock of each kind.
+use dct_select::Sides;
 use dct_select::TransformType;
-use order_sizes::Sides;
 ghost use mathlib.Core.Path.{_≡_};
 ghost use Rattle.lent_sides.specs.laws.Sizes.{sizeBy};
 

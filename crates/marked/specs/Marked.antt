@@ -7,7 +7,7 @@ use lib.IntN.{pos, negsuc}
 use lib.ListN.{length, getD, take, drop, replicate}
 use lib.Ieee.{Float, fin, mul}
 use Rattle.refusal.specs.declared.Refusal.the-variants.{Preset}
-use Rattle.refusal.specs.Said.{at, said}
+use Rattle.refusal.specs.Said.{saidAt, said}
 use Rattle.bits.specs.Bits.{Value}
 use Rattle.order_natural.specs.Natural.{natural}
 use Rattle.layout.specs.Varblocks.{varblock, varblocksOf, area}
@@ -48,11 +48,11 @@ M4 = (off 2 2 (6 ∷ 0 ∷ 0 ∷ []) (4 ∷ 0 ∷ 2 ∷ []) ≡ record { answer 
 
 -- M5 mul 0 gives 1, −1 refused
 abbrev pub M5 : Type 0
-M5 = (off 1 1 (0 ∷ []) (0 ∷ []) .hfMul ≡ 1 ∷ []) × (off 1 1 (0 ∷ []) (4294967295 ∷ []) .answer ≡ answer.refuses (at 6 0 0))
+M5 = (off 1 1 (0 ∷ []) (0 ∷ []) .hfMul ≡ 1 ∷ []) × (off 1 1 (0 ∷ []) (4294967295 ∷ []) .answer ≡ answer.refuses (saidAt 6 0 0))
 
 -- M6 x = 30, type 7 passes, 31 refused
 abbrev pub M6 : Type 0
-M6 = (off 32 1 (replicate 16 7) (replicate 16 0) .answer ≡ answer.gives 16) × (off 33 1 (0 ∷ replicate 16 7) (replicate 17 0) .answer ≡ answer.refuses (at 7 31 0))
+M6 = (off 32 1 (replicate 16 7) (replicate 16 0) .answer ≡ answer.gives 16) × (off 33 1 (0 ∷ replicate 16 7) (replicate 17 0) .answer ≡ answer.refuses (saidAt 7 31 0))
 
 -- the layout call over one block of type 0, filter on: multiplier, look-up number, scale, mul
 abbrev pub on : Float → Float → ℕ → ℕ → Outcome
@@ -84,7 +84,7 @@ M8 = (nearest 16777217 ≡ fin false 1 (pos 24))
 abbrev pub M9 : Type 0
 M9 = (map log g0 g1 g2 : List ℕ) → Room 1 4 map log g0 g1 g2
     → (call (dct16 map (252 ∷ (replicate 252 2 ++ (0 ∷ 0 ∷ []))) log g0 g1 g2) .answer ≡ gives 255)
-    × ((us : List ℕ) → call (dct16 map (253 ∷ us) log g0 g1 g2) .answer ≡ refuses (at 16 1 0))
+    × ((us : List ℕ) → call (dct16 map (253 ∷ us) log g0 g1 g2) .answer ≡ refuses (saidAt 16 1 0))
 
 -- M10 three presets: two bits, 3 refused (14, two bits read, nothing written), 0 to 2 read with
 abbrev pub M10 : Type 0

@@ -39,8 +39,8 @@ contexts = context.contextsOf 2 (listsOf (0 ∷ []) (4294967294 ∷ []) (2 ∷ [
 abbrev pub kinds : List ℕ
 kinds = 8 ∷ 2 ∷ 1 ∷ 2 ∷ []
 
-abbrev pub muls : List ℕ
-muls = 5 ∷ 1 ∷ 0 ∷ 3 ∷ []
+abbrev pub hfMul : List ℕ
+hfMul = 5 ∷ 1 ∷ 0 ∷ 3 ∷ []
 
 -- The group.
 abbrev pub pass : Pass
@@ -48,7 +48,7 @@ pass = record {
   bw = 2;
   bh = 2;
   kinds = kinds;
-  hfMul = muls;
+  hfMul = hfMul;
   contexts = contexts;
   lfThere = true;
   lf0 = 1 ∷ 4294967295 ∷ 0 ∷ 5 ∷ [];

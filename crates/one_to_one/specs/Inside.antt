@@ -1,25 +1,23 @@
 -- What a reading reads and writes by index lies inside its lists (document 01, Coefficients). The definitions of the reading take 0 for a
 -- number outside a list and drop one that is put outside; the Rust would end there. Said here along those definitions, clause by clause:
--- `walk`, `counted`, `item`, `read`, `group`. NeverOutside has the theorem.
+-- `walk`, `counted`, `readItem`, `readItems`, `readGroup`. NeverOutside has the theorem.
 use mathlib.Core.Path.{_≡_}
 use mathlib.Core.Bool.{true, cond}
 use mathlib.Core.List.{List, [], _∷_}
 use Prim.Native.Nat.{ℕ, zero, suc, _+_, _*_, _/_, _<_, _≤_}
 use lib.Dec.{leb}
 use lib.ListN.{length, getD, set}
-use Rattle.dct_select.specs.Transforms.{COUNT, orderOf}
-use Rattle.layout.specs.Grid.{at}
+use Rattle.dct_select.specs.Transforms.{COUNT}
 use Rattle.layout.specs.Varblocks.{Varblock}
-use Rattle.context_index.specs.Lists.{used}
-use Rattle.context_index.specs.Contexts.{qfIndex, lfIndexOf, contextIndex}
+use Rattle.context_record.specs.Record.{bsizeOf}
 use Rattle.coeff_walk.specs.Walk.{FREQ, NUM-NONZERO, coeffContext, flag, less, gain}
-use Rattle.coeff_walk.specs.Item.{Item, predicted, countIndex, countCluster, coeffPart}
-use Rattle.coeff_group.specs.Group.{Reading, going, refused, item, varblock, zeroRows}
-use Rattle.coeff_group.specs.Pass.{Pass, varblocks, blocksOf, placesAt, channels}
+use Rattle.coeff_walk.specs.Item.{Item, countEntry, countCluster, coeffMapOf}
+use Rattle.coeff_group.specs.Group.{Reading, going, refused, readItem, readVarblock, zeroRows}
+use Rattle.coeff_group.specs.Pass.{Pass, varblocks, blocksOf, contextEntry, cellsIn, channels}
 use Rattle.coeff_group.specs.Work.{clustersOf}
 use Rattle.coeff_call.specs.Call.{Lent, presetMap}
 
-module _ (shift blocks : ℕ) (part : List ℕ) where
+module _ (shift blocks : ℕ) (coeffMap : List ℕ) where
   -- the entries of the two tables of 63 for place i, with n + 1 still due
   abbrev pub TablesInside : ℕ → ℕ → Type 0
   TablesInside n i = (n / blocks < length NUM-NONZERO) × (i / blocks < length FREQ)
@@ -32,21 +30,10 @@ module _ (shift blocks : ℕ) (part : List ℕ) where
   WalkInside (p ∷ ps) i prev (suc n) (u ∷ us) at log g =
       TablesInside n i
       × (coeffContext blocks n i prev < 458
-      → (coeffContext blocks n i prev < length part)
+      → (coeffContext blocks n i prev < length coeffMap)
       × (at < length log)
       × (p < length g)
-      × WalkInside ps (i + 1) (flag u) (less u n) us (at + 1) (set log at (getD part (coeffContext blocks n i prev) 0)) (gain shift g p u))
-
--- the entry of an item's count, as `countCluster` has it
-abbrev pub countEntry : ℕ → Item → List ℕ → ℕ
-countEntry clusters it row = it .context + countIndex (predicted row (it .x) (it .y)) * clusters
-
--- the place in the context map of the n-th channel walked, as `contextOf` has it
-abbrev pub contextPlace : Pass → Varblock → ℕ → ℕ
-contextPlace P v n =
-    let C = used (P .contexts) in
-    contextIndex C n (orderOf (v .type)) (qfIndex C (v .hfMul))
-    (lfIndexOf C (P .lfThere) (at (P .lf0) (P .bw) (v .x) (v .y)) (at (P .lf1) (P .bw) (v .x) (v .y)) (at (P .lf2) (P .bw) (v .x) (v .y)))
+      × WalkInside ps (i + 1) (flag u) (less u n) us (at + 1) (set log at (getD coeffMap (coeffContext blocks n i prev) 0)) (gain shift g p u))
 
 -- what the channels of a varblock are made from
 pub record CornerInside (P : Pass) (v : Varblock) : Type 0 where
@@ -56,25 +43,25 @@ pub record CornerInside (P : Pass) (v : Varblock) : Type 0 where
   pub lf0 : P .lfThere ≡ true → v .y * P .bw + v .x < length (P .lf0)
   pub lf1 : P .lfThere ≡ true → v .y * P .bw + v .x < length (P .lf1)
   pub lf2 : P .lfThere ≡ true → v .y * P .bw + v .x < length (P .lf2)
-  -- each block context's place, among the map's 2,496
-  pub context : (n : ℕ) → n < 3 → contextPlace P v n < 2496
+  -- each block context's entry, among the 39 × bsize of the map that are in use
+  pub context : (n : ℕ) → n < 3 → contextEntry P v n < 39 * bsizeOf (P .contexts .lengths)
   -- each channel's order is stored whole: 63 places for each block behind the low-frequency cells
-  pub orders : (c : ℕ) → c < 3 → length (placesAt P v c) ≡ 63 * blocksOf v
+  pub orders : (c : ℕ) → c < 3 → length (cellsIn P v c) ≡ 63 * blocksOf v
 
-module _ (shift clusters : ℕ) (stretch : List ℕ) where
-  -- along `counted`: the count's entry lies among the first 37 × clusters, the 458 of the coefficients lie whole in the stretch
+module _ (shift clusters : ℕ) (presetMap : List ℕ) where
+  -- along `counted`: the count's entry lies among the first 37 × clusters, the 458 of the coefficients lie whole in the preset map
   abbrev pub CountInside : Item → List ℕ → List ℕ → ℕ → List ℕ → List ℕ → Type 0
   CountInside it row [] at log g = Unit
   CountInside it row (n ∷ us) at log g =
       (countEntry clusters it row < 37 * clusters)
-      × (countEntry clusters it row < length stretch)
-      × (it .context * 458 + 37 * clusters + 458 ≤ length stretch)
+      × (countEntry clusters it row < length presetMap)
+      × (it .blockContext * 458 + 37 * clusters + 458 ≤ length presetMap)
       × (at < length log)
       × (n ≤ 63 * it .blocks
-      → WalkInside shift (it .blocks) (coeffPart clusters stretch it) (it .places) 0 (cond (leb n (4 * it .blocks)) 1 0) n us (at + 1)
-      (set log at (countCluster clusters stretch it row)) g)
+      → WalkInside shift (it .blocks) (coeffMapOf clusters presetMap it) (it .cells) 0 (cond (leb n (4 * it .blocks)) 1 0) n us (at + 1)
+      (set log at (countCluster clusters presetMap it row)) g)
 
-  -- along `item`: the channel's grid and row are there, and the row has the blocks that are looked at and rewritten
+  -- along `readItem`: the channel's grid and row are there, and the row has the blocks that are looked at and rewritten
   abbrev pub ItemInside : Item → Reading → Type 0
   ItemInside it (refused why at log grids) = Unit
   ItemInside it (going us at log grids rows left) =
@@ -84,17 +71,17 @@ module _ (shift clusters : ℕ) (stretch : List ℕ) where
       × (it .x + it .wide ≤ length (getD rows (it .channel) []))
       × CountInside it (getD rows (it .channel) []) us at log (getD grids (it .channel) [])
 
-  -- along `read`
+  -- along `readItems`
   abbrev pub ReadInside : List Item → Reading → Type 0
   ReadInside [] r = Unit
-  ReadInside (it ∷ its) r = ItemInside it r × ReadInside its (item shift clusters stretch it r)
+  ReadInside (it ∷ its) r = ItemInside it r × ReadInside its (readItem shift clusters presetMap it r)
 
-  -- along `group`
+  -- along `readGroup`
   abbrev pub GroupInside : Pass → List Varblock → Reading → Type 0
   GroupInside P [] r = Unit
-  GroupInside P (v ∷ vs) r = CornerInside P v × ReadInside (channels P v) r × GroupInside P vs (varblock shift clusters stretch P v r)
+  GroupInside P (v ∷ vs) r = CornerInside P v × ReadInside (channels P v) r × GroupInside P vs (readVarblock shift clusters presetMap P v r)
 
--- along `reading`: the stretch of the preset lies whole in the cluster map, and the group is read with it
+-- along `reading`: the preset map lies whole in the cluster map, and the group is read with it
 abbrev pub ReadingInside : Lent → ℕ → Type 0
 ReadingInside L preset =
     (495 * clustersOf (L .pass) * preset + 495 * clustersOf (L .pass) ≤ length (L .clusterMap))

@@ -1,6 +1,6 @@
 // The order call (`hf_pass.rs`): which orders are used is read from bits, their lists from symbols.
+use bits::BitPlace;
 use bits::Got;
-use bits::Place;
 use bits::U32Specifier;
 use order_digits::digits_below;
 use order_naturals::fill_natural_orders;
@@ -134,8 +134,8 @@ fn read_at(store: &mut [u16], start: usize, i: usize, used: u32, symbols: &[u32]
 {
     let k = i / 3;
     let size = block_size(k);
-    let width = size.wide;
-    let height = size.high;
+    let width = size.width;
+    let height = size.height;
     let u = is_used(used, k);
     let next = start + 2 * (width * height);
     let answer = read_list(&mut store[start..next], width, height, u, symbols, at);
@@ -190,7 +190,7 @@ fn used_orders(bytes: &[u8]) -> Got
         offset: 0,
         bits: 13,
     };
-    bits::read_u32(bytes, Place::start(), d0, d1, d2, d3)
+    bits::read_u32(bytes, BitPlace::start(), d0, d1, d2, d3)
 }
 
 // The orders of a pass: the symbols read and the whole store, or a refusal.

@@ -211,8 +211,8 @@ pub fn fill_natural_order(list: &mut [u16], order: usize) -> bool
         return false;
     }
     let size = block_size(order);
-    let width = size.wide;
-    let height = size.high;
+    let width = size.width;
+    let height = size.height;
     if list.len() != 2 * (width * height) {
         return false;
     }

@@ -44,8 +44,8 @@ pub fn fill_natural_orders(store: &mut [u16]) -> bool
     let mut k = 0;
     while k < 13 {
         let size = block_size(k);
-        let width = size.wide;
-        let height = size.high;
+        let width = size.width;
+        let height = size.height;
         let n = 2 * (width * height);
         let e = start + 3 * n;
         fill_order(&mut store[start..e], k, n);

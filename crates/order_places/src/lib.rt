@@ -75,8 +75,8 @@ pub fn places_fit(store: &[u16]) -> bool
     let mut i = 0;
     while i < 39 {
         let size = block_size(i / 3);
-        let width = size.wide;
-        let height = size.high;
+        let width = size.width;
+        let height = size.height;
         let e = start + 2 * (width * height);
         if !all_inside(&store[start..e], width, height) {
             return false;

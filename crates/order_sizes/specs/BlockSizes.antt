@@ -2,7 +2,6 @@
 use mathlib.Core.List.{List, [], _∷_}
 use Prim.Native.Nat.{ℕ}
 use lib.ListN.{getD}
-use Rattle.order_sizes.specs.declared.Sides.{Sides}
 
 -- width and height
 unfoldable pub BLOCK-SIZES : List (ℕ × ℕ)
@@ -14,6 +13,3 @@ widthOf k = getD BLOCK-SIZES k (0, 0) .0
 
 unfoldable pub heightOf : ℕ → ℕ
 heightOf k = getD BLOCK-SIZES k (0, 0) .1
-
-abbrev pub sides : ℕ → ℕ → Sides
-sides w h = record { wide = w; high = h }

@@ -7,7 +7,7 @@ use Rattle.order_store.specs.declared.Stretch.{Stretch}
 use Rattle.order_store.specs.Store.{PLACES, from}
 
 abbrev pub stretchFrom : ℕ → ℕ → Stretch
-stretchFrom a n = record { first = a; count = n }
+stretchFrom a n = record { first = a; len = n }
 
 -- where the list of an order and a channel lies in a store of so many numbers
 unfoldable pub stretchAt : ℕ → ℕ → ℕ → Stretch

@@ -55,7 +55,7 @@ fn numbers_of(order: usize) -> usize
 // A part of the store: its first number, and how many.
 pub struct Stretch {
     pub first: usize,
-    pub count: usize,
+    pub len: usize,
 }
 
 // Where a list lies in a store of so many numbers; nowhere, if there is none.
@@ -63,17 +63,17 @@ pub fn stretch_of(numbers: usize, order: usize, channel: usize) -> Stretch
     ensures { λ r. ⌜ r ≡ stretchAt numbers order channel ⌝ }
 {
     if 13 <= order {
-        return Stretch { first: 0, count: 0 };
+        return Stretch { first: 0, len: 0 };
     }
     if 3 <= channel {
-        return Stretch { first: 0, count: 0 };
+        return Stretch { first: 0, len: 0 };
     }
     if numbers != NUMBERS {
-        return Stretch { first: 0, count: 0 };
+        return Stretch { first: 0, len: 0 };
     }
     let n = numbers_of(order);
     let first = start_of(order) + channel * n;
-    Stretch { first, count: n }
+    Stretch { first, len: n }
 }
 
 // The list of an order and a channel, x, y by x, y; empty where there is none.
@@ -82,7 +82,7 @@ pub fn order(store: &[u16], order: usize, channel: usize) -> &[u16]
 {
     let s = stretch_of(store.len(), order, channel);
     let a = s.first;
-    let n = s.count;
+    let n = s.len;
     let e = a + n;
     &store[a..e]
 }

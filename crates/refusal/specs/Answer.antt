@@ -2,7 +2,7 @@
 use mathlib.Core.Bool.{Bool, cond}
 use Prim.Native.Nat.{ℕ}
 use Rattle.refusal.specs.declared.Said.{Said}
-use Rattle.refusal.specs.Said.{at}
+use Rattle.refusal.specs.Said.{saidAt}
 
 -- a result, or a refusal's number and position
 pub data Answer (A : Type 0) : Type 0 where
@@ -11,7 +11,7 @@ pub data Answer (A : Type 0) : Type 0 where
 
 -- one check of a chain: refused with n at 0, 0 unless the test passes
 abbrev pub unless : {A : Type 0} → ℕ → Bool → Answer A → Answer A
-unless n test next = cond test next (refuses (at n 0 0))
+unless n test next = cond test next (refuses (saidAt n 0 0))
 
 -- the end of a chain that only checks
 abbrev pub passed : Answer Unit

@@ -1,7 +1,6 @@
 -- What the C interface hands out: a number and a position, and beside a refusal nothing else (document 01, Refused, and what then remains).
-use Prim.Native.Nat.{ℕ}
 use Rattle.refusal.specs.declared.Said.{Said}
-use Rattle.refusal.specs.Said.{at}
+use Rattle.refusal.specs.Said.{saidAt}
 use Rattle.refusal.specs.Answer.{Answer, answeredBy}
 
 -- number and position, and what the results hold then
@@ -14,4 +13,4 @@ with s r = record { said = s; results = r }
 
 -- the result under number 0; or the refusal, and the results keep what they held
 abbrev pub handed : {A : Type 0} → Answer A → A → Handed A
-handed {A} a kept = answeredBy a (λ (s : Said). with s kept) (λ (r : A). with (at 0 0 0) r)
+handed {A} a kept = answeredBy a (λ (s : Said). with s kept) (λ (r : A). with (saidAt 0 0 0) r)

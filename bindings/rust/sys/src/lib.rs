@@ -128,8 +128,8 @@ extern "C" {
         out_kinds_length: usize,
         out_hf_mul: *mut i32,
         out_hf_mul_length: usize,
-        wide: *mut usize,
-        high: *mut usize,
+        out_bw: *mut usize,
+        out_bh: *mut usize,
         x: *mut usize,
         y: *mut usize,
     ) -> u32;
@@ -185,8 +185,8 @@ extern "C" {
 
     /// The coefficients of a pass group.
     pub fn netbuff_coefficients(
-        wide: usize,
-        high: usize,
+        bw: usize,
+        bh: usize,
         kinds: *const u8,
         kinds_length: usize,
         hf_mul: *const i32,

@@ -7,7 +7,7 @@ use native.Mathlib.Omega.{arith}
 use lib.Dec.{leb}
 use lib.ListN.{length, take, drop}
 use borrow.Author.Tests.{le-leb, lt-leb, leb-true, eq-eqb, ne-eqb}
-use Rattle.bits.specs.declared.Place.{Place}
+use Rattle.bits.specs.declared.BitPlace.{BitPlace}
 use Rattle.bits.specs.declared.Got.the-variants as got
 use Rattle.bits.specs.Bits.{Read, Value, Ended, then, readBits, readChoice, readU32, choiceAt, Choice, Constant, Offset, valueOf, bitsOf, Bytes}
 use Rattle.bits.specs.laws.Numbers.{number, length-bits, value-field, window}
@@ -17,7 +17,7 @@ use Rattle.bits.specs.Reads.{placeAt, bitsBefore, gotOf, choiceOf}
 pub before-at : (t : ℕ) → bitsBefore (placeAt t) ≡ t
 before-at t = omega arith
 
-pub at-before : (p : Place) → p .bit < 8 → placeAt (bitsBefore p) ≡ p
+pub at-before : (p : BitPlace) → p .bit < 8 → placeAt (bitsBefore p) ≡ p
 at-before p h =
     let a : (8 * p .byte + p .bit) / 8 ≡ p .byte = omega arith in
     let b : (8 * p .byte + p .bit) % 8 ≡ p .bit = omega arith in
@@ -46,19 +46,19 @@ pub read-end : (s : List ℕ) (p n : ℕ) → 8 * length s < p + n → got.End 0
 read-end s p n h = let z : p - p ≡ 0 = omega arith in rw (read-short s p n h, z)
 
 -- What a declared answer says of the read.
-pub record WasValue (r : Read ℕ) (v : ℕ) (q : Place) : Type 0 where
+pub record WasValue (r : Read ℕ) (v : ℕ) (q : BitPlace) : Type 0 where
   pub at : ℕ
   pub is : r ≡ Value v at
   pub place : q ≡ placeAt at
 
-pub was-value : (from : ℕ) (r : Read ℕ) (v : ℕ) (q : Place) → gotOf from r ≡ got.Value v q → WasValue r v q
+pub was-value : (from : ℕ) (r : Read ℕ) (v : ℕ) (q : BitPlace) → gotOf from r ≡ got.Value v q → WasValue r v q
 was-value from (Value w at) v q e =
     let a : w ≡ v = cc in
     let b : placeAt at ≡ q = cc in
     record { at = at; is = ap (λ (x : ℕ). Value x at) a; place = sym b }
 was-value from (Ended at) v q e = absurd (let z : _≡_ {A = ℕ} 0 1 = cc in omega arith)
 
-value-by : (from : ℕ) (r : Read ℕ) (v at : ℕ) (q : Place) → r ≡ Value v at → q ≡ placeAt at → got.Value v q ≡ gotOf from r
+value-by : (from : ℕ) (r : Read ℕ) (v at : ℕ) (q : BitPlace) → r ≡ Value v at → q ≡ placeAt at → got.Value v q ≡ gotOf from r
 value-by from r v at q e f = rw (e, f)
 
 pub record WasEnd (from : ℕ) (r : Read ℕ) (k : ℕ) : Type 0 where
@@ -115,7 +115,7 @@ module _ (s : List ℕ) (p : ℕ) (d : U32Specifier) (h : d .offset < 2 ^ 32) (l
       let z : r .at - p ≡ 0 = omega arith in
       rw (choice-read s p d h l, r .is, z)
 
-  pub choice-value : (v : ℕ) (q : Place) (w : ℕ) → gotOf p (readBits s p (min (d .bits) 32)) ≡ got.Value v q → w ≡ (d .offset + v) % 2 ^ 32
+  pub choice-value : (v : ℕ) (q : BitPlace) (w : ℕ) → gotOf p (readBits s p (min (d .bits) 32)) ≡ got.Value v q → w ≡ (d .offset + v) % 2 ^ 32
       → got.Value w q ≡ gotOf p (readChoice s p (choiceOf d))
   choice-value v q w e f =
       let r = was-value p (readBits s p (min (d .bits) 32)) v q e in
@@ -149,7 +149,7 @@ module _ (s : List ℕ) (p : ℕ) (a b c d : Choice) where
       rw (r .is, n)
 
   -- the selector k was read, and its choice m
-  module _ (k : ℕ) (q : Place) (e : gotOf p (readBits s p 2) ≡ got.Value k q) (m : Choice) (f : m ≡ choiceAt k a b c d) where
+  module _ (k : ℕ) (q : BitPlace) (e : gotOf p (readBits s p 2) ≡ got.Value k q) (m : Choice) (f : m ≡ choiceAt k a b c d) where
     selected : readU32 s p a b c d ≡ readChoice s (bitsBefore q) m
     unfolding readU32
     selected =
@@ -166,7 +166,7 @@ module _ (s : List ℕ) (p : ℕ) (a b c d : Choice) where
         let v = value-at s p 2 k (r .at) (r .is) in
         (sym t ∙ v .0, omega (arith, t, v .1))
 
-    pub u32-value : (v : ℕ) (w : Place) → gotOf (bitsBefore q) (readChoice s (bitsBefore q) m) ≡ got.Value v w → got.Value v w ≡ gotOf p (readU32 s p a b c d)
+    pub u32-value : (v : ℕ) (w : BitPlace) → gotOf (bitsBefore q) (readChoice s (bitsBefore q) m) ≡ got.Value v w → got.Value v w ≡ gotOf p (readU32 s p a b c d)
     u32-value v w g =
         let y = was-value (bitsBefore q) (readChoice s (bitsBefore q) m) v w g in
         value-by p (readU32 s p a b c d) v (y .at) w (selected ∙ y .is) (y .place)

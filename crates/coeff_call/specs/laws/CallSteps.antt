@@ -11,17 +11,17 @@ use borrow.Author.Tests.{ltb-true}
 use Rattle.refusal.specs.declared.Refusal.{Refusal}
 use Rattle.refusal.specs.declared.Refusal.the-variants.{Preset}
 use Rattle.refusal.specs.Said.{said}
-use Rattle.refusal.specs.Answer.{Answer, gives, refuses, passed}
+use Rattle.refusal.specs.Answer.{gives, refuses}
 use Rattle.refusal.specs.laws.Answer.{checked}
 use Rattle.refusal.specs.declared.Checked.{Checked}
 use Rattle.refusal.specs.declared.Checked.the-variants as check
 use Rattle.bits.specs.Bits.{Read, Value, Ended}
 use Rattle.layout.specs.laws.Theorems.{layout-iff}
-use Rattle.coeff_walk.specs.declared.Walk.{Walk}
-use Rattle.coeff_walk.specs.declared.Walk.the-variants as walk
+use Rattle.coeff_walk.specs.declared.WalkEnd.{WalkEnd}
+use Rattle.coeff_walk.specs.declared.WalkEnd.the-variants as walk
 use Rattle.coeff_group.specs.Group.{Grids, Reading, going, refused}
 use Rattle.coeff_group.specs.Work.{clustersOf}
-use Rattle.coeff_group.specs.laws.Due.{GroupHanded}
+use Rattle.coeff_group.specs.laws.Due.{GroupShown}
 use Rattle.coeff_group.specs.laws.WorkLaws.{WorkReady}
 use Rattle.coeff_call.specs.declared.CoeffAnswer.{CoeffAnswer}
 use Rattle.coeff_call.specs.declared.CoeffAnswer.the-variants.{Accepted, Refused}
@@ -64,17 +64,17 @@ module _ (L : Lent) (p : Passed L) (r : PresetAnswer) (e : number.answered r ≡
             go false i g = absurd (let z : _≡_ {A = ℕ} 0 1 = cc in omega arith)
 
 -- The work.
-abbrev pub answerBy : Walk → CoeffAnswer
-answerBy (walk.Ended at) = Accepted at
+abbrev pub answerBy : WalkEnd → CoeffAnswer
+answerBy (walk.Done at) = Accepted at
 answerBy (walk.Stopped why) = Refused why
 
-outcome-by : (r : Walk) (log : List ℕ) (G : Grids) (R : Reading) → GroupHanded r log G R → record { answer = answered (answerBy r); log = log; grids = G } ≡ outcome R
+outcome-by : (r : WalkEnd) (log : List ℕ) (G : Grids) (R : Reading) → GroupShown r log G R → record { answer = answered (answerBy r); log = log; grids = G } ≡ outcome R
 outcome-by r log G (going us at log₁ G₁ rows left) d = rw (d .answer, d .logged, d .cells)
 outcome-by r log G (refused why at log₁ G₁) d = rw (d .answer, d .logged, d .cells)
 
 -- the group is read, with the preset that was chosen
 pub call-done : (L : Lent) → Passed L → (q : PresetAnswer) → number.answered q ≡ presetOf (L .presets) (readPreset L) → (n : ℕ) → q ≡ preset.Number n
-    → (r : Walk) (v : CoeffAnswer) (log g0 g1 g2 : List ℕ) → v ≡ answerBy r → GroupHanded r log (g0 ∷ g1 ∷ g2 ∷ []) (reading L n) → leaves v log g0 g1 g2 ≡ call L
+    → (r : WalkEnd) (v : CoeffAnswer) (log g0 g1 g2 : List ℕ) → v ≡ answerBy r → GroupShown r log (g0 ∷ g1 ∷ g2 ∷ []) (reading L n) → leaves v log g0 g1 g2 ≡ call L
 call-done L p q e n f r v log g0 g1 g2 a d =
     ap (λ (w : CoeffAnswer). leaves w log g0 g1 g2) a ∙ outcome-by r log (g0 ∷ g1 ∷ g2 ∷ []) (reading L n) d ∙ call-read L p q e n f
 

@@ -7,7 +7,7 @@ use native.Mathlib.Omega.{arith}
 use lib.Dec.{T, leb, eqb, leb→le, eqb→eq}
 use lib.ListN.{length}
 use Rattle.refusal.specs.Said as refusals
-use Rattle.refusal.specs.Answer.{Answer, gives, refuses, unless, passed}
+use Rattle.refusal.specs.Answer.{Answer, refuses, unless, passed}
 use Rattle.lent_sides.specs.Limits.{inLimits}
 use Rattle.order_store.specs.Store.{PLACES, placesFit}
 use Rattle.context_record.specs.declared.HfBlockContext.{HfBlockContext}
@@ -79,22 +79,22 @@ module _ (P : Pass) (presets shift clusterMap log g0 g1 g2 : ℕ) where
   unfolding beforeWork
   checks-pass p = rw (p .sides, p .parameters, p .contexts, p .lengths, p .layout, p .places)
 
-  pub checks-2 : sidesFit P ≡ false → answer ≡ refuses (refusals.at 2 0 0)
+  pub checks-2 : sidesFit P ≡ false → answer ≡ refuses (refusals.saidAt 2 0 0)
   unfolding beforeWork
   checks-2 a = rw a
 
   module _ (a : sidesFit P ≡ true) where
-    pub checks-11 : parametersFit shift presets ≡ false → answer ≡ refuses (refusals.at 11 0 0)
+    pub checks-11 : parametersFit shift presets ≡ false → answer ≡ refuses (refusals.saidAt 11 0 0)
     unfolding beforeWork
     checks-11 b = rw (a, b)
 
     module _ (b : parametersFit shift presets ≡ true) where
-      pub checks-12 : fit (P .contexts) ≡ false → answer ≡ refuses (refusals.at 12 0 0)
+      pub checks-12 : fit (P .contexts) ≡ false → answer ≡ refuses (refusals.saidAt 12 0 0)
       unfolding beforeWork
       checks-12 c = rw (a, b, c)
 
       module _ (c : fit (P .contexts) ≡ true) where
-        pub checks-1 : lengthsBy P presets clusterMap log g0 g1 g2 ≡ false → answer ≡ refuses (refusals.at 1 0 0)
+        pub checks-1 : lengthsBy P presets clusterMap log g0 g1 g2 ≡ false → answer ≡ refuses (refusals.saidAt 1 0 0)
         unfolding beforeWork
         checks-1 d = rw (a, b, c, d)
 
@@ -113,11 +113,11 @@ module _ (P : Pass) (presets shift clusterMap log g0 g1 g2 : ℕ) where
           pub layout-is : groupPasses (P .bw) (P .bh) (P .kinds) (P .hfMul) ≡ layoutFits P
           layout-is = let l = lengths-fit P presets clusterMap log g0 g1 g2 d in passes-is (P .bw) (P .bh) (P .kinds) (P .hfMul) a (l .kinds) (l .hfMul)
 
-          pub checks-18 : layoutFits P ≡ false → answer ≡ refuses (refusals.at 18 0 0)
+          pub checks-18 : layoutFits P ≡ false → answer ≡ refuses (refusals.saidAt 18 0 0)
           unfolding beforeWork
           checks-18 e = rw (a, b, c, d, e)
 
-          pub checks-13 : layoutFits P ≡ true → placesFit (P .store) ≡ false → answer ≡ refuses (refusals.at 13 0 0)
+          pub checks-13 : layoutFits P ≡ true → placesFit (P .store) ≡ false → answer ≡ refuses (refusals.saidAt 13 0 0)
           unfolding beforeWork
           checks-13 e f = rw (a, b, c, d, e, f)
 

@@ -4,40 +4,37 @@ use mathlib.Core.Bool.{true, false}
 use mathlib.Core.List.{List, [], _∷_}
 use Prim.Native.Nat.{ℕ, zero, suc, _+_, _*_, _-_, _^_, _<_, _≤_}
 use native.Mathlib.Omega.{arith}
-use native.Mathlib.Nat.{mul-mul-mul-comm, mul-comm}
 use lib.Dec.{leb}
 use lib.ListN.{length, getD, drop, replicate}
 use borrow.Author.Tests.{le-leb, lt-leb}
-use Rattle.refusal.specs.declared.Refusal.{Refusal}
-use Rattle.dct_select.specs.Transforms.{wide, high, orderOf, turns}
-use Rattle.dct_select.specs.laws.Sides.{wide-some}
-use Rattle.order_sizes.specs.BlockSizes.{widthOf, heightOf}
-use Rattle.layout.specs.Grid.{at}
+use Rattle.dct_select.specs.Transforms.{wide, high, orderOf}
+use Rattle.dct_select.specs.laws.Sides.{wide-some, order-lt, places}
+use Rattle.layout.specs.Grid.{blockAt}
 use Rattle.layout.specs.Valid.{Cells, Fits, Layout}
 use Rattle.layout.specs.Varblocks.{cornersRow, cornersFrom, area}
 use Rattle.layout.specs.Varblocks as layout
 use Rattle.layout.specs.laws.Theorems.{layout-area}
 use Rattle.lent_check.specs.declared.Group.{Group}
+use Rattle.lent_check.specs.Group.{groupOf}
 use Rattle.order_store.specs.Store.{PLACES, stretch}
 use Rattle.context_record.specs.Record.{fit}
 use Rattle.context_index.specs.laws.Bounds.{context-lt}
-use Rattle.coeff_walk.specs.declared.Walk.{Walk}
-use Rattle.coeff_walk.specs.declared.Walk.the-variants.{Ended, Stopped}
+use Rattle.coeff_walk.specs.declared.WalkEnd.{WalkEnd}
+use Rattle.coeff_walk.specs.declared.WalkEnd.the-variants.{Done, Stopped}
 use Rattle.coeff_walk.specs.laws.Outcome.{isStopped, readBy}
-use Rattle.coeff_walk.specs.Places.{across}
 use Rattle.coeff_walk.specs.Item.{Item}
 use Rattle.coeff_group.specs.declared.plan.Plan.{Plan}
 use Rattle.coeff_group.specs.Pass.{Pass, varblocks, itemOf, channels}
-use Rattle.coeff_group.specs.Group.{Grids, zeroRows, Reading, going, refused, item, read, group}
+use Rattle.coeff_group.specs.Group.{Grids, zeroRows, Reading, going, refused, readItems, readGroup}
 use Rattle.coeff_group.specs.laws.GroupLaws.{group-refused}
-use Rattle.coeff_group.specs.laws.Sizes.{exponentOf, order-lt, exponent-blocks, exponent-le, Sides, swapped, straight, sides-of}
+use Rattle.dct_select.specs.laws.Exponents.{exponentOf, exponent-blocks, exponent-le}
 use Rattle.coeff_group.specs.laws.Stored.{stretch-long}
 use Rattle.coeff_group.specs.laws.Steps.{Shown}
-use Rattle.coeff_group.specs.laws.Turns.{shown-on}
+use Rattle.coeff_group.specs.laws.Channels.{shown-on}
 use Rattle.coeff_group.specs.laws.Plans.{planBy, itemsBy, Planned}
 
-abbrev pub walkOf : Reading → Walk
-walkOf (going us at log grids rows left) = Ended at
+abbrev pub walkOf : Reading → WalkEnd
+walkOf (going us at log grids rows left) = Done at
 walkOf (refused why at log grids) = Stopped (why at)
 
 abbrev pub logBy : Reading → List ℕ
@@ -49,7 +46,7 @@ gridsBy (going us at log grids rows left) = grids
 gridsBy (refused why at log grids) = grids
 
 -- what is handed back of a reading
-pub record GroupHanded (r : Walk) (log : List ℕ) (G : Grids) (R : Reading) : Type 0 where
+pub record GroupShown (r : WalkEnd) (log : List ℕ) (G : Grids) (R : Reading) : Type 0 where
   pub answer : r ≡ walkOf R
   pub logged : log ≡ logBy R
   pub cells : G ≡ gridsBy R
@@ -69,21 +66,21 @@ pub record GroupReady (P : Pass) (clusters presetMap shift log : ℕ) : Type 0 w
 
 module _ (P : Pass) where
   abbrev pub K : Cells
-  K = at (P .kinds) (P .bw)
+  K = blockAt (P .kinds) (P .bw)
 
   abbrev pub M : Cells
-  M = at (P .hfMul) (P .bw)
+  M = blockAt (P .hfMul) (P .bw)
 
   abbrev pub cornerAt : ℕ → ℕ → layout.Varblock
   cornerAt x y = record { x = x; y = y; type = K x y - 2; hfMul = M x y }
 
-  abbrev pub groupOf : Group
-  groupOf = record { bw = P .bw; bh = P .bh }
+  abbrev pub groupAt : Group
+  groupAt = groupOf (P .bw) (P .bh)
 
   -- the plan of the corner at x, y
   abbrev pub planAt : ℕ → ℕ → Plan
   planAt x y =
-      planBy x y groupOf (K x y - 2) (M x y) (P .contexts .lengths) (P .contexts .«lf_thresholds») (P .contexts .«qf_thresholds») (P .contexts .«block_ctx_map»)
+      planBy x y groupAt (K x y - 2) (M x y) (P .contexts .lengths) (P .contexts .«lf_thresholds») (P .contexts .«qf_thresholds») (P .contexts .«block_ctx_map»)
       (P .lfThere) (P .lf0) (P .lf1) (P .lf2)
 
 -- the varblocks from block x of row y on, and from row y on
@@ -95,7 +92,7 @@ rowFrom P x y = cornersRow (K P) (M P) (P .bw - x) x y (rowsFrom P (y + 1))
 
 -- the whole reading
 abbrev pub wholeOf : ℕ → ℕ → List ℕ → Pass → List ℕ → List ℕ → Grids → Reading
-wholeOf shift clusters presetMap P symbols log G = group shift clusters presetMap P (varblocks P) (going symbols 0 log G zeroRows 0)
+wholeOf shift clusters presetMap P symbols log G = readGroup shift clusters presetMap P (varblocks P) (going symbols 0 log G zeroRows 0)
 
 -- the symbols of a planned varblock at most
 few-is : (P : Pass) (x y at₀ : ℕ) (p : Plan) → p ≡ planAt P x y → K P x y - 2 < 27 → at₀ + 192 * 2 ^ (p .shape .exponent) ≡ at₀ + 192 * (wide (K P x y - 2) * high (K P x y - 2))
@@ -113,7 +110,7 @@ module _ (P : Pass) (clusters presetMap shift log : ℕ) (r : GroupReady P clust
   known = let k = fits .known in omega arith
 
   -- the three channels are those of the definition
-  items-are : itemsBy (planAt P x y) (groupOf P) (P .store) ≡ channels P (cornerAt P x y)
+  items-are : itemsBy (planAt P x y) (groupAt P) (P .store) ≡ channels P (cornerAt P x y)
   unfolding itemOf
   items-are = rw (exponent-blocks t known)
 
@@ -127,18 +124,14 @@ module _ (P : Pass) (clusters presetMap shift log : ℕ) (r : GroupReady P clust
     abbrev order : List ℕ
     order = stretch (P .store) (orderOf t) c
 
-    area-by : (bw bh : ℕ) → Sides (turns t) (wide t) (high t) bw bh → bw * bh ≡ 64 * (wide t * high t)
-    area-by bw bh (swapped e a b) = rw (a, b) (mul-mul-mul-comm 8 (high t) 8 (wide t) ∙ ap (λ (n : ℕ). 64 * n) (mul-comm (high t) (wide t)))
-    area-by bw bh (straight e a b) = rw (a, b) (mul-mul-mul-comm 8 (wide t) 8 (high t))
-
     order-long : length order ≡ 128 * 2 ^ exponentOf t
     order-long =
         let a = stretch-long (P .store) (r .whole) (orderOf t) c (order-lt t known) hc in
-        let b = area-by (widthOf (orderOf t)) (heightOf (orderOf t)) (sides-of t known) in
+        let b = places t known in
         let e = exponent-blocks t known in
         omega arith
 
-  plan-ready : (presetMap₀ : List ℕ) → length presetMap₀ ≡ presetMap → Planned (planAt P x y) (groupOf P) clusters presetMap₀ (P .store) shift
+  plan-ready : (presetMap₀ : List ℕ) → length presetMap₀ ≡ presetMap → Planned (planAt P x y) (groupAt P) clusters presetMap₀ (P .store) shift
   plan-ready presetMap₀ e =
       let w = r .across in let h = r .below in
       record {
@@ -152,20 +145,20 @@ module _ (P : Pass) (clusters presetMap shift log : ℕ) (r : GroupReady P clust
         entries = e ∙ r .entries;
         listed = order-lt t known;
         whole = r .whole;
-        places = order-long;
+        long = order-long;
         shifts = r .shifts;
       }
     where
-      context : (n : ℕ) → n < 3 → getD (planAt P x y .contexts) n 0 < P .contexts .«num_block_clusters»
-      context zero k = context-lt (P .contexts) 0 (orderOf t) (M P x y) (P .lfThere) (at (P .lf0) (P .bw) x y) (at (P .lf1) (P .bw) x y) (at (P .lf2) (P .bw) x y) (r .contexts) (omega arith) (order-lt t known)
-      context (suc zero) k = context-lt (P .contexts) 1 (orderOf t) (M P x y) (P .lfThere) (at (P .lf0) (P .bw) x y) (at (P .lf1) (P .bw) x y) (at (P .lf2) (P .bw) x y) (r .contexts) (omega arith) (order-lt t known)
-      context (suc (suc zero)) k = context-lt (P .contexts) 2 (orderOf t) (M P x y) (P .lfThere) (at (P .lf0) (P .bw) x y) (at (P .lf1) (P .bw) x y) (at (P .lf2) (P .bw) x y) (r .contexts) (omega arith) (order-lt t known)
+      context : (n : ℕ) → n < 3 → getD (planAt P x y .«block_contexts») n 0 < P .contexts .«num_block_clusters»
+      context zero k = context-lt (P .contexts) 0 (orderOf t) (M P x y) (P .lfThere) (blockAt (P .lf0) (P .bw) x y) (blockAt (P .lf1) (P .bw) x y) (blockAt (P .lf2) (P .bw) x y) (r .contexts) (omega arith) (order-lt t known)
+      context (suc zero) k = context-lt (P .contexts) 1 (orderOf t) (M P x y) (P .lfThere) (blockAt (P .lf0) (P .bw) x y) (blockAt (P .lf1) (P .bw) x y) (blockAt (P .lf2) (P .bw) x y) (r .contexts) (omega arith) (order-lt t known)
+      context (suc (suc zero)) k = context-lt (P .contexts) 2 (orderOf t) (M P x y) (P .lfThere) (blockAt (P .lf0) (P .bw) x y) (blockAt (P .lf1) (P .bw) x y) (blockAt (P .lf2) (P .bw) x y) (r .contexts) (omega arith) (order-lt t known)
       context (suc (suc (suc n))) k = absurd (omega arith)
 
 -- what is still due: the varblocks vs, from where the reading stands, give the whole
 pub record Due (shift clusters : ℕ) (presetMap : List ℕ) (P : Pass) (symbols : List ℕ) (most : ℕ) (whole : Reading) (vs : List layout.Varblock) (at₀ : ℕ) (rows : Grids) (log : List ℕ) (G : Grids) : Type 0 where
   pub left : ℕ
-  pub due : group shift clusters presetMap P vs (going (drop at₀ symbols) at₀ log G rows left) ≡ whole
+  pub due : readGroup shift clusters presetMap P vs (going (drop at₀ symbols) at₀ log G rows left) ≡ whole
   pub three : length rows ≡ 3
   pub room : at₀ + 192 * area vs ≤ most
 
@@ -214,15 +207,15 @@ module _ (shift clusters : ℕ) (presetMap : List ℕ) (P : Pass) (symbols : Lis
     room-of v l d = let m = d .room in omega arith
 
     module _ (x y : ℕ) (l : List layout.Varblock) (d : Dues (cornerAt P x y ∷ l) at₀ rows log G) (its : List Item) (is : its ≡ channels P (cornerAt P x y))
-        (w : Walk) (rows₁ : Grids) (log₁ : List ℕ) (G₁ : Grids) (few : ℕ) (le : few ≡ at₀ + 192 * (wide (K P x y - 2) * high (K P x y - 2)))
-        (shown : (left : ℕ) → Shown symbols few w rows₁ log₁ G₁ (read shift clusters presetMap its (going (drop at₀ symbols) at₀ log G rows left))) where
+        (w : WalkEnd) (rows₁ : Grids) (log₁ : List ℕ) (G₁ : Grids) (few : ℕ) (le : few ≡ at₀ + 192 * (wide (K P x y - 2) * high (K P x y - 2)))
+        (shown : (left : ℕ) → Shown symbols few w rows₁ log₁ G₁ (readItems shift clusters presetMap its (going (drop at₀ symbols) at₀ log G rows left))) where
       abbrev R : Reading
-      R = read shift clusters presetMap its (going (drop at₀ symbols) at₀ log G rows (d .left))
+      R = readItems shift clusters presetMap its (going (drop at₀ symbols) at₀ log G rows (d .left))
 
       -- what follows the varblock gives the whole
-      due-after : group shift clusters presetMap P l R ≡ whole
-      unfolding group
-      due-after = ap (λ (i : List Item). group shift clusters presetMap P l (read shift clusters presetMap i (going (drop at₀ symbols) at₀ log G rows (d .left)))) is ∙ d .due
+      due-after : readGroup shift clusters presetMap P l R ≡ whole
+      unfolding readGroup
+      due-after = ap (λ (i : List Item). readGroup shift clusters presetMap P l (readItems shift clusters presetMap i (going (drop at₀ symbols) at₀ log G rows (d .left)))) is ∙ d .due
 
       -- the varblock was read
       due-step : isStopped w ≡ false → length rows₁ ≡ 3 → Dues l (readBy w) rows₁ log₁ G₁
@@ -233,24 +226,24 @@ module _ (shift clusters : ℕ) (presetMap : List ℕ) (P : Pass) (symbols : Lis
           let f = o .few in
           record {
             left = o .left;
-            due = ap (group shift clusters presetMap P l) (sym (o .is)) ∙ due-after;
+            due = ap (readGroup shift clusters presetMap P l) (sym (o .is)) ∙ due-after;
             three = three;
             room = omega arith;
           }
 
       -- the reading stopped in it
-      due-stop : isStopped w ≡ true → GroupHanded w log₁ G₁ whole
+      due-stop : isStopped w ≡ true → GroupShown w log₁ G₁ whole
       due-stop e = go R refl (shown (d .left))
         where
-          go : (Q : Reading) → R ≡ Q → Shown symbols few w rows₁ log₁ G₁ Q → GroupHanded w log₁ G₁ whole
+          go : (Q : Reading) → R ≡ Q → Shown symbols few w rows₁ log₁ G₁ Q → GroupShown w log₁ G₁ whole
           go (going us at₁ log′ G′ rows′ left) q s = absurd (let a : isStopped w ≡ false = ap isStopped (s .it .answer) in let z : _≡_ {A = ℕ} 0 1 = cc in omega arith)
           go (refused why at₁ log′ G′) q s =
-              let f : refused why at₁ log′ G′ ≡ whole = sym (group-refused shift clusters presetMap P l why at₁ log′ G′) ∙ ap (group shift clusters presetMap P l) (sym q) ∙ due-after in
+              let f : refused why at₁ log′ G′ ≡ whole = sym (group-refused shift clusters presetMap P l why at₁ log′ G′) ∙ ap (readGroup shift clusters presetMap P l) (sym q) ∙ due-after in
               record { answer = s .it .answer ∙ ap walkOf f; logged = sym (s .it .logged) ∙ ap logBy f; cells = sym (s .it .cells) ∙ ap gridsBy f }
 
     -- nothing is due any more
-    pub due-end : (y : ℕ) → P .bh ≤ y → Dues (cornersFrom (K P) (M P) (P .bw) (P .bh - y) y) at₀ rows log G → GroupHanded (Ended at₀) log G whole
-    unfolding cornersFrom group
+    pub due-end : (y : ℕ) → P .bh ≤ y → Dues (cornersFrom (K P) (M P) (P .bw) (P .bh - y) y) at₀ rows log G → GroupShown (Done at₀) log G whole
+    unfolding cornersFrom readGroup
     due-end y h d =
         let e : P .bh - y ≡ 0 = omega arith in
         let f : going (drop at₀ symbols) at₀ log G rows (d .left) ≡ whole = rw e at (d .due) in
@@ -267,34 +260,34 @@ module _ (shift clusters : ℕ) (presetMap : List ℕ) (P : Pass) (symbols : Lis
 
   -- all that is lent for it fits
   pub corner-asks : length log ≡ room
-      → Planned p (groupOf P) clusters presetMap (P .store) shift × (at₀ + 192 * 2 ^ (p .shape .exponent) ≤ length log) × (p .shape .x + p .shape .wide ≤ 32) × (length rows ≡ 3)
+      → Planned p (groupAt P) clusters presetMap (P .store) shift × (at₀ + 192 * 2 ^ (p .shape .exponent) ≤ length log) × (p .shape .x + p .shape .wide ≤ 32) × (length rows ≡ 3)
   corner-asks e =
       let m = ready .room in
       let n = room-of shift clusters presetMap P symbols (192 * (P .bw * P .bh)) whole at₀ rows log G (cornerAt P x y) (rowFrom P (x + 1) y) here in
       let f = few in
       let w = ready .across in
       let r = right P clusters (length presetMap) shift room ready x y hx hy corner in (
-        subst (λ (q : Plan). Planned q (groupOf P) clusters presetMap (P .store) shift) (sym ep) (plan-ready P clusters (length presetMap) shift room ready x y hx hy corner presetMap refl),
+        subst (λ (q : Plan). Planned q (groupAt P) clusters presetMap (P .store) shift) (sym ep) (plan-ready P clusters (length presetMap) shift room ready x y hx hy corner presetMap refl),
         omega arith,
         rw ep (omega arith),
         d .three,
       )
 
-  module _ (w : Walk) (rows₁ : Grids) (log₁ : List ℕ) (G₁ : Grids)
-      (shown : (left : ℕ) → Shown symbols (at₀ + 192 * 2 ^ (p .shape .exponent)) w rows₁ log₁ G₁ (read shift clusters presetMap (itemsBy p (groupOf P) (P .store)) (going (drop at₀ symbols) at₀ log G rows left))) where
-    its : itemsBy p (groupOf P) (P .store) ≡ channels P (cornerAt P x y)
-    its = ap (λ (q : Plan). itemsBy q (groupOf P) (P .store)) ep ∙ items-are P clusters (length presetMap) shift room ready x y hx hy corner
+  module _ (w : WalkEnd) (rows₁ : Grids) (log₁ : List ℕ) (G₁ : Grids)
+      (shown : (left : ℕ) → Shown symbols (at₀ + 192 * 2 ^ (p .shape .exponent)) w rows₁ log₁ G₁ (readItems shift clusters presetMap (itemsBy p (groupAt P) (P .store)) (going (drop at₀ symbols) at₀ log G rows left))) where
+    its : itemsBy p (groupAt P) (P .store) ≡ channels P (cornerAt P x y)
+    its = ap (λ (q : Plan). itemsBy q (groupAt P) (P .store)) ep ∙ items-are P clusters (length presetMap) shift room ready x y hx hy corner
 
     -- the reading stopped in it
-    pub corner-stop : isStopped w ≡ true → GroupHanded w log₁ G₁ whole
+    pub corner-stop : isStopped w ≡ true → GroupShown w log₁ G₁ whole
     corner-stop e =
-        due-stop shift clusters presetMap P symbols (192 * (P .bw * P .bh)) whole at₀ rows log G x y (rowFrom P (x + 1) y) here (itemsBy p (groupOf P) (P .store)) its
+        due-stop shift clusters presetMap P symbols (192 * (P .bw * P .bh)) whole at₀ rows log G x y (rowFrom P (x + 1) y) here (itemsBy p (groupAt P) (P .store)) its
         w rows₁ log₁ G₁ (at₀ + 192 * 2 ^ (p .shape .exponent)) few shown e
 
     -- it was read
     pub corner-step : isStopped w ≡ false → length rows₁ ≡ 3 → (at₁ : ℕ) → at₁ ≡ readBy w → Due shift clusters presetMap P symbols (192 * (P .bw * P .bh)) whole (rowFrom P (x + 1) y) at₁ rows₁ log₁ G₁
     corner-step e three at₁ q =
-        rw q (due-step shift clusters presetMap P symbols (192 * (P .bw * P .bh)) whole at₀ rows log G x y (rowFrom P (x + 1) y) here (itemsBy p (groupOf P) (P .store)) its
+        rw q (due-step shift clusters presetMap P symbols (192 * (P .bw * P .bh)) whole at₀ rows log G x y (rowFrom P (x + 1) y) here (itemsBy p (groupAt P) (P .store)) its
         w rows₁ log₁ G₁ (at₀ + 192 * 2 ^ (p .shape .exponent)) few shown e three)
 
 pub due-start : (shift clusters : ℕ) (presetMap : List ℕ) (P : Pass) (symbols log : List ℕ) (G : Grids) → Layout (P .bw) (P .bh) (P .kinds) (P .hfMul)

@@ -15,9 +15,9 @@ use Rattle.lent_check.specs.declared.Group.{Group}
 use Rattle.order_store.specs.declared.Stretch.{Stretch}
 use Rattle.order_store.specs.Store.{PLACES, from}
 use Rattle.order_store.specs.LookedUp.{stretchFrom, stretchAt}
-use Rattle.coeff_walk.specs.declared.Walk.the-variants.{Stopped}
+use Rattle.coeff_walk.specs.declared.WalkEnd.the-variants.{Stopped}
 use Rattle.coeff_group.specs.declared.plan.Plan.{Plan}
-use Rattle.coeff_group.specs.Group.{Grids, Reading, going, refused, read}
+use Rattle.coeff_group.specs.Group.{Grids, Reading, going, refused, readItems}
 use Rattle.coeff_group.specs.laws.Rewritten.{three, VarblockShown}
 use Rattle.coeff_group.specs.laws.Stored.{stretch-long, lists-are}
 use Rattle.coeff_group.specs.laws.Plans.{itemsBy, Planned}
@@ -30,9 +30,9 @@ varblockFits p group clusters presetMap list at shift log =
     && ltb (p .shape .y) 32
     && leb (p .shape .exponent) 10
     && leb (group .bw) 32
-    && ltb (getD (p .contexts) 0 0) clusters
-    && ltb (getD (p .contexts) 1 0) clusters
-    && ltb (getD (p .contexts) 2 0) clusters
+    && ltb (getD (p .«block_contexts») 0 0) clusters
+    && ltb (getD (p .«block_contexts») 1 0) clusters
+    && ltb (getD (p .«block_contexts») 2 0) clusters
     && leb clusters 16
     && leb shift 3
     && eqb presetMap (495 * clusters)
@@ -44,24 +44,24 @@ varblockFits p group clusters presetMap list at shift log =
 -- the reading of a varblock, `left` of the counts before being left over; nothing is read where what is lent does not fit
 abbrev pub varblockRead : Plan → Group → (clusters : ℕ) (presetMap store : List ℕ) (rows : Grids) (symbols : List ℕ) (at shift : ℕ) (log : List ℕ) (G : Grids) (left : ℕ) → Reading
 varblockRead p group clusters presetMap store rows symbols at shift log G left =
-    cond (varblockFits p group clusters (length presetMap) (stretchAt (length store) (p .order) 0 .count) at shift (length log))
-    (read shift clusters presetMap (itemsBy p group store) (going (drop at symbols) at log G (three rows) left))
+    cond (varblockFits p group clusters (length presetMap) (stretchAt (length store) (p .order) 0 .len) at shift (length log))
+    (readItems shift clusters presetMap (itemsBy p group store) (going (drop at symbols) at log G (three rows) left))
     (refused (λ n. Length) at log G)
 
 -- a list that is not empty is there
-found : (numbers o m : ℕ) → 0 < m → stretchAt numbers o 0 .count ≡ m → (o < 13) × (numbers ≡ 2 * PLACES) × (2 * (widthOf o * heightOf o) ≡ m)
+found : (numbers o m : ℕ) → 0 < m → stretchAt numbers o 0 .len ≡ m → (o < 13) × (numbers ≡ 2 * PLACES) × (2 * (widthOf o * heightOf o) ≡ m)
 unfolding stretchAt
 found numbers o m h = go (ltb o 13) refl (eqb numbers (2 * PLACES)) refl
   where
     go : (b : Bool) → ltb o 13 ≡ b → (d : Bool) → eqb numbers (2 * PLACES) ≡ d
-        → cond (b && (ltb 0 3 && d)) (stretchFrom (from (3 * o + 0)) (2 * (widthOf o * heightOf o))) (stretchFrom 0 0) .count ≡ m
+        → cond (b && (ltb 0 3 && d)) (stretchFrom (from (3 * o + 0)) (2 * (widthOf o * heightOf o))) (stretchFrom 0 0) .len ≡ m
         → (o < 13) × (numbers ≡ 2 * PLACES) × (2 * (widthOf o * heightOf o) ≡ m)
     go true a true b e = (ltb-true o 13 a, eqb-true numbers (2 * PLACES) b, e)
     go true a false b e = absurd (omega arith)
     go false a d b e = absurd (omega arith)
 
 module _ (p : Plan) (group : Group) (clusters : ℕ) (presetMap store : List ℕ) (at shift log : ℕ) where
-  pub fits-planned : varblockFits p group clusters (length presetMap) (stretchAt (length store) (p .order) 0 .count) at shift log ≡ true
+  pub fits-planned : varblockFits p group clusters (length presetMap) (stretchAt (length store) (p .order) 0 .len) at shift log ≡ true
       → Planned p group clusters presetMap store shift × (at + 192 * 2 ^ (p .shape .exponent) ≤ log)
   unfolding varblockFits
   fits-planned e =
@@ -80,48 +80,48 @@ module _ (p : Plan) (group : Group) (clusters : ℕ) (presetMap store : List ℕ
       let a = and-true _ _ (b .0) in
       let q = leb-true at log (l .1) in
       let r = leb-true (192 * 2 ^ (p .shape .exponent)) (log - at) (m .1) in
-      let s = found (length store) (p .order) (128 * 2 ^ (p .shape .exponent)) (let z = pow-pos (p .shape .exponent) in omega arith) (eqb-true (stretchAt (length store) (p .order) 0 .count) (128 * 2 ^ (p .shape .exponent)) (k .1)) in (
+      let s = found (length store) (p .order) (128 * 2 ^ (p .shape .exponent)) (let z = pow-pos (p .shape .exponent) in omega arith) (eqb-true (stretchAt (length store) (p .order) 0 .len) (128 * 2 ^ (p .shape .exponent)) (k .1)) in (
         record {
           left = ltb-true (p .shape .x) 32 (a .0);
           top = ltb-true (p .shape .y) 32 (a .1);
           some = leb-true 1 (p .shape .wide) (n .1);
           exponent = leb-true (p .shape .exponent) 10 (b .1);
           across = leb-true (group .bw) 32 (c .1);
-          cluster = each (ltb-true (getD (p .contexts) 0 0) clusters (d .1)) (ltb-true (getD (p .contexts) 1 0) clusters (f .1)) (ltb-true (getD (p .contexts) 2 0) clusters (g .1));
+          cluster = each (ltb-true (getD (p .«block_contexts») 0 0) clusters (d .1)) (ltb-true (getD (p .«block_contexts») 1 0) clusters (f .1)) (ltb-true (getD (p .«block_contexts») 2 0) clusters (g .1));
           few = leb-true clusters 16 (h .1);
           entries = eqb-true (length presetMap) (495 * clusters) (j .1);
           listed = s .0;
           whole = s .1;
-          places = λ c t. stretch-long store (s .1) (p .order) c (s .0) t ∙ s .2;
+          long = λ c t. stretch-long store (s .1) (p .order) c (s .0) t ∙ s .2;
           shifts = leb-true shift 3 (i .1);
         },
         omega arith,
       )
     where
-      each : getD (p .contexts) 0 0 < clusters → getD (p .contexts) 1 0 < clusters → getD (p .contexts) 2 0 < clusters → (n : ℕ) → n < 3 → getD (p .contexts) n 0 < clusters
+      each : getD (p .«block_contexts») 0 0 < clusters → getD (p .«block_contexts») 1 0 < clusters → getD (p .«block_contexts») 2 0 < clusters → (n : ℕ) → n < 3 → getD (p .«block_contexts») n 0 < clusters
       each a b c zero h = a
       each a b c (suc zero) h = b
       each a b c (suc (suc zero)) h = c
       each a b c (suc (suc (suc n))) h = absurd (omega arith)
 
   planned-fits : Planned p group clusters presetMap store shift → at + 192 * 2 ^ (p .shape .exponent) ≤ log
-      → varblockFits p group clusters (length presetMap) (stretchAt (length store) (p .order) 0 .count) at shift log ≡ true
+      → varblockFits p group clusters (length presetMap) (stretchAt (length store) (p .order) 0 .len) at shift log ≡ true
   unfolding varblockFits
   planned-fits r m =
       let l = lists-are store (r .whole) (p .order) (r .listed) (stretchAt (length store) (p .order) 0) refl in
-      let n : stretchAt (length store) (p .order) 0 .count ≡ 128 * 2 ^ (p .shape .exponent) = ap (λ (s : Stretch). s .count) l ∙ sym (stretch-long store (r .whole) (p .order) 0 (r .listed) (omega arith)) ∙ r .places 0 (omega arith) in
+      let n : stretchAt (length store) (p .order) 0 .len ≡ 128 * 2 ^ (p .shape .exponent) = ap (λ (s : Stretch). s .len) l ∙ sym (stretch-long store (r .whole) (p .order) 0 (r .listed) (omega arith)) ∙ r .long 0 (omega arith) in
       rw (
         lt-ltb (p .shape .x) 32 (r .left),
         lt-ltb (p .shape .y) 32 (r .top),
         le-leb (p .shape .exponent) 10 (r .exponent),
         le-leb (group .bw) 32 (r .across),
-        lt-ltb (getD (p .contexts) 0 0) clusters (r .cluster 0 (omega arith)),
-        lt-ltb (getD (p .contexts) 1 0) clusters (r .cluster 1 (omega arith)),
-        lt-ltb (getD (p .contexts) 2 0) clusters (r .cluster 2 (omega arith)),
+        lt-ltb (getD (p .«block_contexts») 0 0) clusters (r .cluster 0 (omega arith)),
+        lt-ltb (getD (p .«block_contexts») 1 0) clusters (r .cluster 1 (omega arith)),
+        lt-ltb (getD (p .«block_contexts») 2 0) clusters (r .cluster 2 (omega arith)),
         le-leb clusters 16 (r .few),
         le-leb shift 3 (r .shifts),
         eq-eqb (length presetMap) (495 * clusters) (r .entries),
-        eq-eqb (stretchAt (length store) (p .order) 0 .count) (128 * 2 ^ (p .shape .exponent)) n,
+        eq-eqb (stretchAt (length store) (p .order) 0 .len) (128 * 2 ^ (p .shape .exponent)) n,
         le-leb at log (omega arith),
         le-leb (192 * 2 ^ (p .shape .exponent)) (log - at) (omega arith),
         le-leb 1 (p .shape .wide) (r .some),
@@ -130,10 +130,10 @@ module _ (p : Plan) (group : Group) (clusters : ℕ) (presetMap store : List ℕ
 -- the outcomes
 module _ (p : Plan) (group : Group) (clusters : ℕ) (presetMap store : List ℕ) (rows : Grids) (symbols : List ℕ) (at shift : ℕ) (log : List ℕ) (G : Grids) where
   abbrev fitting : Bool
-  fitting = varblockFits p group clusters (length presetMap) (stretchAt (length store) (p .order) 0 .count) at shift (length log)
+  fitting = varblockFits p group clusters (length presetMap) (stretchAt (length store) (p .order) 0 .len) at shift (length log)
 
   abbrev whole : ℕ → Reading
-  whole left = read shift clusters presetMap (itemsBy p group store) (going (drop at symbols) at log G (three rows) left)
+  whole left = readItems shift clusters presetMap (itemsBy p group store) (going (drop at symbols) at log G (three rows) left)
 
   pub varblock-refused : fitting ≡ false → (most left : ℕ) → VarblockShown p symbols most (Stopped Length) (0 ∷ 0 ∷ 0 ∷ []) rows log G (varblockRead p group clusters presetMap store rows symbols at shift log G left)
   varblock-refused e most left = rw e (record { shown = record { it = record { answer = refl; logged = refl; cells = refl } }; none = λ stops. refl; counted = λ long. refl })

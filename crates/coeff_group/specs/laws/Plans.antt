@@ -4,18 +4,14 @@ use mathlib.Core.Bool.{Bool, true, false, not, _&&_, _||_}
 use mathlib.Core.List.{List, [], _∷_, map}
 use Prim.Native.Nat.{ℕ, _+_, _*_, _^_, _-_, _<_, _≤_}
 use native.Mathlib.Omega.{arith}
-use native.Mathlib.Decide.{decLt}
 use borrow.Author.Tests.{lt-leb}
 use lib.Dec.{leb}
 use lib.ListN.{length, getD, List·getD-eq-default}
-use Rattle.laws.specs.laws.Lists.{getD-map, getD-tabulate}
 use Rattle.dct_select.specs.declared.TransformType.{TransformType}
-use Rattle.dct_select.specs.declared.TransformType.the-variants.{Dct8, Hornuss, Dct2, Dct4, Dct16, Dct32, Dct16x8, Dct8x16, Dct32x8, Dct8x32, Dct32x16, Dct16x32, Dct4x8, Dct8x4, Afv0, Afv1, Afv2, Afv3, Dct64, Dct64x32, Dct32x64, Dct128, Dct128x64, Dct64x128, Dct256, Dct256x128, Dct128x256}
-use Rattle.refusal.specs.Said as refusals
 use Rattle.dct_select.specs.Transforms.{Row, row, TRANSFORMS, wide, high, orderOf, turns}
 use Rattle.refusal.specs.Answer.{Answer, gives, refuses}
-use Rattle.dct_select.specs.LookUp.{numberOf, known, lookUp}
-use Rattle.layout.specs.Grid.{at}
+use Rattle.dct_select.specs.LookUp.{numberOf, lookUp}
+use Rattle.layout.specs.Grid.{blockAt}
 use Rattle.lent_check.specs.declared.Group.{Group}
 use Rattle.order_store.specs.Store.{PLACES, stretch}
 use Rattle.context_index.specs.laws.Contexts.{blockContexts}
@@ -24,7 +20,8 @@ use Rattle.coeff_walk.specs.Item.{Item}
 use Rattle.coeff_walk.specs.laws.Items.{itemAt}
 use Rattle.coeff_walk.specs.declared.shape.Shape.{Shape}
 use Rattle.coeff_group.specs.declared.plan.Plan.{Plan}
-use Rattle.coeff_group.specs.laws.Sizes.{EXPONENTS, exponentOf}
+use Rattle.dct_select.specs.laws.Exponents.{exponentOf, exponent-none}
+use Rattle.dct_select.specs.laws.LookUp.{known-is, unknown-is}
 
 abbrev pub shapeOf : ℕ → ℕ → ℕ → Shape
 shapeOf x y t = record { x = x; y = y; wide = wide t; exponent = exponentOf t; turn = turns t }
@@ -34,16 +31,16 @@ abbrev pub planBy : ℕ → ℕ → Group → ℕ → ℕ → List ℕ → List 
 planBy x y group t hfMul lengths lf qf map there lf0 lf1 lf2 = record {
   shape = shapeOf x y t;
   order = orderOf t;
-  contexts = blockContexts (lists lengths lf qf map) (orderOf t) hfMul there (at lf0 (group .bw) x y) (at lf1 (group .bw) x y) (at lf2 (group .bw) x y);
+  «block_contexts» = blockContexts (lists lengths lf qf map) (orderOf t) hfMul there (blockAt lf0 (group .bw) x y) (blockAt lf1 (group .bw) x y) (blockAt lf2 (group .bw) x y);
 }
 
 -- channel c of an item
 abbrev pub inChannel : ℕ → Item → Item
-inChannel c it = record { channel = c; x = it .x; y = it .y; wide = it .wide; blocks = it .blocks; context = it .context; places = it .places }
+inChannel c it = record { channel = c; x = it .x; y = it .y; wide = it .wide; blocks = it .blocks; blockContext = it .blockContext; cells = it .cells }
 
 -- channel c, the n-th walked
 abbrev pub itemBy : Plan → Group → List ℕ → ℕ → ℕ → Item
-itemBy p group store n c = inChannel c (itemAt (p .shape) (group .bw) (getD (p .contexts) n 0) (stretch store (p .order) c))
+itemBy p group store n c = inChannel c (itemAt (p .shape) (group .bw) (getD (p .«block_contexts») n 0) (stretch store (p .order) c))
 
 -- the channel that is walked n-th
 abbrev pub channelWalked : ℕ → ℕ
@@ -59,70 +56,15 @@ pub record Planned (p : Plan) (group : Group) (clusters : ℕ) (presetMap store 
   pub some : 1 ≤ p .shape .wide
   pub exponent : p .shape .exponent ≤ 10
   pub across : group .bw ≤ 32
-  pub cluster : (n : ℕ) → n < 3 → getD (p .contexts) n 0 < clusters
+  pub cluster : (n : ℕ) → n < 3 → getD (p .«block_contexts») n 0 < clusters
   pub few : clusters ≤ 16
   pub entries : length presetMap ≡ 495 * clusters
   pub listed : p .order < 13
   pub whole : length store ≡ 2 * PLACES
-  pub places : (c : ℕ) → c < 3 → length (stretch store (p .order) c) ≡ 128 * 2 ^ (p .shape .exponent)
+  pub long : (c : ℕ) → c < 3 → length (stretch store (p .order) c) ≡ 128 * 2 ^ (p .shape .exponent)
   pub shifts : shift ≤ 3
 
 -- by way of the transform
-number-lt : (t : TransformType) → numberOf t < 27
-number-lt Dct8 = omega arith
-number-lt Hornuss = omega arith
-number-lt Dct2 = omega arith
-number-lt Dct4 = omega arith
-number-lt Dct16 = omega arith
-number-lt Dct32 = omega arith
-number-lt Dct16x8 = omega arith
-number-lt Dct8x16 = omega arith
-number-lt Dct32x8 = omega arith
-number-lt Dct8x32 = omega arith
-number-lt Dct32x16 = omega arith
-number-lt Dct16x32 = omega arith
-number-lt Dct4x8 = omega arith
-number-lt Dct8x4 = omega arith
-number-lt Afv0 = omega arith
-number-lt Afv1 = omega arith
-number-lt Afv2 = omega arith
-number-lt Afv3 = omega arith
-number-lt Dct64 = omega arith
-number-lt Dct64x32 = omega arith
-number-lt Dct32x64 = omega arith
-number-lt Dct128 = omega arith
-number-lt Dct128x64 = omega arith
-number-lt Dct64x128 = omega arith
-number-lt Dct256 = omega arith
-number-lt Dct256x128 = omega arith
-number-lt Dct128x256 = omega arith
-
-abbrev numberBy : Answer TransformType → ℕ
-numberBy (gives t) = numberOf t
-numberBy (refuses r) = 27
-
-abbrev same : ℕ → ℕ
-same t = t
-
-number-at : (t : ℕ) → t < 27 → numberBy (lookUp t) ≡ t
-number-at t h =
-    let e : 0 + t ≡ t = omega arith in
-    sym (getD-map numberBy known t (refuses (refusals.at 5 0 0))) ∙ getD-tabulate same 27 0 t 27 h ∙ e
-
-none-at : (t : ℕ) → 27 ≤ t → lookUp t ≡ refuses (refusals.at 5 0 0)
-none-at t h = List·getD-eq-default known (refuses (refusals.at 5 0 0)) {n = t} h
-
--- the number of a known transform is below 27, and of an unknown not
-found : (t n : ℕ) (l : Answer TransformType) → lookUp t ≡ l → numberBy l ≡ n → (n < 27 → (t < 27) × (n ≡ t)) × (27 ≤ n → 27 ≤ t)
-found t n l e f = go (decLt t 27)
-  where
-    here : numberBy (lookUp t) ≡ n
-    here = ap numberBy e ∙ f
-
-    go : Dec (t < 27) → (n < 27 → (t < 27) × (n ≡ t)) × (27 ≤ n → 27 ≤ t)
-    go (yes h) = let a = number-at t h in ((λ k. (h, sym here ∙ a)), (λ k. absurd (omega (arith, here))))
-    go (no h) = let a : numberBy (lookUp t) ≡ 27 = ap numberBy (none-at t (omega arith)) in ((λ k. absurd (omega (arith, here))), (λ k. omega arith))
-
 abbrev pub shapeBy : ℕ → ℕ → ℕ → Answer TransformType → Shape
 shapeBy x y exponent (gives t) = record { x = x; y = y; wide = wide (numberOf t); exponent = exponent; turn = turns (numberOf t) }
 shapeBy x y exponent (refuses r) = record { x = x; y = y; wide = 0; exponent = 0; turn = true }
@@ -139,10 +81,6 @@ order-none : (t : ℕ) → 27 ≤ t → orderOf t ≡ 0
 unfolding orderOf TRANSFORMS
 order-none t h = ap (λ (r : Row). r .order) (List·getD-eq-default TRANSFORMS (row 0 0 0) {n = t} h)
 
-pub exponent-none : (t : ℕ) → 27 ≤ t → exponentOf t ≡ 0
-unfolding exponentOf EXPONENTS
-exponent-none t h = List·getD-eq-default EXPONENTS 0 {n = t} h
-
 turns-none : (t : ℕ) → 27 ≤ t → turns t ≡ true
 unfolding turns
 turns-none t h = rw (lt-leb t 3 (omega arith), lt-leb t 17 (omega arith), wide-none t h, high-none t h) (sides (leb 1 t) (leb 12 t))
@@ -154,9 +92,9 @@ turns-none t h = rw (lt-leb t 3 (omega arith), lt-leb t 17 (omega arith), wide-n
     sides false false = refl
 
 pub shape-at : (x y t : ℕ) (l : Answer TransformType) → lookUp t ≡ l → shapeBy x y (exponentOf t) l ≡ shapeOf x y t
-shape-at x y t (gives u) e = let f = found t (numberOf u) (gives u) e refl in rw (f .0 (number-lt u) .1)
+shape-at x y t (gives u) e = rw (known-is t u e .1)
 shape-at x y t (refuses r) e =
-    let h : 27 ≤ t = found t 27 (refuses r) e refl .1 (omega arith) in
+    let h = unknown-is t r e in
     rw (wide-none t h, exponent-none t h, turns-none t h)
 
 abbrev pub orderBy : Answer TransformType → ℕ
@@ -164,5 +102,5 @@ orderBy (gives t) = orderOf (numberOf t)
 orderBy (refuses r) = 0
 
 pub order-by : (t : ℕ) (l : Answer TransformType) → lookUp t ≡ l → orderBy l ≡ orderOf t
-order-by t (gives u) e = let f = found t (numberOf u) (gives u) e refl in ap orderOf (f .0 (number-lt u) .1)
-order-by t (refuses r) e = let h : 27 ≤ t = found t 27 (refuses r) e refl .1 (omega arith) in sym (order-none t h)
+order-by t (gives u) e = ap orderOf (known-is t u e .1)
+order-by t (refuses r) e = sym (order-none t (unknown-is t r e))

@@ -2,7 +2,7 @@
 use mathlib.Core.Path.{_≡_, refl, ap, ap₂, sym, _∙_}
 use mathlib.Core.Bool.{Bool, true, false, cond}
 use mathlib.Core.List.{List, [], _∷_, _++_, map, append-assoc, List·Memᴰ·head as here, List·Memᴰ·tail as there}
-use Prim.Native.Nat.{ℕ, zero, suc, _+_, _*_, _≤_}
+use Prim.Native.Nat.{ℕ, suc, _+_, _*_, _≤_}
 use native.Mathlib.Omega.{arith}
 use native.Mathlib.Numerals.{add-one}
 use borrow.Author.Tests.{le-leb}
@@ -14,13 +14,13 @@ use Rattle.refusal.specs.declared.Refusal.{Refusal}
 use Rattle.refusal.specs.declared.Refusal.the-variants.{SymbolsEnd, Count}
 use Rattle.coeff_walk.specs.Walk.{Walked, stopped, walk}
 use Rattle.coeff_walk.specs.laws.Counts.{few-le}
-use Rattle.coeff_walk.specs.Item.{Item, counted, newRow, coeffPart, countCluster}
-use Rattle.coeff_group.specs.Group.{Grids, Reading, going, refused, after, item, read}
+use Rattle.coeff_walk.specs.Item.{Item, counted, newRow, coeffMapOf, countCluster}
+use Rattle.coeff_group.specs.Group.{Grids, Reading, going, refused, after, readItem, readItems}
 use Rattle.coeff_group.specs.laws.Symbols.{symbolsIn}
 use Rattle.coeff_walk.specs.Sent.{Words, nonZeros, upTo}
-use Rattle.coeff_group.specs.Sequence.{Cell, cellsOf, sent}
+use Rattle.coeff_group.specs.Sequence.{readCells, sent}
 use Rattle.coeff_walk.specs.laws.Walks as walks
-use Rattle.coeff_walk.specs.laws.Walks.{gains, none, none-long, gains-none, none-words, Stop, Run, run, nonZeros-le, walk-sent}
+use Rattle.coeff_walk.specs.laws.Walks.{gains, none, none-long, gains-none, Stop, run, nonZeros-le, walk-sent}
 use Rattle.coeff_group.specs.laws.Cells.{In, adds, adds-in, adds-both}
 
 -- one behind the other
@@ -33,11 +33,11 @@ abbrev pub Long : List Item → List (List ℕ) → Type 0
 Long [] [] = Unit
 Long [] (ds ∷ dss) = ⊥
 Long (it ∷ its) [] = ⊥
-Long (it ∷ its) (ds ∷ dss) = (length ds ≡ length (it .places)) × Long its dss
+Long (it ∷ its) (ds ∷ dss) = (length ds ≡ length (it .cells)) × Long its dss
 
 -- 63 places for each block
 abbrev pub Sized : List Item → Type 0
-Sized its = (it : Item) → In it its → length (it .places) ≡ 63 * it .blocks
+Sized its = (it : Item) → In it its → length (it .cells) ≡ 63 * it .blocks
 
 pub data End : Type 0 where
   ends : (us : List ℕ) (rows : Grids) (left : ℕ) → End
@@ -70,40 +70,40 @@ pub record Reads (its : List Item) (us : List ℕ) (left : ℕ) (F : ℕ → ℕ
   pub clusters : List ℕ
   pub dss : List (List ℕ)
   pub end : End
-  pub is : (s at : ℕ) (log : List ℕ) (G : Grids) → F s at log G ≡ readBy end (at + length clusters) (sets log at clusters) (adds s G (cellsOf its) (joined dss))
+  pub is : (s at : ℕ) (log : List ℕ) (G : Grids) → F s at log G ≡ readBy end (at + length clusters) (sets log at clusters) (adds s G (readCells its) (joined dss))
   pub further : Goes end → (vs : List ℕ) (s at : ℕ) (log : List ℕ) (G : Grids)
-      → F′ vs s at log G ≡ readBy (longer vs end) (at + length clusters) (sets log at clusters) (adds s G (cellsOf its) (joined dss))
+      → F′ vs s at log G ≡ readBy (longer vs end) (at + length clusters) (sets log at clusters) (adds s G (readCells its) (joined dss))
   pub all : Long its dss
   pub few : length clusters ≤ symbolsIn its
   pub tells : Tells us left (length clusters) dss end
 
 -- no symbol at any place
 abbrev nones : List Item → List (List ℕ)
-nones its = map (λ (it : Item). none (it .places)) its
+nones its = map (λ (it : Item). none (it .cells)) its
 
 nones-long : (its : List Item) → Long its (nones its)
 nones-long [] = tt
-nones-long (it ∷ its) = (none-long (it .places), nones-long its)
+nones-long (it ∷ its) = (none-long (it .cells), nones-long its)
 
 pub words-both : (us vs : List ℕ) → Words us → Words vs → Words (us ++ vs)
 words-both [] vs a b = b
 words-both (u ∷ us) vs a b = (a .0, words-both us vs (a .1) b)
 
 -- one item's cells, then the others'
-cells-step : (s : ℕ) (it : Item) (its : List Item) (G : Grids) (ds es : List ℕ) → length ds ≡ length (it .places)
-    → adds s (set G (it .channel) (gains s (getD G (it .channel) []) (it .places) ds)) (cellsOf its) es ≡ adds s G (cellsOf (it ∷ its)) (ds ++ es)
-unfolding cellsOf
+cells-step : (s : ℕ) (it : Item) (its : List Item) (G : Grids) (ds es : List ℕ) → length ds ≡ length (it .cells)
+    → adds s (set G (it .channel) (gains s (getD G (it .channel) []) (it .cells) ds)) (readCells its) es ≡ adds s G (readCells (it ∷ its)) (ds ++ es)
+unfolding readCells
 cells-step s it its G ds es e =
-    ap (λ (H : Grids). adds s H (cellsOf its) es) (adds-in s G (it .channel) (it .places) ds)
-    ∙ sym (adds-both s G (map (λ (p : ℕ). (it .channel, p)) (it .places)) (cellsOf its) ds es (e ∙ sym (length-map (it .places) (λ (p : ℕ). (it .channel, p)))))
+    ap (λ (H : Grids). adds s H (readCells its) es) (adds-in s G (it .channel) (it .cells) ds)
+    ∙ sym (adds-both s G (map (λ (p : ℕ). (it .channel, p)) (it .cells)) (readCells its) ds es (e ∙ sym (length-map (it .cells) (λ (p : ℕ). (it .channel, p)))))
 
-adds-nones : (s : ℕ) (its : List Item) (G : Grids) → adds s G (cellsOf its) (joined (nones its)) ≡ G
-unfolding cellsOf
+adds-nones : (s : ℕ) (its : List Item) (G : Grids) → adds s G (readCells its) (joined (nones its)) ≡ G
+unfolding readCells
 adds-nones s [] G = refl
 adds-nones s (it ∷ its) G =
-    sym (unfold cellsOf in cells-step s it its G (none (it .places)) (joined (nones its)) (none-long (it .places)))
-    ∙ adds-nones s its (set G (it .channel) (gains s (getD G (it .channel) []) (it .places) (none (it .places))))
-    ∙ rw (gains-none s (getD G (it .channel) []) (it .places)) (set-getD G (it .channel) [])
+    sym (unfold readCells in cells-step s it its G (none (it .cells)) (joined (nones its)) (none-long (it .cells)))
+    ∙ adds-nones s its (set G (it .channel) (gains s (getD G (it .channel) []) (it .cells) (none (it .cells))))
+    ∙ rw (gains-none s (getD G (it .channel) []) (it .cells)) (set-getD G (it .channel) [])
 
 -- refused before the first place
 refused-here : (its : List Item) (us : List ℕ) (left : ℕ) (ks : List ℕ) (why : ℕ → Refusal) (F : ℕ → ℕ → List ℕ → Grids → Reading) (F′ : List ℕ → ℕ → ℕ → List ℕ → Grids → Reading)
@@ -134,14 +134,14 @@ tells-on n k₁ left m k us ds us₁ dss (stops why) w t =
     walks.stop-later (suc m) (length us₁) k (suc (length us)) (suc (m + k)) why (omega (arith, w .read)) (omega arith) t
 
 module _ (clusters : ℕ) (stretch : List ℕ) where
-  read-refused : (s : ℕ) (its : List Item) (why : ℕ → Refusal) (at : ℕ) (log : List ℕ) (G : Grids) → read s clusters stretch its (refused why at log G) ≡ refused why at log G
-  unfolding read item
+  read-refused : (s : ℕ) (its : List Item) (why : ℕ → Refusal) (at : ℕ) (log : List ℕ) (G : Grids) → readItems s clusters stretch its (refused why at log G) ≡ refused why at log G
+  unfolding readItems readItem
   read-refused s [] why at log G = refl
   read-refused s (it ∷ its) why at log G = read-refused s its why at log G
 
   abbrev Claim : List Item → Type 0
   Claim its = (us : List ℕ) (rows : Grids) (left : ℕ)
-      → Reads its us left (λ s at log G. read s clusters stretch its (going us at log G rows left)) (λ vs s at log G. read s clusters stretch its (going (us ++ vs) at log G rows left))
+      → Reads its us left (λ s at log G. readItems s clusters stretch its (going us at log G rows left)) (λ vs s at log G. readItems s clusters stretch its (going (us ++ vs) at log G rows left))
 
   module _ (it : Item) (its : List Item) (ih : Claim its) (n : ℕ) (us : List ℕ) (rows : Grids) (left : ℕ) where
     abbrev c : ℕ
@@ -154,35 +154,35 @@ module _ (clusters : ℕ) (stretch : List ℕ) where
     rows₁ = set rows c (newRow it (getD rows c []) (n ∷ us))
 
     abbrev W : List ℕ → ℕ → ℕ → List ℕ → List ℕ → Walked
-    W vs s at log g = walk s (it .blocks) (coeffPart clusters stretch it) (it .places) 0 (cond (leb n (4 * it .blocks)) 1 0) n vs at log g
+    W vs s at log g = walk s (it .blocks) (coeffMapOf clusters stretch it) (it .cells) 0 (cond (leb n (4 * it .blocks)) 1 0) n vs at log g
 
     abbrev on : (b : Bool) → List ℕ → ℕ → ℕ → List ℕ → Grids → Reading
-    on b vs s at log G = read s clusters stretch its (after c G rows₁ left (cond b (W vs s (at + 1) (set log at k) (getD G c [])) (stopped Count (at + 1) (set log at k) (getD G c []))))
+    on b vs s at log G = readItems s clusters stretch its (after c G rows₁ left (cond b (W vs s (at + 1) (set log at k) (getD G c [])) (stopped Count (at + 1) (set log at k) (getD G c []))))
 
-    module _ (ks ds : List ℕ) (long : length ds ≡ length (it .places)) where
+    module _ (ks ds : List ℕ) (long : length ds ≡ length (it .cells)) where
       grids : ℕ → Grids → Grids
-      grids s G = set G c (gains s (getD G c []) (it .places) ds)
+      grids s G = set G c (gains s (getD G c []) (it .cells) ds)
 
       both : (s at : ℕ) (log : List ℕ) (G : Grids) (e : End) (ls es : List ℕ)
-          → readBy e (at + 1 + length ks + length ls) (sets (sets (set log at k) (at + 1) ks) (at + 1 + length ks) ls) (adds s (set G c (gains s (getD G c []) (it .places) ds)) (cellsOf its) es)
-          ≡ readBy e (at + suc (length (ks ++ ls))) (sets (set log at k) (suc at) (ks ++ ls)) (adds s G (cellsOf (it ∷ its)) (ds ++ es))
+          → readBy e (at + 1 + length ks + length ls) (sets (sets (set log at k) (at + 1) ks) (at + 1 + length ks) ls) (adds s (set G c (gains s (getD G c []) (it .cells) ds)) (readCells its) es)
+          ≡ readBy e (at + suc (length (ks ++ ls))) (sets (set log at k) (suc at) (ks ++ ls)) (adds s G (readCells (it ∷ its)) (ds ++ es))
       both s at log G e ls es =
           let z : at + 1 + length ks + length ls ≡ at + suc (length (ks ++ ls)) = omega (arith, length-append ks ls) in
           rw (z, add-one at, cells-step s it its G ds es long, sets-append ks ls (set log at k) (suc at))
 
-      by-end : (e : walks.End) → ((s at : ℕ) (log g : List ℕ) → W us s at log g ≡ walks.walkedBy e (at + length ks) (sets log at ks) (gains s g (it .places) ds))
-          → (walks.Goes e → (vs : List ℕ) (s at : ℕ) (log g : List ℕ) → W (us ++ vs) s at log g ≡ walks.walkedBy (walks.longer vs e) (at + length ks) (sets log at ks) (gains s g (it .places) ds))
-          → length ks ≤ length (it .places) → walks.Tells n us (length ks) ds e → Reads (it ∷ its) (n ∷ us) left (on true us) (λ vs. on true (us ++ vs))
+      by-end : (e : walks.End) → ((s at : ℕ) (log g : List ℕ) → W us s at log g ≡ walks.walkedBy e (at + length ks) (sets log at ks) (gains s g (it .cells) ds))
+          → (walks.Goes e → (vs : List ℕ) (s at : ℕ) (log g : List ℕ) → W (us ++ vs) s at log g ≡ walks.walkedBy (walks.longer vs e) (at + length ks) (sets log at ks) (gains s g (it .cells) ds))
+          → length ks ≤ length (it .cells) → walks.Tells n us (length ks) ds e → Reads (it ∷ its) (n ∷ us) left (on true us) (λ vs. on true (us ++ vs))
       by-end (walks.stops why) is further few t = record {
         clusters = k ∷ ks;
         dss = ds ∷ nones its;
         end = stops why;
         is = λ s at log G.
             let z : at + 1 + length ks ≡ at + suc (length ks) = omega arith in
-            ap (λ (w : Walked). read s clusters stretch its (after c G rows₁ left w)) (is s (at + 1) (set log at k) (getD G c []))
-            ∙ read-refused s its why (at + 1 + length ks) (sets (set log at k) (at + 1) ks) (set G c (gains s (getD G c []) (it .places) ds))
+            ap (λ (w : Walked). readItems s clusters stretch its (after c G rows₁ left w)) (is s (at + 1) (set log at k) (getD G c []))
+            ∙ read-refused s its why (at + 1 + length ks) (sets (set log at k) (at + 1) ks) (set G c (gains s (getD G c []) (it .cells) ds))
             ∙ rw (z, add-one at) (ap (refused why (at + suc (length ks)) (sets (set log at k) (suc at) ks))
-            (sym (adds-nones s its (set G c (gains s (getD G c []) (it .places) ds))) ∙ cells-step s it its G ds (joined (nones its)) long));
+            (sym (adds-nones s its (set G c (gains s (getD G c []) (it .cells) ds))) ∙ cells-step s it its G ds (joined (nones its)) long));
         further = λ h vs s at log G. absurd h;
         all = (long, nones-long its);
         few = omega arith;
@@ -196,11 +196,11 @@ module _ (clusters : ℕ) (stretch : List ℕ) where
             dss = ds ∷ q .dss;
             end = q .end;
             is = λ s at log G.
-                ap (λ (w : Walked). read s clusters stretch its (after c G rows₁ left w)) (is s (at + 1) (set log at k) (getD G c []))
-                ∙ q .is s (at + 1 + length ks) (sets (set log at k) (at + 1) ks) (set G c (gains s (getD G c []) (it .places) ds)) ∙ both s at log G (q .end) (q .clusters) (joined (q .dss));
+                ap (λ (w : Walked). readItems s clusters stretch its (after c G rows₁ left w)) (is s (at + 1) (set log at k) (getD G c []))
+                ∙ q .is s (at + 1 + length ks) (sets (set log at k) (at + 1) ks) (set G c (gains s (getD G c []) (it .cells) ds)) ∙ both s at log G (q .end) (q .clusters) (joined (q .dss));
             further = λ h vs s at log G.
-                ap (λ (w : Walked). read s clusters stretch its (after c G rows₁ left w)) (further tt vs s (at + 1) (set log at k) (getD G c []))
-                ∙ q .further h vs s (at + 1 + length ks) (sets (set log at k) (at + 1) ks) (set G c (gains s (getD G c []) (it .places) ds)) ∙ both s at log G (longer vs (q .end)) (q .clusters) (joined (q .dss));
+                ap (λ (w : Walked). readItems s clusters stretch its (after c G rows₁ left w)) (further tt vs s (at + 1) (set log at k) (getD G c []))
+                ∙ q .further h vs s (at + 1 + length ks) (sets (set log at k) (at + 1) ks) (set G c (gains s (getD G c []) (it .cells) ds)) ∙ both s at log G (longer vs (q .end)) (q .clusters) (joined (q .dss));
             all = (long, q .all);
             few = omega (arith, length-append ks (q .clusters));
             tells = rw (length-append ks (q .clusters)) (tells-on n k₁ left (length ks) (length (q .clusters)) us ds us₁ (q .dss) (q .end) t (q .tells));
@@ -208,7 +208,7 @@ module _ (clusters : ℕ) (stretch : List ℕ) where
 
     by-count : (b : Bool) → Reads (it ∷ its) (n ∷ us) left (on b us) (λ vs. on b (us ++ vs))
     by-count true =
-        let r = run (it .blocks) (coeffPart clusters stretch it) (it .places) 0 (cond (leb n (4 * it .blocks)) 1 0) n us in
+        let r = run (it .blocks) (coeffMapOf clusters stretch it) (it .cells) 0 (cond (leb n (4 * it .blocks)) 1 0) n us in
         by-end (r .clusters) (r .ds) (r .all) (r .end) (r .is) (r .further) (r .few) (r .tells)
     by-count false =
         refused-here (it ∷ its) (n ∷ us) left (k ∷ []) Count _ _
@@ -216,7 +216,7 @@ module _ (clusters : ℕ) (stretch : List ℕ) where
         (walks.count refl (omega arith))
 
   next : (it : Item) (its : List Item) → Claim its → Claim (it ∷ its)
-  unfolding read item counted
+  unfolding readItems readItem counted
   next it its ih [] rows left =
       refused-here (it ∷ its) [] left [] SymbolsEnd _ _
       (λ s at log G. let z : at + 0 ≡ at = omega arith in
@@ -224,7 +224,7 @@ module _ (clusters : ℕ) (stretch : List ℕ) where
   next it its ih (n ∷ us) rows left = by-count it its ih n us rows left (leb n (63 * it .blocks))
 
   pub reads : (its : List Item) → Claim its
-  unfolding read cellsOf sent
+  unfolding readItems readCells sent
   reads [] us rows left =
       record {
         clusters = [];
@@ -243,10 +243,10 @@ module _ (clusters : ℕ) (stretch : List ℕ) where
     pub at′ : ℕ
     pub log′ : List ℕ
     pub rows′ : Grids
-    pub is : read s clusters stretch its (going (sent dss) at log G rows left) ≡ going [] at′ log′ (adds s G (cellsOf its) (joined dss)) rows′ left
+    pub is : readItems s clusters stretch its (going (sent dss) at log G rows left) ≡ going [] at′ log′ (adds s G (readCells its) (joined dss)) rows′ left
 
   pub read-sent : (its : List Item) (dss : List (List ℕ)) → Long its dss → Sized its → (s at : ℕ) (log : List ℕ) (G rows : Grids) (left : ℕ) → Sent its dss s at log G rows left
-  unfolding read item counted sent
+  unfolding readItems readItem counted sent
   read-sent [] [] l z s at log G rows left = record { at′ = at; log′ = log; rows′ = rows; is = refl }
   read-sent [] (ds ∷ dss) l z s at log G rows left = absurd l
   read-sent (it ∷ its) [] l z s at log G rows left = absurd l
@@ -254,9 +254,9 @@ module _ (clusters : ℕ) (stretch : List ℕ) where
       let c = it .channel in
       let n = nonZeros ds in
       let a = l .0 in let b = z it (here refl) in
-      let w = walk-sent s (it .blocks) (coeffPart clusters stretch it) (it .places) ds 0 (cond (leb n (4 * it .blocks)) 1 0) n (sent dss) (at + 1)
+      let w = walk-sent s (it .blocks) (coeffMapOf clusters stretch it) (it .cells) ds 0 (cond (leb n (4 * it .blocks)) 1 0) n (sent dss) (at + 1)
       (set log at (countCluster clusters stretch it (getD rows c []))) (getD G c []) a refl (omega arith) (few-le n (4 * it .blocks)) in
-      let H = set G c (gains s (getD G c []) (it .places) ds) in
+      let H = set G c (gains s (getD G c []) (it .cells) ds) in
       let r = read-sent its dss (l .1) (λ t i. z t (there i)) s (w .at′) (w .log′) H (set rows c (newRow it (getD rows c []) (n ∷ []))) left in
       let e : left + 0 ≡ left = omega arith in
       record {

@@ -6,7 +6,7 @@ use Prim.Native.Nat.{ℕ, zero, suc, _+_, _≤_, _<_}
 use native.Mathlib.Omega.{arith}
 use lib.ListN.{length, getD, set}
 use lib.Seq.{getD-set-same, getD-set-other}
-use Rattle.coeff_walk.specs.declared.Walk.{Walk}
+use Rattle.coeff_walk.specs.declared.WalkEnd.{WalkEnd}
 use Rattle.coeff_walk.specs.laws.Outcome.{isStopped}
 use Rattle.coeff_walk.specs.Item.{rowOf}
 use Rattle.coeff_group.specs.declared.plan.Plan.{Plan}
@@ -31,7 +31,7 @@ countsBy x (going us at log grids rows left) = getD (getD rows 0 []) x 0 ∷ get
 countsBy x (refused why at log grids) = 0 ∷ 0 ∷ 0 ∷ []
 
 -- what the reading R of a varblock hands back: how it ended, the counts, log and grids; the rows are rewritten by the counts
-pub record VarblockShown (p : Plan) (symbols : List ℕ) (most : ℕ) (w : Walk) (counts : List ℕ) (rows : Grids) (log : List ℕ) (G : Grids) (R : Reading) : Type 0 where
+pub record VarblockShown (p : Plan) (symbols : List ℕ) (most : ℕ) (w : WalkEnd) (counts : List ℕ) (rows : Grids) (log : List ℕ) (G : Grids) (R : Reading) : Type 0 where
   pub shown : Shown symbols most w (rewritten p counts rows 3) log G R
   pub none : isStopped w ≡ true → counts ≡ 0 ∷ 0 ∷ 0 ∷ []
   -- of rows that have a number in that column, as rows of 32 do
@@ -64,7 +64,7 @@ row-first row x zero v h l = absurd (omega arith)
 row-first row x (suc n) v h l = row-before (set row x v) (x + 1) n v x (omega arith) ∙ getD-set-same row x v 0 l
 
 -- the counts of a reading that was stopped, and of one that was not
-module _ (p : Plan) (symbols : List ℕ) (most : ℕ) (w : Walk) (log : List ℕ) (G : Grids) where
+module _ (p : Plan) (symbols : List ℕ) (most : ℕ) (w : WalkEnd) (log : List ℕ) (G : Grids) where
   pub counts-none : (rows : Grids) (R : Reading) → Shown symbols most w rows log G R → isStopped w ≡ true → 0 ∷ 0 ∷ 0 ∷ [] ≡ countsBy (p .shape .x) R
   counts-none rows (refused why at log′ G′) s e = refl
   counts-none rows (going us at log′ G′ rows′ left) s e = absurd (let f = s .it .answer in let z : _≡_ {A = Bool} true false = sym e ∙ ap isStopped f in true≢false z)

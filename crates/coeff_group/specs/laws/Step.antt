@@ -5,30 +5,30 @@ use mathlib.Core.List.{List}
 use Prim.Native.Nat.{ℕ, _+_, _*_, _^_, _≤_}
 use lib.ListN.{length, drop}
 use Rattle.lent_check.specs.declared.Group.{Group}
-use Rattle.coeff_walk.specs.declared.Walk.{Walk}
+use Rattle.coeff_walk.specs.declared.WalkEnd.{WalkEnd}
 use Rattle.coeff_walk.specs.laws.Outcome.{isStopped}
 use Rattle.coeff_group.specs.declared.plan.Plan.{Plan}
-use Rattle.coeff_group.specs.Group.{Grids, Reading, going, read}
+use Rattle.coeff_group.specs.Group.{Grids, Reading, going, readItems}
 use Rattle.coeff_group.specs.laws.Steps.{Shown}
 use Rattle.coeff_group.specs.laws.Plans.{itemsBy, Planned}
 use Rattle.coeff_group.specs.laws.Rewritten.{three-is, rewritten, VarblockShown}
 use Rattle.coeff_group.specs.laws.Lent.{varblockRead, varblock-is}
-use Rattle.coeff_group.specs.laws.Turns.{shown-stopped}
+use Rattle.coeff_group.specs.laws.Channels.{shown-stopped}
 
 module _ (p : Plan) (group : Group) (clusters : ℕ) (presetMap store : List ℕ) (rows : Grids) (symbols : List ℕ) (at shift : ℕ) (log : List ℕ) (G : Grids)
-    (planned : Planned p group clusters presetMap store shift) (room : at + 192 * 2 ^ (p .shape .exponent) ≤ length log) (three : length rows ≡ 3) (w : Walk) (counts log₁ : List ℕ) (G₁ : Grids)
+    (planned : Planned p group clusters presetMap store shift) (room : at + 192 * 2 ^ (p .shape .exponent) ≤ length log) (three : length rows ≡ 3) (w : WalkEnd) (counts log₁ : List ℕ) (G₁ : Grids)
     (told : (left : ℕ) → VarblockShown p symbols (at + 192 * 2 ^ (p .shape .exponent)) w counts rows log₁ G₁ (varblockRead p group clusters presetMap store rows symbols at shift log G left)) where
   abbrev most : ℕ
   most = at + 192 * 2 ^ (p .shape .exponent)
 
   abbrev whole : ℕ → Reading
-  whole left = read shift clusters presetMap (itemsBy p group store) (going (drop at symbols) at log G rows left)
+  whole left = readItems shift clusters presetMap (itemsBy p group store) (going (drop at symbols) at log G rows left)
 
   shown : (left : ℕ) → Shown symbols most w (rewritten p counts rows 3) log₁ G₁ (whole left)
   shown left =
       subst (Shown symbols most w (rewritten p counts rows 3) log₁ G₁)
       (varblock-is p group clusters presetMap store rows symbols at shift log G planned room left
-      ∙ ap (λ (r : Grids). read shift clusters presetMap (itemsBy p group store) (going (drop at symbols) at log G r left)) (three-is rows three))
+      ∙ ap (λ (r : Grids). readItems shift clusters presetMap (itemsBy p group store) (going (drop at symbols) at log G r left)) (three-is rows three))
       (told left .shown)
 
   -- the reading stopped in it

@@ -39,21 +39,21 @@ module _ (store : List ℕ) (whole : length store ≡ 2 * PLACES) (o : ℕ) (h :
       e ∙ rw (lt-ltb o 13 h, eq-eqb (length store) (2 * PLACES) whole, z)
 
   -- channel c's begins behind c of them
-  first-is : (c : ℕ) → c < 3 → lists .first + c * lists .count ≡ from (3 * o + c)
+  first-is : (c : ℕ) → c < 3 → lists .first + c * lists .len ≡ from (3 * o + c)
   first-is c l = rw lists-are (sym (from-channel o c h l))
 
-  pub lists-end : lists .first + 3 * lists .count ≤ length store
+  pub lists-end : lists .first + 3 * lists .len ≤ length store
   lists-end =
       let i = 3 * o + 2 in
       let t : i / 3 ≡ o = omega arith in
-      let n : lists .count ≡ 2 * (widthOf o * heightOf o) = ap (λ (s : Stretch). s .count) lists-are in
+      let n : lists .len ≡ 2 * (widthOf o * heightOf o) = ap (λ (s : Stretch). s .len) lists-are in
       let f = rw t at (from-step i (omega arith)) in
       omega (arith, first-is 2 (omega arith), from-most (i + 1) (omega arith), places-by)
 
-  pub list-is : (c : ℕ) → c < 3 → take (lists .count) (drop (lists .first + c * lists .count) store) ≡ stretch store o c
+  pub list-is : (c : ℕ) → c < 3 → take (lists .len) (drop (lists .first + c * lists .len) store) ≡ stretch store o c
   unfolding from
   list-is c l =
-      let n : lists .count ≡ 2 * (widthOf o * heightOf o) = ap (λ (s : Stretch). s .count) lists-are in
+      let n : lists .len ≡ 2 * (widthOf o * heightOf o) = ap (λ (s : Stretch). s .len) lists-are in
       rw (first-is c l, n) (sym (stretch-is store whole o c h l))
 
 -- the c-th of three ends within the three

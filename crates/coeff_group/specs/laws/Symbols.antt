@@ -5,7 +5,7 @@ use Prim.Native.Nat.{ℕ, suc, _+_, _*_, _/_, _<_, _≤_}
 use native.Mathlib.Omega.{arith}
 use native.Mathlib.Nat.{mul-comm, mul-pos}
 use lib.ListN.{length, drop, length-drop}
-use Rattle.dct_select.specs.Transforms.{wide, high, orderOf, turns}
+use Rattle.dct_select.specs.Transforms.{orderOf, turns}
 use Rattle.dct_select.specs.laws.Sides.{places, wide-some, high-some}
 use Rattle.order_sizes.specs.BlockSizes.{widthOf, heightOf}
 use Rattle.layout.specs.Valid.{Layout}
@@ -18,14 +18,14 @@ use Rattle.order_natural.specs.Places.{paired}
 use Rattle.order_natural.specs.laws.Flat.{length-paired}
 use Rattle.coeff_walk.specs.laws.PlaceLaws.{length-places}
 use Rattle.coeff_walk.specs.Item.{Item}
-use Rattle.coeff_group.specs.Pass.{Pass, varblocks, blocksOf, placesAt, itemOf, channels, itemsOf}
-use Rattle.coeff_group.specs.laws.Sizes.{order-lt}
+use Rattle.coeff_group.specs.Pass.{Pass, varblocks, blocksOf, cellsIn, itemOf, channels, itemsOf}
+use Rattle.dct_select.specs.laws.Sides.{order-lt}
 use Rattle.coeff_group.specs.laws.Stored.{stretch-long}
 
 -- a count and a symbol for each place
 abbrev pub symbolsIn : List Item → ℕ
 symbolsIn [] = 0
-symbolsIn (it ∷ its) = suc (length (it .places)) + symbolsIn its
+symbolsIn (it ∷ its) = suc (length (it .cells)) + symbolsIn its
 
 symbols-both : (xs ys : List Item) → symbolsIn (xs ++ ys) ≡ symbolsIn xs + symbolsIn ys
 symbols-both [] ys = omega arith
@@ -35,7 +35,7 @@ pub some-blocks : (v : Varblock) → v .type < 27 → 1 ≤ blocksOf v
 some-blocks v h = mul-pos (wide-some (v .type) h) (high-some (v .type) h)
 
 module _ (P : Pass) (whole : length (P .store) ≡ 2 * PLACES) where
-  pub places-many : (v : Varblock) → v .type < 27 → (c : ℕ) → c < 3 → length (placesAt P v c) ≡ 63 * blocksOf v
+  pub places-many : (v : Varblock) → v .type < 27 → (c : ℕ) → c < 3 → length (cellsIn P v c) ≡ 63 * blocksOf v
   places-many v h c hc =
       let t = v .type in
       let s = stretch (P .store) (orderOf t) c in

@@ -1,32 +1,32 @@
-use mathlib.Core.Bool.{true, cond}
+use mathlib.Core.Bool.{true}
 use mathlib.Core.Path.{_≡_, refl, _∙_, sym}
-use Prim.Native.Nat.{ℕ, _*_, _^_, _≤_}
+use Prim.Native.Nat.{_*_, _^_, _≤_}
 use borrow.Author.Needs.{needs}
 use borrow.Author.Tests.{not-true, not-false, le-leb, lt-leb}
 use native.Mathlib.Omega.{arith}
 use lib.ListN.{length}
 use Rattle.coeff_walk.specs.Walk.{FREQ, NUM-NONZERO}
 use Rattle.coeff_walk.specs.laws.Counts.{shifted-left}
-use Rattle.coeff_walk.specs.laws.Lent.{placesFit, fits-ready}
+use Rattle.coeff_walk.specs.laws.Lent.{lentFits, fits-ready}
 use Rattle.coeff_places.proofs.read_places.Statement.{statement}
 use Rattle.coeff_places.proofs.read_places.Tie as tie
 
 -- What is lent fits.
-fitting : (c : tie.Else1) → placesFit (c .before .before .before .before .before .before .before .args .spot) (length (c .before .before .before .before .before .before .before .args .order .now)) (c .before .before .before .before .before .before .before .args .start) (length (c .before .before .before .before .before .before .before .args .part .now)) (c .before .before .before .before .before .before .before .args .shift) (length (c .before .before .before .before .before .before .before .args .log .now)) ≡ true
-fitting c = sym (c .before .places-fit .ensures) ∙ not-false (c .before .places-fit .result) (c .if1 .left)
+fitting : (c : tie.Else1) → lentFits (c .before .before .before .before .before .before .before .args .spot) (length (c .before .before .before .before .before .before .before .args .list .now)) (c .before .before .before .before .before .before .before .args .start) (length (c .before .before .before .before .before .before .before .args .coeff-map .now)) (c .before .before .before .before .before .before .before .args .shift) (length (c .before .before .before .before .before .before .before .args .log .now)) ≡ true
+fitting c = sym (c .before .lent-fits .ensures) ∙ not-false (c .before .lent-fits .result) (c .if1 .left)
 
 small : (c : tie.Else1) → c .before .before .before .before .before .before .before .args .spot .exponent ≤ 10
-small c = let a = c .before .before .before .before .before .before .before .args in fits-ready (a .spot) (a .order .now) (a .start) 0 0 (length (a .part .now)) (a .shift) (length (a .log .now)) (fitting c) (omega arith) (omega arith) .exponent
+small c = let a = c .before .before .before .before .before .before .before .args in fits-ready (a .spot) (a .list .now) (a .start) 0 0 (length (a .coeff-map .now)) (a .shift) (length (a .log .now)) (fitting c) (omega arith) (omega arith) .exponent
 
 -- The count is small enough.
 below : (c : tie.Else2) → c .before .before .before .before .before .before .before .before .before .args .count ≤ 63 * 2 ^ (c .before .before .before .before .before .before .before .before .before .args .spot .exponent)
 below c = omega (arith, c .if2 .left, shifted-left 63 (c .before .before .before .before .before .before .before .before .before .args .spot .exponent) (omega arith) (small (c .before .before)))
 
-places-fit-requires : tie.Need-places-fit-requires
-places-fit-requires c κs = search needs
+lent-fits-requires : tie.Need-lent-fits-requires
+lent-fits-requires c κs = search needs
 
 returns : tie.Need-returns
-returns c = rw (sym (c .before .places-fit .ensures) ∙ not-true (c .before .places-fit .result) (c .if1 .taken)) (record { answer = refl; logged = refl; cells = refl })
+returns c = rw (sym (c .before .lent-fits .ensures) ∙ not-true (c .before .lent-fits .result) (c .if1 .taken)) (record { answer = refl; logged = refl; cells = refl })
 
 shl-if2 : tie.Need-shl-if2
 shl-if2 c = let s = small (c .before) in search needs
@@ -44,7 +44,7 @@ walk-places-requires : tie.Need-walk-places-requires
 unfolding NUM-NONZERO FREQ
 walk-places-requires c κs =
     let a = c .before .before .before .before .before .before .before .before .before .before .before .before .before .before .args in
-    (refl, refl, fits-ready (a .spot) (a .order .now) (a .start) (a .count) (c .before .before .to-usize .result) (length (a .part .now)) (a .shift) (length (a .log .now)) (fitting (c .before .before .before .before .before .before .before)) (below (c .before .before .before .before .before)) (c .before .before .to-usize .ensures .1))
+    (refl, refl, fits-ready (a .spot) (a .list .now) (a .start) (a .count) (c .before .before .to-usize .result) (length (a .coeff-map .now)) (a .shift) (length (a .log .now)) (fitting (c .before .before .before .before .before .before .before)) (below (c .before .before .before .before .before)) (c .before .before .to-usize .ensures .1))
 
 same-length : tie.Need-same-length
 same-length c = search needs
@@ -61,7 +61,7 @@ pub read-places-spec : {M : Type 1} → statement M
 read-places-spec =
     tie.close
     (tie.spec
-    places-fit-requires
+    lent-fits-requires
     returns
     shl-if2
     returns-2

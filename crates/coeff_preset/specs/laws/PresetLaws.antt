@@ -9,7 +9,7 @@ use Rattle.refusal.specs.Said.{said}
 use Rattle.refusal.specs.Answer.{Answer, gives, refuses}
 use Rattle.bits.specs.declared.Got.{Got}
 use Rattle.bits.specs.declared.Got.the-variants as got
-use Rattle.bits.specs.declared.Place.{Place}
+use Rattle.bits.specs.declared.BitPlace.{BitPlace}
 use Rattle.bits.specs.Bits.{Value, readBits}
 use Rattle.bits.specs.Reads.{gotOf, placeAt, bitsBefore}
 use Rattle.bits.specs.laws.Laws.{was-value, was-end, value-at, ended-at}
@@ -24,7 +24,7 @@ abbrev pub answered : PresetAnswer → Answer ℕ
 answered (preset.Number n) = gives n
 answered (preset.Refused why) = refuses (said why)
 
-module _ (bytes : List ℕ) (presets n : ℕ) (p : Place) (g : Got) (m : presets < 2 ^ 32) (c : n ≡ exponent presets) (d : p ≡ placeAt 0) (e : g ≡ gotOf (bitsBefore p) (readBits bytes (bitsBefore p) (min n 32))) where
+module _ (bytes : List ℕ) (presets n : ℕ) (p : BitPlace) (g : Got) (m : presets < 2 ^ 32) (c : n ≡ exponent presets) (d : p ≡ placeAt 0) (e : g ≡ gotOf (bitsBefore p) (readBits bytes (bitsBefore p) (min n 32))) where
   whole : g ≡ gotOf 0 (readBits bytes 0 n)
   whole = let f = exponent-least presets 32 (omega arith) in let l : min n 32 ≡ n = omega arith in e ∙ rw (d, l)
 
@@ -34,7 +34,7 @@ module _ (bytes : List ℕ) (presets n : ℕ) (p : Place) (g : Got) (m : presets
       let l : 0 ≡ w .at = sym (ended-at bytes 0 n (w .at) (w .is)) in
       ap (λ (i : ℕ). refuses (said (BitsEnd i))) l ∙ sym (ap (λ (i : ℕ). presetOf presets (readBits bytes 0 i)) (sym c) ∙ ap (presetOf presets) (w .is))
 
-  pub preset-above : (v : ℕ) (q : Place) → g ≡ got.Value v q → presets ≤ v → refuses (said (Preset n)) ≡ presetOf presets (readBits bytes 0 (exponent presets))
+  pub preset-above : (v : ℕ) (q : BitPlace) → g ≡ got.Value v q → presets ≤ v → refuses (said (Preset n)) ≡ presetOf presets (readBits bytes 0 (exponent presets))
   preset-above v q f h =
       let w = was-value 0 (readBits bytes 0 n) v q (sym whole ∙ f) in
       let l = value-at bytes 0 n v (w .at) (w .is) in
@@ -42,7 +42,7 @@ module _ (bytes : List ℕ) (presets n : ℕ) (p : Place) (g : Got) (m : presets
       let t : presetOf presets (Value v (w .at)) ≡ refuses (said (Preset (w .at))) = rw (le-ltb v presets h) in
       ap (λ (i : ℕ). refuses (said (Preset i))) k ∙ sym (ap (λ (i : ℕ). presetOf presets (readBits bytes 0 i)) (sym c) ∙ ap (presetOf presets) (w .is) ∙ t)
 
-  pub preset-below : (v : ℕ) (q : Place) → g ≡ got.Value v q → v < presets → gives v ≡ presetOf presets (readBits bytes 0 (exponent presets))
+  pub preset-below : (v : ℕ) (q : BitPlace) → g ≡ got.Value v q → v < presets → gives v ≡ presetOf presets (readBits bytes 0 (exponent presets))
   preset-below v q f h =
       let w = was-value 0 (readBits bytes 0 n) v q (sym whole ∙ f) in
       let t : presetOf presets (Value v (w .at)) ≡ gives v = rw (lt-ltb v presets h) in

@@ -21,8 +21,8 @@ returns c =
     let f = rw (c .before .before .stretch-of .ensures) at (c .before .varblock-fits .ensures) in
     λ left. varblock-refused (a .plan) (a .group) (a .clusters) (a .preset-map .now) (a .store .now) (a .rows .now) (a .symbols .now) (a .at) (a .shift) (a .log .now) (a .g0 .now ∷ a .g1 .now ∷ a .g2 .now ∷ []) (sym f ∙ not-true (c .before .varblock-fits .result) (c .if1 .taken)) (a .at + 192 * 2 ^ (a .plan .shape .exponent)) left
 
-read-turns-requires : tie.Need-read-turns-requires
-read-turns-requires c κs =
+read-channels-requires : tie.Need-read-channels-requires
+read-channels-requires c κs =
     let a = c .before .before .before .before .before .before .before .before .before .before .before .before .before .before .args in
     let f = rw (c .before .before .before .before .before .before .stretch-of .ensures) at (c .before .before .before .before .before .varblock-fits .ensures) in
     let q = fits-planned (a .plan) (a .group) (a .clusters) (a .preset-map .now) (a .store .now) (a .at) (a .shift) (length (a .log .now)) (sym f ∙ not-false (c .before .before .before .before .before .varblock-fits .result) (c .before .before .before .before .if1 .left)) in
@@ -44,9 +44,9 @@ returns-2 : tie.Need-returns-2
 returns-2 c =
     let a = c .before .before .before .before .before .before .before .before .before .before .before .before .before .before .before .before .before .before .before .before .before .before .before .args in
     let f = rw (c .before .before .before .before .before .before .before .before .before .before .before .before .before .before .before .stretch-of .ensures) at (c .before .before .before .before .before .before .before .before .before .before .before .before .before .before .varblock-fits .ensures) in
-    let w = c .before .before .before .before .before .before .before .before .read-turns in
+    let w = c .before .before .before .before .before .before .before .before .read-channels in
     let z = w .last .1 .1 .1 .1 .1 .1 .1 .1 .1 .1 in
-    λ left. subst (VarblockShown (a .plan) (a .symbols .now) (a .at + 192 * 2 ^ (a .plan .shape .exponent)) (w .result .walk) (w .result .counts) (a .rows .now) (z .0) (z .1 .0 ∷ z .1 .1 .0 ∷ z .1 .1 .1 .0 ∷ [])) (varblock-reads (a .plan) (a .group) (a .clusters) (a .preset-map .now) (a .store .now) (a .rows .now) (a .symbols .now) (a .at) (a .shift) (a .log .now) (a .g0 .now ∷ a .g1 .now ∷ a .g2 .now ∷ []) (sym f ∙ not-false (c .before .before .before .before .before .before .before .before .before .before .before .before .before .before .varblock-fits .result) (c .before .before .before .before .before .before .before .before .before .before .before .before .before .if1 .left)) left) (w .ensures left)
+    λ left. subst (VarblockShown (a .plan) (a .symbols .now) (a .at + 192 * 2 ^ (a .plan .shape .exponent)) (w .result .walk) (w .result .«counts_over») (a .rows .now) (z .0) (z .1 .0 ∷ z .1 .1 .0 ∷ z .1 .1 .1 .0 ∷ [])) (varblock-reads (a .plan) (a .group) (a .clusters) (a .preset-map .now) (a .store .now) (a .rows .now) (a .symbols .now) (a .at) (a .shift) (a .log .now) (a .g0 .now ∷ a .g1 .now ∷ a .g2 .now ∷ []) (sym f ∙ not-false (c .before .before .before .before .before .before .before .before .before .before .before .before .before .before .varblock-fits .result) (c .before .before .before .before .before .before .before .before .before .before .before .before .before .if1 .left)) left) (w .ensures left)
 
 pub read-varblock-spec : {M : Type 1} → statement M
 read-varblock-spec =
@@ -55,7 +55,7 @@ read-varblock-spec =
     stretch-of-requires
     varblock-fits-requires
     returns
-    read-turns-requires
+    read-channels-requires
     same-length
     same-length-2
     same-length-3

@@ -23,8 +23,8 @@ index-small p h = go (leb 8 p)
     go false = h
 
 -- the entries of coefficients lie in the preset's 495 × clusters
-pub part-entry : (context clusters : ℕ) → context < clusters → context * 458 + 37 * clusters + 458 ≤ 495 * clusters
-part-entry context clusters h = omega arith
+pub part-entry : (blockContext clusters : ℕ) → blockContext < clusters → blockContext * 458 + 37 * clusters + 458 ≤ 495 * clusters
+part-entry blockContext clusters h = omega arith
 
 -- predictions by cases, as the code has them
 pub predicted-top : (row : List ℕ) (x y : ℕ) → y ≡ 0 → (x ≡ 0 → ⊥) → getD row (x - 1) 0 ≡ predicted row x y

@@ -12,42 +12,42 @@ use lib.Pow.{pow-pos}
 use lib.Seq.{drop-cons, length-take-le}
 use Rattle.laws.specs.laws.Lists.{tail-all}
 use Rattle.refusal.specs.declared.Refusal.the-variants.{SymbolsEnd, Count}
-use Rattle.coeff_walk.specs.Walk.{Walked, ended, stopped, walk}
+use Rattle.coeff_walk.specs.Walk.{Walked, done, stopped, walk}
 use Rattle.order_natural.specs.Places.{paired}
-use Rattle.coeff_walk.specs.Places.{placesOf}
-use Rattle.coeff_walk.specs.Item.{Item, predicted, countIndex, countCluster, coeffPart, counted}
+use Rattle.coeff_walk.specs.Places.{cellsOf}
+use Rattle.coeff_walk.specs.Item.{Item, predicted, countIndex, countCluster, coeffMapOf, counted}
 use Rattle.coeff_walk.specs.laws.Counts.{part-entry}
-use Rattle.coeff_walk.specs.laws.Outcome.{Handed, walk-used}
-use Rattle.coeff_walk.specs.laws.Lent.{placesFit, placesRead}
+use Rattle.coeff_walk.specs.laws.Outcome.{WalkShown, walk-used}
+use Rattle.coeff_walk.specs.laws.Lent.{lentFits, placesRead}
 use Rattle.order_natural.specs.laws.Flat.{paired-drop}
-use Rattle.coeff_walk.specs.declared.Walk.{Walk}
+use Rattle.coeff_walk.specs.declared.WalkEnd.{WalkEnd}
 use Rattle.coeff_walk.specs.declared.place.Spot.{Spot}
 use Rattle.coeff_walk.specs.declared.shape.Shape.{Shape}
 
--- the item of a varblock in a group of `width` blocks to a row, in a channel of this block context and order;
+-- the item of a varblock in a group bw blocks wide, in a channel of this block context and list;
 -- the channel's number is 0 for all three: it decides nothing in `counted`
 abbrev pub itemAt : Shape → ℕ → ℕ → List ℕ → Item
-itemAt v width context order = record {
+itemAt v bw blockContext list = record {
   channel = 0;
   x = v .x;
   y = v .y;
   wide = v .wide;
   blocks = 2 ^ (v .exponent);
-  context = context;
-  places = placesOf (v .turn) (8 * width) (8 * v .x) (8 * v .y) (drop (2 ^ (v .exponent)) (paired order));
+  blockContext = blockContext;
+  cells = cellsOf (v .turn) (8 * bw) (8 * v .x) (8 * v .y) (drop (2 ^ (v .exponent)) (paired list));
 }
 
 -- what is lent for one channel fits: a varblock of at most 2^10 blocks in a group of at most 32 × 32, at most 16 clusters,
--- a preset's whole part of the cluster map, a whole order, and a log with room for a count and its coefficients
-pub record ItemReady (v : Shape) (width context clusters presetMap order at shift log : ℕ) : Type 0 where
+-- a whole preset map, a whole list, and a log with room for a count and its coefficients
+pub record ItemReady (v : Shape) (bw blockContext clusters presetMap list at shift log : ℕ) : Type 0 where
   pub left : v .x < 32
   pub top : v .y < 32
   pub exponent : v .exponent ≤ 10
-  pub across : width ≤ 32
-  pub cluster : context < clusters
+  pub across : bw ≤ 32
+  pub cluster : blockContext < clusters
   pub few : clusters ≤ 16
   pub entries : presetMap ≡ 495 * clusters
-  pub places : order ≡ 128 * 2 ^ (v .exponent)
+  pub long : list ≡ 128 * 2 ^ (v .exponent)
   pub shifts : shift ≤ 3
   pub room : at + 64 * 2 ^ (v .exponent) ≤ log
 
@@ -64,7 +64,7 @@ module _ (shift clusters : ℕ) (presetMap : List ℕ) (it : Item) (row symbols 
     counted-reads :
         counted shift clusters presetMap it row (drop at symbols) at log g
         ≡ cond (leb (getD symbols at 0) (63 * it .blocks))
-        (walk shift (it .blocks) (coeffPart clusters presetMap it) (it .places) 0 (cond (leb (getD symbols at 0) (4 * it .blocks)) 1 0) (getD symbols at 0) (drop (at + 1) symbols) (at + 1) logged g)
+        (walk shift (it .blocks) (coeffMapOf clusters presetMap it) (it .cells) 0 (cond (leb (getD symbols at 0) (4 * it .blocks)) 1 0) (getD symbols at 0) (drop (at + 1) symbols) (at + 1) logged g)
         (stopped Count (at + 1) logged g)
     unfolding counted
     counted-reads = rw (drop-cons symbols at 0 h, add-one at)
@@ -72,70 +72,70 @@ module _ (shift clusters : ℕ) (presetMap : List ℕ) (it : Item) (row symbols 
     pub counted-16 : 63 * it .blocks < getD symbols at 0 → counted shift clusters presetMap it row (drop at symbols) at log g ≡ stopped Count (at + 1) logged g
     counted-16 l = counted-reads ∙ rw (lt-leb (getD symbols at 0) (63 * it .blocks) l)
 
-    pub counted-none : getD symbols at 0 ≡ 0 → counted shift clusters presetMap it row (drop at symbols) at log g ≡ ended (drop (at + 1) symbols) (at + 1) logged g 0
+    pub counted-none : getD symbols at 0 ≡ 0 → counted shift clusters presetMap it row (drop at symbols) at log g ≡ done (drop (at + 1) symbols) (at + 1) logged g 0
     counted-none e =
         let n = getD symbols at 0 in
         counted-reads ∙ rw (le-leb n (63 * it .blocks) (omega (arith, e)))
-        (walk-used shift (it .blocks) (coeffPart clusters presetMap it) (it .places) symbols 0 (cond (leb n (4 * it .blocks)) 1 0) n (at + 1) logged g e)
+        (walk-used shift (it .blocks) (coeffMapOf clusters presetMap it) (it .cells) symbols 0 (cond (leb n (4 * it .blocks)) 1 0) n (at + 1) logged g e)
 
--- the first cell of a varblock in a grid of a group `width` blocks wide
+-- the first cell of a varblock in a grid of a group bw blocks wide
 abbrev pub spotOf : Shape → ℕ → Spot
-spotOf v width = record { row = 8 * width; x = 8 * v .x; y = 8 * v .y; exponent = v .exponent; turn = v .turn }
+spotOf v bw = record { width = 8 * bw; x = 8 * v .x; y = 8 * v .y; exponent = v .exponent; turn = v .turn }
 
--- one channel of a varblock, as the code takes it apart: low places are left out, the part runs from begin to end
-module _ (v : Shape) (width context clusters : ℕ) (presetMap order row symbols : List ℕ) (at shift : ℕ) (log g : List ℕ) (low begin end next n entry : ℕ) (few : Bool) where
+-- one channel of a varblock, as the code takes it apart: low places are left out, the coefficients' entries run from begin to end
+module _ (v : Shape) (bw blockContext clusters : ℕ) (presetMap list row symbols : List ℕ) (at shift : ℕ) (log g : List ℕ) (low begin end next n entry : ℕ) (firstPrev : Bool) where
   abbrev it : Item
-  it = itemAt v width context order
+  it = itemAt v bw blockContext list
 
   abbrev rest : List ℕ
-  rest = take (length order - low) (drop low order)
+  rest = take (length list - low) (drop low list)
 
-  abbrev part : List ℕ
-  part = take (end - begin) (drop begin presetMap)
+  abbrev coeffMap : List ℕ
+  coeffMap = take (end - begin) (drop begin presetMap)
 
-  module _ (ready : ItemReady v width context clusters (length presetMap) (length order) at shift (length log)) (e : low ≡ 2 * 2 ^ (v .exponent))
-      (b : begin ≡ context * 458 + 37 * clusters) (f : end ≡ begin + 458) (es : next ≡ at + 1) where
-    rest-places : placesOf (v .turn) (8 * width) (8 * v .x) (8 * v .y) (paired rest) ≡ it .places
+  module _ (ready : ItemReady v bw blockContext clusters (length presetMap) (length list) at shift (length log)) (e : low ≡ 2 * 2 ^ (v .exponent))
+      (b : begin ≡ blockContext * 458 + 37 * clusters) (f : end ≡ begin + 458) (es : next ≡ at + 1) where
+    rest-places : cellsOf (v .turn) (8 * bw) (8 * v .x) (8 * v .y) (paired rest) ≡ it .cells
     rest-places =
-        let f : paired rest ≡ drop (2 ^ (v .exponent)) (paired order) = ap paired (tail-all order low) ∙ rw e (paired-drop (2 ^ (v .exponent)) order) in
+        let f : paired rest ≡ drop (2 ^ (v .exponent)) (paired list) = ap paired (tail-all list low) ∙ rw e (paired-drop (2 ^ (v .exponent)) list) in
         rw f
 
     rest-length : length rest / 2 ≡ 63 * 2 ^ (v .exponent)
-    rest-length = let h = ready .places in rw (tail-all order low, length-drop low order) (omega arith)
+    rest-length = let h = ready .long in rw (tail-all list low, length-drop low list) (omega arith)
 
-    part-is : part ≡ coeffPart clusters presetMap it
+    part-is : coeffMap ≡ coeffMapOf clusters presetMap it
     part-is = let z : end - begin ≡ 458 = omega arith in rw (z, b)
 
-    part-length : length part ≡ 458
+    part-length : length coeffMap ≡ 458
     part-length =
         let l = ready .entries in
         let z : end - begin ≡ 458 = omega arith in
-        rw z (length-take-le 458 (drop begin presetMap) (rw (length-drop begin presetMap) (omega (arith, part-entry context clusters (ready .cluster)))))
+        rw z (length-take-le 458 (drop begin presetMap) (rw (length-drop begin presetMap) (omega (arith, part-entry blockContext clusters (ready .cluster)))))
 
-    rest-fits : placesFit (spotOf v width) (length rest) next (length part) shift (length log) ≡ true
-    unfolding placesFit
+    rest-fits : lentFits (spotOf v bw) (length rest) next (length coeffMap) shift (length log) ≡ true
+    unfolding lentFits
     rest-fits =
         let o = rest-length in
         let p = ready .room in
         let q = pow-pos (v .exponent) in
         let x = ready .left in let y = ready .top in let w = ready .across in
         rw (
-          le-leb (8 * width) 256 (omega arith),
+          le-leb (8 * bw) 256 (omega arith),
           le-leb (8 * v .x) 256 (omega arith),
           le-leb (8 * v .y) 256 (omega arith),
           le-leb (v .exponent) 10 (ready .exponent),
           le-leb shift 3 (ready .shifts),
           le-leb (length rest / 2) (63 * 2 ^ (v .exponent)) (omega arith),
-          eq-eqb (length part) 458 part-length,
+          eq-eqb (length coeffMap) 458 part-length,
           le-leb next (length log) (omega arith),
           le-leb (length rest / 2) (length log - next) (omega arith),
         )
 
     -- behind the count the walk over the rest is the channel's
-    pub channel-goes : at < length symbols → n ≡ getD symbols at 0 → few ≡ leb n (4 * 2 ^ (v .exponent)) → entry ≡ context + countIndex (predicted row (v .x) (v .y)) * clusters
-        → placesRead (spotOf v width) rest symbols next n few part shift (set log at (getD presetMap entry 0)) g ≡ counted shift clusters presetMap it row (drop at symbols) at log g
+    pub channel-goes : at < length symbols → n ≡ getD symbols at 0 → firstPrev ≡ leb n (4 * 2 ^ (v .exponent)) → entry ≡ blockContext + countIndex (predicted row (v .x) (v .y)) * clusters
+        → placesRead (spotOf v bw) rest symbols next n firstPrev coeffMap shift (set log at (getD presetMap entry 0)) g ≡ counted shift clusters presetMap it row (drop at symbols) at log g
     channel-goes h en ef ee =
         rw (length-set log at (getD presetMap entry 0), rest-fits, rest-places, part-is, ef, es, ee, en) (sym (counted-reads shift clusters presetMap it row symbols at log g h))
 
-pub handed-by : (r : Walk) (log g : List ℕ) (w v : Walked) → Handed r log g w → w ≡ v → Handed r log g v
-handed-by r log g w v h e = subst (λ (x : Walked). Handed r log g x) e h
+pub handed-by : (r : WalkEnd) (log g : List ℕ) (w v : Walked) → WalkShown r log g w → w ≡ v → WalkShown r log g v
+handed-by r log g w v h e = subst (λ (x : Walked). WalkShown r log g x) e h

@@ -9,8 +9,8 @@ use lib.ListN.{length, getD, set, drop, length-set}
 use Rattle.refusal.specs.declared.Refusal.{Refusal}
 use Rattle.refusal.specs.declared.Refusal.the-variants.{SymbolsEnd, TooManyZeros, Count}
 use Rattle.coded_numbers.specs.Signed.{unpackSigned}
-use Rattle.coeff_walk.specs.Walk.{Walked, ended, stopped, walk, coeffContext, flag, less, gain}
-use Rattle.coeff_walk.specs.Item.{Item, countCluster, coeffPart, counted}
+use Rattle.coeff_walk.specs.Walk.{Walked, done, stopped, walk, coeffContext, flag, less, gain}
+use Rattle.coeff_walk.specs.Item.{Item, countCluster, coeffMapOf, counted}
 
 -- from symbols us at a position to what a walk ends in; at most n symbols are read
 pub record Kept (n : ℕ) (us : List ℕ) (at : ℕ) (log g us′ : List ℕ) (at′ : ℕ) (log′ g′ : List ℕ) : Type 0 where
@@ -22,7 +22,7 @@ pub record Kept (n : ℕ) (us : List ℕ) (at : ℕ) (log g us′ : List ℕ) (a
   pub cells : length g′ ≡ length g
 
 abbrev pub KeptBy : ℕ → List ℕ → ℕ → List ℕ → List ℕ → Walked → Type 0
-KeptBy n us at log g (ended us′ at′ log′ g′ left) = Kept n us at log g us′ at′ log′ g′
+KeptBy n us at log g (done us′ at′ log′ g′ left) = Kept n us at log g us′ at′ log′ g′
 KeptBy n us at log g (stopped why at′ log′ g′) = Unit
 
 none : (n : ℕ) (us : List ℕ) (at : ℕ) (log g : List ℕ) → Kept n us at log g us at log g
@@ -40,34 +40,34 @@ either n us at log g false w why at₁ log₁ g₁ k = tt
 -- one symbol more was read before
 later : (n u : ℕ) (us : List ℕ) (at : ℕ) (log g log₁ g₁ : List ℕ) (w : Walked) → length log₁ ≡ length log → length g₁ ≡ length g
     → KeptBy n us (at + 1) log₁ g₁ w → KeptBy (suc n) (u ∷ us) at log g w
-later n u us at log g log₁ g₁ (ended us′ at′ log′ g′ left) a b r =
+later n u us at log g log₁ g₁ (done us′ at′ log′ g′ left) a b r =
     let m = r .most in let e = r .read in
     record { k = suc (r .k); most = omega arith; read = omega arith; rest = r .rest; logged = r .logged ∙ a; cells = r .cells ∙ b }
 later n u us at log g log₁ g₁ (stopped why at′ log′ g′) a b r = tt
 
-pub walk-kept : (shift blocks : ℕ) (part ps : List ℕ) (i prev n : ℕ) (us : List ℕ) (at : ℕ) (log g : List ℕ)
-    → KeptBy (length ps) us at log g (walk shift blocks part ps i prev n us at log g)
+pub walk-kept : (shift blocks : ℕ) (coeffMap ps : List ℕ) (i prev n : ℕ) (us : List ℕ) (at : ℕ) (log g : List ℕ)
+    → KeptBy (length ps) us at log g (walk shift blocks coeffMap ps i prev n us at log g)
 unfolding walk
-walk-kept shift blocks part [] i prev n us at log g = none 0 us at log g
-walk-kept shift blocks part (p ∷ ps) i prev zero us at log g = none (suc (length ps)) us at log g
-walk-kept shift blocks part (p ∷ ps) i prev (suc n) [] at log g =
+walk-kept shift blocks coeffMap [] i prev n us at log g = none 0 us at log g
+walk-kept shift blocks coeffMap (p ∷ ps) i prev zero us at log g = none (suc (length ps)) us at log g
+walk-kept shift blocks coeffMap (p ∷ ps) i prev (suc n) [] at log g =
     either (suc (length ps)) [] at log g (ltb (coeffContext blocks n i prev) 458) (stopped SymbolsEnd at log g) TooManyZeros at log g tt
-walk-kept shift blocks part (p ∷ ps) i prev (suc n) (u ∷ us) at log g =
+walk-kept shift blocks coeffMap (p ∷ ps) i prev (suc n) (u ∷ us) at log g =
     let c = coeffContext blocks n i prev in
-    let log₁ = set log at (getD part c 0) in
+    let log₁ = set log at (getD coeffMap c 0) in
     let g₁ = gain shift g p u in
-    either (suc (length ps)) (u ∷ us) at log g (ltb c 458) (walk shift blocks part ps (i + 1) (flag u) (less u n) us (at + 1) log₁ g₁) TooManyZeros at log g
-    (later (length ps) u us at log g log₁ g₁ (walk shift blocks part ps (i + 1) (flag u) (less u n) us (at + 1) log₁ g₁)
-    (length-set log at (getD part c 0)) (length-gain shift g p u) (walk-kept shift blocks part ps (i + 1) (flag u) (less u n) us (at + 1) log₁ g₁))
+    either (suc (length ps)) (u ∷ us) at log g (ltb c 458) (walk shift blocks coeffMap ps (i + 1) (flag u) (less u n) us (at + 1) log₁ g₁) TooManyZeros at log g
+    (later (length ps) u us at log g log₁ g₁ (walk shift blocks coeffMap ps (i + 1) (flag u) (less u n) us (at + 1) log₁ g₁)
+    (length-set log at (getD coeffMap c 0)) (length-gain shift g p u) (walk-kept shift blocks coeffMap ps (i + 1) (flag u) (less u n) us (at + 1) log₁ g₁))
 
 pub counted-kept : (shift clusters : ℕ) (presetMap : List ℕ) (it : Item) (row us : List ℕ) (at : ℕ) (log g : List ℕ)
-    → KeptBy (suc (length (it .places))) us at log g (counted shift clusters presetMap it row us at log g)
+    → KeptBy (suc (length (it .cells))) us at log g (counted shift clusters presetMap it row us at log g)
 unfolding counted
 counted-kept shift clusters presetMap it row [] at log g = tt
 counted-kept shift clusters presetMap it row (n ∷ us) at log g =
     let log₁ = set log at (countCluster clusters presetMap it row) in
-    let few : ℕ = cond (leb n (4 * it .blocks)) 1 0 in
-    let w = walk shift (it .blocks) (coeffPart clusters presetMap it) (it .places) 0 few n us (at + 1) log₁ g in
-    either (suc (length (it .places))) (n ∷ us) at log g (leb n (63 * it .blocks)) w Count (at + 1) log₁ g
-    (later (length (it .places)) n us at log g log₁ g w (length-set log at (countCluster clusters presetMap it row)) refl
-    (walk-kept shift (it .blocks) (coeffPart clusters presetMap it) (it .places) 0 few n us (at + 1) log₁ g))
+    let firstPrev : ℕ = cond (leb n (4 * it .blocks)) 1 0 in
+    let w = walk shift (it .blocks) (coeffMapOf clusters presetMap it) (it .cells) 0 firstPrev n us (at + 1) log₁ g in
+    either (suc (length (it .cells))) (n ∷ us) at log g (leb n (63 * it .blocks)) w Count (at + 1) log₁ g
+    (later (length (it .cells)) n us at log g log₁ g w (length-set log at (countCluster clusters presetMap it row)) refl
+    (walk-kept shift (it .blocks) (coeffMapOf clusters presetMap it) (it .cells) 0 firstPrev n us (at + 1) log₁ g))

@@ -35,15 +35,15 @@ context-fits exponent n i prev h g f = omega (arith, entry-at exponent n h, freq
 
 -- the clusters of coefficients from the entry of a count on of which `left` are left
 abbrev pub entriesFor : ℕ → List ℕ → ℕ → List ℕ
-entriesFor exponent part left = drop (2 * getD NUM-NONZERO ((left - 1) / 2 ^ exponent) 0) part
+entriesFor exponent coeffMap left = drop (2 * getD NUM-NONZERO ((left - 1) / 2 ^ exponent) 0) coeffMap
 
 -- the same as they are lent
-module _ (exponent : ℕ) (part : List ℕ) (left x : ℕ) (e : x ≡ 2 * getD NUM-NONZERO ((left - 1) / 2 ^ exponent) 0) where
-  pub entries-lent : take (length part - x) (drop x part) ≡ entriesFor exponent part left
-  entries-lent = tail-all part x ∙ rw e
+module _ (exponent : ℕ) (coeffMap : List ℕ) (left x : ℕ) (e : x ≡ 2 * getD NUM-NONZERO ((left - 1) / 2 ^ exponent) 0) where
+  pub entries-lent : take (length coeffMap - x) (drop x coeffMap) ≡ entriesFor exponent coeffMap left
+  entries-lent = tail-all coeffMap x ∙ rw e
 
-  pub entries-room : left - 1 < 32 * 2 ^ exponent → length part ≡ 458 → 60 < length (take (length part - x) (drop x part))
-  entries-room h l = rw (tail-all part x, length-drop x part) (omega (arith, entry-at exponent (left - 1) h))
+  pub entries-room : left - 1 < 32 * 2 ^ exponent → length coeffMap ≡ 458 → 60 < length (take (length coeffMap - x) (drop x coeffMap))
+  entries-room h l = rw (tail-all coeffMap x, length-drop x coeffMap) (omega (arith, entry-at exponent (left - 1) h))
 
 -- what a run of zeros below place `stop` requires
 pub record ZerosReady (exponent symbols start from stop entries log : ℕ) : Type 0 where
@@ -59,13 +59,13 @@ pub record Zeros (exponent : ℕ) (entries symbols : List ℕ) (start from stop 
   pub lower : from ≤ r
   pub upper : r ≤ stop
   pub long : length log ≡ length log₀
-  pub passed : (shift : ℕ) (part places : List ℕ) (left : ℕ) (g : List ℕ) → 0 < left → left ≤ 32 * 2 ^ exponent → entries ≡ entriesFor exponent part left → stop ≤ length places
-      → walk shift (2 ^ exponent) part (drop r places) r 0 left (drop (start + r) symbols) (start + r) log g
-      ≡ walk shift (2 ^ exponent) part (drop from places) from 0 left (drop (start + from) symbols) (start + from) log₀ g
+  pub passed : (shift : ℕ) (coeffMap places : List ℕ) (left : ℕ) (g : List ℕ) → 0 < left → left ≤ 32 * 2 ^ exponent → entries ≡ entriesFor exponent coeffMap left → stop ≤ length places
+      → walk shift (2 ^ exponent) coeffMap (drop r places) r 0 left (drop (start + r) symbols) (start + r) log g
+      ≡ walk shift (2 ^ exponent) coeffMap (drop from places) from 0 left (drop (start + from) symbols) (start + from) log₀ g
 
 module _ (exponent : ℕ) (entries symbols : List ℕ) (start from stop : ℕ) (log₀ : List ℕ) where
   pub zeros-start : from ≤ stop → Zeros exponent entries symbols start from stop log₀ from log₀
-  zeros-start h = record { lower = omega arith; upper = h; long = refl; passed = λ shift part places left g l m e s. refl }
+  zeros-start h = record { lower = omega arith; upper = h; long = refl; passed = λ shift coeffMap places left g l m e s. refl }
 
   pub zeros-turn : (k : ℕ) (log : List ℕ) → k < stop → stop ≤ 63 * 2 ^ exponent → start + stop ≤ length symbols → getD symbols (start + k) 0 ≡ 0
       → Zeros exponent entries symbols start from stop log₀ k log
@@ -75,13 +75,13 @@ module _ (exponent : ℕ) (entries symbols : List ℕ) (start from stop : ℕ) (
         lower = omega (arith, z .lower);
         upper = omega arith;
         long = length-set log (start + k) (getD entries (getD FREQ (k / 2 ^ exponent) 0 * 2) 0) ∙ z .long;
-        passed = λ shift part places left g l m e s.
+        passed = λ shift coeffMap places left g l m e s.
             let x : ℕ = getD NUM-NONZERO ((left - 1) / 2 ^ exponent) 0 in
             let y : ℕ = getD FREQ (k / 2 ^ exponent) 0 in
             let c : coeffContext (2 ^ exponent) (left - 1) k 0 ≡ 2 * x + y * 2 = unfold coeffContext in omega arith in
-            let d : getD entries (y * 2) 0 ≡ getD part (coeffContext (2 ^ exponent) (left - 1) k 0) 0 = rw (e, c) (getD-drop (2 * x) part (y * 2) 0) in
+            let d : getD entries (y * 2) 0 ≡ getD coeffMap (coeffContext (2 ^ exponent) (left - 1) k 0) 0 = rw (e, c) (getD-drop (2 * x) coeffMap (y * 2) 0) in
             let a : start + (k + 1) ≡ start + k + 1 = omega arith in
-            rw (d, a) (sym (walk-zero shift (2 ^ exponent) part places symbols k 0 left (start + k) log g (omega arith) l (context-fits exponent (left - 1) k 0 (omega arith) (omega arith) (omega arith)) (omega arith) u) ∙ z .passed shift part places left g l m e s);
+            rw (d, a) (sym (walk-zero shift (2 ^ exponent) coeffMap places symbols k 0 left (start + k) log g (omega arith) l (context-fits exponent (left - 1) k 0 (omega arith) (omega arith) (omega arith)) (omega arith) u) ∙ z .passed shift coeffMap places left g l m e s);
       }
 
 -- a sum in the cell, also for a symbol 0

@@ -11,7 +11,7 @@ use lib.ListN.{length, getD, set, replicate, length-replicate}
 use lib.Seq.{sets}
 use Rattle.refusal.specs.declared.Refusal.{Refusal}
 use Rattle.refusal.specs.declared.Refusal.the-variants.{SymbolsEnd, TooManyZeros, Count}
-use Rattle.coeff_walk.specs.Walk.{Walked, ended, stopped, walk, coeffContext, flag, less, gain}
+use Rattle.coeff_walk.specs.Walk.{Walked, done, stopped, walk, coeffContext, flag, less, gain}
 use Rattle.coeff_walk.specs.laws.Kept.{length-gain}
 use Rattle.coeff_walk.specs.laws.Contexts.{context-below}
 use Rattle.coeff_walk.specs.Sent.{Words, more, nonZeros, upTo}
@@ -53,7 +53,7 @@ pub data End : Type 0 where
   stops : (why : ℕ → Refusal) → End
 
 abbrev pub walkedBy : End → ℕ → List ℕ → List ℕ → Walked
-walkedBy (ends us left) at log g = ended us at log g left
+walkedBy (ends us left) at log g = done us at log g left
 walkedBy (stops why) at log g = stopped why at log g
 
 -- the same with more symbols behind
@@ -99,7 +99,7 @@ either ps n us true F H F′ H′ r q = r
 either ps n us false F H F′ H′ r q = q
 
 -- nothing is read
-ends-here : (ps : List ℕ) (n left : ℕ) (us : List ℕ) → n ≡ left → upTo n (none ps) ≡ [] → Run ps n us (λ s at log g. ended us at log g left) (λ vs s at log g. ended (us ++ vs) at log g left)
+ends-here : (ps : List ℕ) (n left : ℕ) (us : List ℕ) → n ≡ left → upTo n (none ps) ≡ [] → Run ps n us (λ s at log g. done us at log g left) (λ vs s at log g. done (us ++ vs) at log g left)
 ends-here ps n left us e f = record {
   clusters = [];
   ds = none ps;
@@ -160,20 +160,20 @@ later p ps n u k us F F′ r = record {
     shifted s at log g e =
         ap₂ (λ (m q : ℕ). walkedBy e m (sets (set log at k) q (r .clusters)) (gains s (gain s g p u) ps (r .ds))) (omega arith) (add-one at)
 
-module _ (blocks : ℕ) (part : List ℕ) where
+module _ (blocks : ℕ) (coeffMap : List ℕ) where
   pub run : (ps : List ℕ) (i prev n : ℕ) (us : List ℕ)
-      → Run ps n us (λ s at log g. walk s blocks part ps i prev n us at log g) (λ vs s at log g. walk s blocks part ps i prev n (us ++ vs) at log g)
+      → Run ps n us (λ s at log g. walk s blocks coeffMap ps i prev n us at log g) (λ vs s at log g. walk s blocks coeffMap ps i prev n (us ++ vs) at log g)
   unfolding walk upTo
   run [] i prev n us = ends-here [] n n us refl refl
   run (p ∷ ps) i prev zero us = ends-here (p ∷ ps) 0 0 us refl refl
   run (p ∷ ps) i prev (suc n) [] = go (ltb (coeffContext blocks n i prev) 458)
     where
-      go : (b : Bool) → Run (p ∷ ps) (suc n) [] (λ s at log g. cond b (stopped SymbolsEnd at log g) (stopped TooManyZeros at log g)) (λ vs s at log g. walk s blocks part (p ∷ ps) i prev (suc n) vs at log g)
+      go : (b : Bool) → Run (p ∷ ps) (suc n) [] (λ s at log g. cond b (stopped SymbolsEnd at log g) (stopped TooManyZeros at log g)) (λ vs s at log g. walk s blocks coeffMap (p ∷ ps) i prev (suc n) vs at log g)
       go true = stops-here (p ∷ ps) (suc n) [] _ SymbolsEnd (symbolsEnd refl refl)
       go false = stops-here (p ∷ ps) (suc n) [] _ TooManyZeros (tooManyZeros refl (omega arith))
   run (p ∷ ps) i prev (suc n) (u ∷ us) =
       either (p ∷ ps) (suc n) (u ∷ us) (ltb (coeffContext blocks n i prev) 458) _ _ _ _
-      (later p ps n u (getD part (coeffContext blocks n i prev) 0) us _ _ (run ps (i + 1) (flag u) (less u n) us))
+      (later p ps n u (getD coeffMap (coeffContext blocks n i prev) 0) us _ _ (run ps (i + 1) (flag u) (less u n) us))
       (stops-here (p ∷ ps) (suc n) (u ∷ us) (λ vs s at log g. stopped TooManyZeros at log g) TooManyZeros (tooManyZeros refl (omega arith)))
 
 -- Symbols that are sent are read.
@@ -190,12 +190,12 @@ gains-zeros s g [] (d ∷ ds) e = refl
 gains-zeros s g (p ∷ ps) (zero ∷ ds) e = gains-zeros s g ps ds e
 gains-zeros s g (p ∷ ps) (suc d ∷ ds) e = absurd (omega arith)
 
-module _ (s blocks : ℕ) (part : List ℕ) where
+module _ (s blocks : ℕ) (coeffMap : List ℕ) where
   -- a walk that reads rest and adds ds
   pub record Sent (ps ds : List ℕ) (i prev n : ℕ) (rest : List ℕ) (at : ℕ) (log g : List ℕ) : Type 0 where
     pub at′ : ℕ
     pub log′ : List ℕ
-    pub is : walk s blocks part ps i prev n (upTo n ds ++ rest) at log g ≡ ended rest at′ log′ (gains s g ps ds) 0
+    pub is : walk s blocks coeffMap ps i prev n (upTo n ds ++ rest) at log g ≡ done rest at′ log′ (gains s g ps ds) 0
 
   pub walk-sent : (ps ds : List ℕ) (i prev n : ℕ) (rest : List ℕ) (at : ℕ) (log g : List ℕ) → length ds ≡ length ps → n ≡ nonZeros ds → i + length ps ≤ 63 * blocks → prev ≤ 1
       → Sent ps ds i prev n rest at log g
@@ -205,8 +205,8 @@ module _ (s blocks : ℕ) (part : List ℕ) where
   walk-sent (p ∷ ps) [] i prev n rest at log g l e b f = absurd (omega arith)
   walk-sent (p ∷ ps) (d ∷ ds) i prev zero rest at log g l e b f = record { at′ = at; log′ = log; is = rw (gains-zeros s g (p ∷ ps) (d ∷ ds) (unfold nonZeros in sym e)) }
   walk-sent (p ∷ ps) (zero ∷ ds) i prev (suc n) rest at log g l e b f =
-      let r = walk-sent ps ds (i + 1) 0 (suc n) rest (at + 1) (set log at (getD part (coeffContext blocks n i prev) 0)) g (omega arith) e (omega arith) (omega arith) in
+      let r = walk-sent ps ds (i + 1) 0 (suc n) rest (at + 1) (set log at (getD coeffMap (coeffContext blocks n i prev) 0)) g (omega arith) e (omega arith) (omega arith) in
       record { at′ = r .at′; log′ = r .log′; is = rw (lt-ltb (coeffContext blocks n i prev) 458 (context-below blocks n i prev (omega (arith, nonZeros-le ds)) f)) (r .is) }
   walk-sent (p ∷ ps) (suc d ∷ ds) i prev (suc n) rest at log g l e b f =
-      let r = walk-sent ps ds (i + 1) 1 n rest (at + 1) (set log at (getD part (coeffContext blocks n i prev) 0)) (gain s g p (suc d)) (omega arith) (omega arith) (omega arith) (omega arith) in
+      let r = walk-sent ps ds (i + 1) 1 n rest (at + 1) (set log at (getD coeffMap (coeffContext blocks n i prev) 0)) (gain s g p (suc d)) (omega arith) (omega arith) (omega arith) (omega arith) in
       record { at′ = r .at′; log′ = r .log′; is = rw (lt-ltb (coeffContext blocks n i prev) 458 (context-below blocks n i prev (omega (arith, nonZeros-le ds)) f)) (r .is) }

@@ -1,7 +1,7 @@
 use Prim.Native.Nat.{ℕ}
 use Rattle.refusal.specs.declared.Refusal.the-variants.{BitsEnd}
 use Rattle.refusal.specs.Said.{said}
-use Rattle.bits.specs.declared.Place.{Place}
+use Rattle.bits.specs.declared.BitPlace.{BitPlace}
 use Rattle.bits.specs.Bits.{readBits}
 use Rattle.bits.specs.Reads.{bitsBefore, gotOf}
 use Rattle.bits.specs.laws.Laws.{WasValue, was-value, was-end, before-at, value-at}
@@ -21,7 +21,7 @@ bit c =
     let s = c .before .before .before .before .before .before .args .bytes .now in
     let g = c .first2 .given in
     was-value 0 (readBits s 0 1) (g .0 .0) (g .0 .1 .0)
-    (ap (λ (p : Place). gotOf (bitsBefore p) (readBits s (bitsBefore p) 1)) (sym (c .before .before .before .start .ensures)) ∙ sym (c .before .before .read-bits .ensures) ∙ g .1)
+    (ap (λ (p : BitPlace). gotOf (bitsBefore p) (readBits s (bitsBefore p) 1)) (sym (c .before .before .before .start .ensures)) ∙ sym (c .before .before .read-bits .ensures) ∙ g .1)
 
 bit-near : (c : tie.After-first2) → (bitsBefore (c .first2 .given .0 .1 .0) ≡ bit c .at) × (bit c .at ≡ 1)
 bit-near c =
@@ -49,7 +49,7 @@ returns-2 c =
     let s = a .bytes .now in
     let g = c .before .before .first .given in
     let e = was-end 0 (readBits s 0 1) (g .0 .0)
-    (ap (λ (p : Place). gotOf (bitsBefore p) (readBits s (bitsBefore p) 1)) (sym (c .before .before .before .before .before .start .ensures)) ∙ sym (c .before .before .before .before .read-bits .ensures) ∙ g .1)
+    (ap (λ (p : BitPlace). gotOf (bitsBefore p) (readBits s (bitsBefore p) 1)) (sym (c .before .before .before .before .before .start .ensures)) ∙ sym (c .before .before .before .before .read-bits .ensures) ∙ g .1)
     in
     let t : g .0 .0 ≡ e .at = omega (arith, e .taken) in
     c .refuse .ensures (a .lf-thresholds .now) (a .qf-thresholds .now) (a .block-ctx-map .now)

@@ -8,10 +8,10 @@ use lib.Dec.{T, leb, eqb}
 use lib.ListN.{length}
 use borrow.Author.Tests.{le-leb, lt-leb, eq-eqb, ne-eqb, leb-true, eqb-true}
 use Rattle.refusal.specs.declared.Refusal.the-variants.{BitsEnd}
-use Rattle.refusal.specs.Said.{at as saidAt, said}
+use Rattle.refusal.specs.Said.{saidAt as saidAt, said}
 use Rattle.refusal.specs.Answer.{gives, refuses, passed}
 use Rattle.refusal.specs.laws.Answer.{pass}
-use Rattle.bits.specs.declared.Place.{Place}
+use Rattle.bits.specs.declared.BitPlace.{BitPlace}
 use Rattle.bits.specs.Bits.{Bytes, Read, Value, Ended, then, readBits}
 use Rattle.bits.specs.Reads.{placeAt, bitsBefore}
 use Rattle.bits.specs.laws.Laws.{before-at}
@@ -25,7 +25,8 @@ use Rattle.context_thresholds.specs.declared.Thresholds.{Thresholds}
 use Rattle.context_thresholds.specs.Thresholds.{listsOf, lfValue, qfValue, readList, readLists, pad}
 use Rattle.context_thresholds.specs.laws.Steps.{readValue, thresholdsOf}
 use Rattle.context_thresholds.specs.laws.Lists.{value-near, list-near}
-use Rattle.context_call.specs.Call.{Outcome, recordOf, contextsOf, accepted, refused, judged, judgedAs, judgedLists, orEnded, noLists, DEFAULT-MAP, parsed}
+use Rattle.context_record.specs.Record.{recordOf}
+use Rattle.context_call.specs.Call.{Outcome, contextsOf, accepted, refused, judged, judgedAs, judgedLists, orEnded, noLists, DEFAULT-MAP, parsed}
 
 -- The tests behind the bits.
 module _ (count : ℕ) (map lengths : List ℕ) where
@@ -70,7 +71,7 @@ module _ (count : ℕ) (map lengths : List ℕ) where
       (leb-true n 64 (a .0), eqb-true (length map) (39 * n) (b .0), leb-true 1 count (c .0), leb-true count 16 (d .0), pass 12 (bytesBelow count map) passed u (d .1) .0)
 
 -- What a list's thresholds say of the reading.
-pub record WasList (s : List ℕ) (value : ℕ → Read ℕ) (p : ℕ) (t : Thresholds) (n : ℕ) (q : Place) : Type 0 where
+pub record WasList (s : List ℕ) (value : ℕ → Read ℕ) (p : ℕ) (t : Thresholds) (n : ℕ) (q : BitPlace) : Type 0 where
   pub vs : List ℕ
   pub is : readList s value p ≡ Value vs (bitsBefore q)
   pub count : length vs ≡ n
@@ -90,7 +91,7 @@ module _ (s : List ℕ) (value : ℕ → Read ℕ) (near : (p : ℕ) → Near (�
   says : (r : Read (List ℕ)) → readList s value p ≡ r → t ≡ thresholdsOf p r
   says r i = e ∙ ap (thresholdsOf p) i
 
-  was-list : (n : ℕ) (q : Place) → t .step ≡ listStep.Listed n q → WasList s value p t n q
+  was-list : (n : ℕ) (q : BitPlace) → t .step ≡ listStep.Listed n q → WasList s value p t n q
   was-list n q f = go (readList s value p) refl
     where
       go : (r : Read (List ℕ)) → readList s value p ≡ r → WasList s value p t n q
@@ -123,8 +124,8 @@ module _ (s : List ℕ) (value : ℕ → Read ℕ) (near : (p : ℕ) → Near (�
           record { is = i ∙ ap (λ (x : ℕ). Ended x) b; near = omega arith }
 
 -- of a list of either kind, as the code reads it
-module _ (s : List ℕ) (h : Bytes s) (kind : Kind) (p : Place) (t : Thresholds) (e : t ≡ thresholdsOf (bitsBefore p) (readList s (readValue kind s) (bitsBefore p))) where
-  pub list-was : (n : ℕ) (q : Place) → t .step ≡ listStep.Listed n q → WasList s (readValue kind s) (bitsBefore p) t n q
+module _ (s : List ℕ) (h : Bytes s) (kind : Kind) (p : BitPlace) (t : Thresholds) (e : t ≡ thresholdsOf (bitsBefore p) (readList s (readValue kind s) (bitsBefore p))) where
+  pub list-was : (n : ℕ) (q : BitPlace) → t .step ≡ listStep.Listed n q → WasList s (readValue kind s) (bitsBefore p) t n q
   list-was = was-list s (readValue kind s) (value-near s h kind) h (bitsBefore p) t e
 
   pub list-ended : (k : ℕ) → t .step ≡ listStep.End k → WasShort s (readValue kind s) (bitsBefore p) k

@@ -31,8 +31,8 @@ unfolding above
 above-le [] q = omega arith
 above-le (t ∷ ts) q = more (greater q t) (above-le ts q)
 
-pub qf-index-lt : (C : Contexts) (mul : ℕ) → qfIndex C mul < length (C .qf) + 1
-qf-index-lt C mul = omega (arith, above-le (C .qf) mul)
+pub qf-index-lt : (C : Contexts) (hfMul : ℕ) → qfIndex C hfMul < length (C .qf) + 1
+qf-index-lt C hfMul = omega (arith, above-le (C .qf) hfMul)
 
 swap : (a b c : ℕ) → a * c * b ≡ a * b * c
 swap a b c = mul-assoc a c b ∙ ap (λ (n : ℕ). a * n) (mul-comm c b) ∙ sym (mul-assoc a b c)
@@ -63,10 +63,10 @@ index-lt C n order qf lf hn ho hq hl =
     (mul-assoc 39 (length (C .qf) + 1) (lfSize C) ∙ ap (λ (m : ℕ). 39 * m) (mul-comm (length (C .qf) + 1) (lfSize C)))
     (digits-lt (digits-lt {q = n * 13 + order} {m = 39} {r = qf} {c = length (C .qf) + 1} (omega arith) hq) hl)
 
-pub block-index-lt : (C : Contexts) (n order mul : ℕ) (there : Bool) (q0 q1 q2 : ℕ) → n < 3 → order < 13
-    → contextIndex C n order (qfIndex C mul) (lfIndexOf C there q0 q1 q2) < 39 * bsize C
-block-index-lt C n order mul there q0 q1 q2 hn ho =
-    index-lt C n order (qfIndex C mul) (lfIndexOf C there q0 q1 q2) hn ho (qf-index-lt C mul) (lf-index-of-lt C there q0 q1 q2)
+pub block-index-lt : (C : Contexts) (n order hfMul : ℕ) (there : Bool) (q0 q1 q2 : ℕ) → n < 3 → order < 13
+    → contextIndex C n order (qfIndex C hfMul) (lfIndexOf C there q0 q1 q2) < 39 * bsize C
+block-index-lt C n order hfMul there q0 q1 q2 hn ho =
+    index-lt C n order (qfIndex C hfMul) (lfIndexOf C there q0 q1 q2) hn ho (qf-index-lt C hfMul) (lf-index-of-lt C there q0 q1 q2)
 
 ltb-same : (x y u v : ℕ) → (x < y → u < v) → (y ≤ x → v ≤ u) → ltb x y ≡ ltb u v
 ltb-same x y u v f g =
@@ -102,8 +102,8 @@ used-size-le R =
     (take-le _ (R .«qf_thresholds»))
 
 -- the block context of any varblock is one of the record's clusters
-pub context-lt : (R : HfBlockContext) (n order mul : ℕ) (there : Bool) (q0 q1 q2 : ℕ) → fit R ≡ true → n < 3 → order < 13
-    → blockContext (used R) n order mul there q0 q1 q2 < R .«num_block_clusters»
-context-lt R n order mul there q0 q1 q2 e hn ho =
+pub context-lt : (R : HfBlockContext) (n order hfMul : ℕ) (there : Bool) (q0 q1 q2 : ℕ) → fit R ≡ true → n < 3 → order < 13
+    → blockContext (used R) n order hfMul there q0 q1 q2 < R .«num_block_clusters»
+context-lt R n order hfMul there q0 q1 q2 e hn ho =
     let f = is-fit R e in
-    fit-byte (R .«num_block_clusters») (R .lengths) (R .«qf_thresholds») (R .«block_ctx_map») f _ (omega (arith, block-index-lt (used R) n order mul there q0 q1 q2 hn ho, used-size-le R))
+    fit-byte (R .«num_block_clusters») (R .lengths) (R .«qf_thresholds») (R .«block_ctx_map») f _ (omega (arith, block-index-lt (used R) n order hfMul there q0 q1 q2 hn ho, used-size-le R))

@@ -6,5 +6,5 @@ use Rattle.context_index.specs.Contexts.{Contexts, blockContext}
 
 -- of the channels 1, 0, 2, as they are walked
 abbrev pub blockContexts : Contexts → ℕ → ℕ → Bool → ℕ → ℕ → ℕ → List ℕ
-blockContexts C order mul there q0 q1 q2 =
-    blockContext C 0 order mul there q0 q1 q2 ∷ blockContext C 1 order mul there q0 q1 q2 ∷ blockContext C 2 order mul there q0 q1 q2 ∷ []
+blockContexts C order hfMul there q0 q1 q2 =
+    blockContext C 0 order hfMul there q0 q1 q2 ∷ blockContext C 1 order hfMul there q0 q1 q2 ∷ blockContext C 2 order hfMul there q0 q1 q2 ∷ []

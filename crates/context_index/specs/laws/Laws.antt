@@ -86,10 +86,10 @@ lf-size-is xs n0 n1 n2 long =
     rw (part-length xs 0 n0 (omega arith), part-length xs 15 n1 (omega arith), part-length xs 30 n2 (omega arith))
 
 -- the three block contexts of a varblock, by the sizes that the code computes
-module _ (C : Contexts) (order mul : ℕ) (there : Bool) (q0 q1 q2 : ℕ) (qfs lfs qf lf a b c : ℕ) where
-  pub contexts-are : qfs ≡ length (C .qf) + 1 → lfs ≡ lfSize C → qf ≡ qfIndex C mul → lf ≡ lfIndexOf C there q0 q1 q2
+module _ (C : Contexts) (order hfMul : ℕ) (there : Bool) (q0 q1 q2 : ℕ) (qfs lfs qf lf a b c : ℕ) where
+  pub contexts-are : qfs ≡ length (C .qf) + 1 → lfs ≡ lfSize C → qf ≡ qfIndex C hfMul → lf ≡ lfIndexOf C there q0 q1 q2
       → a ≡ getD (C .map) (placeOf qfs lfs 0 order qf lf) 0
       → b ≡ getD (C .map) (placeOf qfs lfs 1 order qf lf) 0
       → c ≡ getD (C .map) (placeOf qfs lfs 2 order qf lf) 0
-      → a ∷ b ∷ c ∷ [] ≡ blockContexts C order mul there q0 q1 q2
+      → a ∷ b ∷ c ∷ [] ≡ blockContexts C order hfMul there q0 q1 q2
   contexts-are e f g h x y z = rw (x, y, z, e, f, g, h)

@@ -5,7 +5,7 @@ use Prim.Native.Nat.{ℕ, suc, _+_, _*_, _-_, _%_, _≤_, _<_}
 use native.Mathlib.Omega.{arith}
 use lib.ListN.{length, set, replicate, length-append}
 use lib.Seq.{set-at}
-use Rattle.bits.specs.declared.Place.{Place}
+use Rattle.bits.specs.declared.BitPlace.{BitPlace}
 use Rattle.bits.specs.Bits.{Bytes, Read, Value, Ended, readBits}
 use Rattle.bits.specs.declared.Got.the-variants as got
 use Rattle.bits.specs.Reads.{gotOf, bitsBefore, placeAt}
@@ -29,7 +29,7 @@ prefix-more vs v (Value ws at) = ap (λ (l : List ℕ). Value l at) (sym (append
 prefix-more vs v (Ended at) = refl
 
 -- k of n values from bit from on are read, and q is the place behind them
-pub record Half (value : ℕ → Read ℕ) (n from : ℕ) (values : List ℕ) (q : Place) (k : ℕ) : Type 0 where
+pub record Half (value : ℕ → Read ℕ) (n from : ℕ) (values : List ℕ) (q : BitPlace) (k : ℕ) : Type 0 where
   pub done : List ℕ
   pub count : length done ≡ k
   pub is : values ≡ pad 15 done
@@ -48,7 +48,7 @@ pad-more vs v k e h =
     ∙ set-at vs 0 (replicate m 0) v k e
     ∙ sym (append-assoc vs (v ∷ []) (replicate m 0))
 
-listed : (start n : ℕ) (q : Place) (values done : List ℕ) (at : ℕ) → length done ≡ n → q ≡ placeAt at → values ≡ pad 15 done
+listed : (start n : ℕ) (q : BitPlace) (values done : List ℕ) (at : ℕ) → length done ≡ n → q ≡ placeAt at → values ≡ pad 15 done
     → record { step = listStep.Listed n q; values = values } ≡ thresholdsOf start (Value done at)
 listed start n q values done at c p v = rw (← c, p, v)
 
@@ -65,7 +65,7 @@ module _ (value : ℕ → Read ℕ) (n from : ℕ) where
   unfolding readValues
   none p = refl
 
-  pub half-start : (q : Place) → q ≡ placeAt from → Half value n from (replicate 15 0) q 0
+  pub half-start : (q : BitPlace) → q ≡ placeAt from → Half value n from (replicate 15 0) q 0
   half-start q e =
       let z : n - 0 ≡ n = omega arith in
       record {
@@ -79,8 +79,8 @@ module _ (value : ℕ → Read ℕ) (n from : ℕ) where
         left = prefix-nil (readValues value (n - 0) from) ∙ ap (λ (j : ℕ). readValues value j from) z;
       }
 
-  module _ (values : List ℕ) (q : Place) (k : ℕ) (h : Half value n from values q k) (l : k < n) where
-    pub half-step : (v at : ℕ) (r : Place) → n ≤ 15 → ((w b : ℕ) → value (h .at) ≡ Value w b → (b ≤ h .at + 34) × (h .at ≤ b)) → value (h .at) ≡ Value v at → r ≡ placeAt at
+  module _ (values : List ℕ) (q : BitPlace) (k : ℕ) (h : Half value n from values q k) (l : k < n) where
+    pub half-step : (v at : ℕ) (r : BitPlace) → n ≤ 15 → ((w b : ℕ) → value (h .at) ≡ Value w b → (b ≤ h .at + 34) × (h .at ≤ b)) → value (h .at) ≡ Value v at → r ≡ placeAt at
         → Half value n from (set values k v) r (k + 1)
     half-step v at r m near e f =
         let a : n - k ≡ suc (n - (k + 1)) = omega arith in
@@ -106,7 +106,7 @@ module _ (value : ℕ → Read ℕ) (n from : ℕ) where
         in
         rw r
 
-  pub half-done : (start : ℕ) (values : List ℕ) (q : Place) (k : ℕ) → Half value n from values q k → k ≡ n
+  pub half-done : (start : ℕ) (values : List ℕ) (q : BitPlace) (k : ℕ) → Half value n from values q k → k ≡ n
       → record { step = listStep.Listed n q; values = values } ≡ thresholdsOf start (readValues value n from)
   half-done start values q k h e =
       let a : n - k ≡ 0 = omega arith in
@@ -126,16 +126,16 @@ module _ (s : List ℕ) (value : ℕ → Read ℕ) (p : ℕ) where
   unfolding readList
   list-short k e = let w = was-end p (readBits s p 4) k e in rw (w .is) (ap (λ (x : ℕ). record { step = listStep.End x; values = replicate 15 0 }) (w .taken))
 
-  pub list-begins : (n : ℕ) (q : Place) → gotOf p (readBits s p 4) ≡ got.Value n q → readList s value p ≡ readValues value n (bitsBefore q)
+  pub list-begins : (n : ℕ) (q : BitPlace) → gotOf p (readBits s p 4) ≡ got.Value n q → readList s value p ≡ readValues value n (bitsBefore q)
   unfolding readList
   list-begins n q e =
       let w = was-value p (readBits s p 4) n q e in
       let t : w .at ≡ bitsBefore q = sym (ap bitsBefore (w .place) ∙ before-at (w .at)) in
       rw (w .is, t)
 
-  pub list-length : (n : ℕ) (q : Place) → Bytes s → gotOf p (readBits s p 4) ≡ got.Value n q → (n ≤ 15) × (q .bit < 8) × (bitsBefore q ≡ p + 4)
+  pub list-length : (n : ℕ) (q : BitPlace) → Bytes s → gotOf p (readBits s p 4) ≡ got.Value n q → (n ≤ 15) × (q .bit < 8) × (bitsBefore q ≡ p + 4)
   list-length n q h e =
       let w = was-value p (readBits s p 4) n q e in
       let t : bitsBefore q ≡ w .at = ap bitsBefore (w .place) ∙ before-at (w .at) in
-      let b : q .bit ≡ w .at % 8 = ap (λ (x : Place). x .bit) (w .place) in
+      let b : q .bit ≡ w .at % 8 = ap (λ (x : BitPlace). x .bit) (w .place) in
       (omega (arith, field-lt s h p 4 n (w .at) (w .is)), omega (arith, b), t ∙ value-at s p 4 n (w .at) (w .is) .0)

@@ -4,7 +4,7 @@ use mathlib.Core.List.{List}
 use Prim.Native.Nat.{ℕ, _+_, _-_, _%_, _^_, _≤_, _<_}
 use native.Mathlib.Omega.{arith}
 use lib.ListN.{length, replicate}
-use Rattle.bits.specs.declared.Place.{Place}
+use Rattle.bits.specs.declared.BitPlace.{BitPlace}
 use Rattle.bits.specs.declared.Got.the-variants as got
 use Rattle.bits.specs.Bits.{Read, Value, Ended, then}
 use Rattle.bits.specs.Reads.{gotOf, placeAt}
@@ -27,7 +27,7 @@ thresholdsOf from (Ended at) = record { step = listStep.End (at - from); values 
 abbrev by : (ℕ → ℕ) → Read ℕ → Read ℕ
 by f r = then r (λ u at. Value (f u) at)
 
-pub by-value : (f : ℕ → ℕ) (p : ℕ) (r : Read ℕ) (u : ℕ) (q : Place) → gotOf p r ≡ got.Value u q → got.Value (f u) q ≡ gotOf p (by f r)
+pub by-value : (f : ℕ → ℕ) (p : ℕ) (r : Read ℕ) (u : ℕ) (q : BitPlace) → gotOf p r ≡ got.Value u q → got.Value (f u) q ≡ gotOf p (by f r)
 by-value f p (Value w at) u q e = let a : w ≡ u = cc in let b : placeAt at ≡ q = cc in cc
 by-value f p (Ended at) u q e = absurd (let z : _≡_ {A = ℕ} 0 1 = cc in omega arith)
 

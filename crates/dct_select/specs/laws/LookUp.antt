@@ -7,9 +7,9 @@ use lib.Dec.{eqb, eqb→eq}
 use lib.ListN.{List·getD-eq-default}
 use Rattle.laws.specs.laws.Cases.{le-or-lt}
 use Rattle.refusal.specs.declared.Said.{Said}
-use Rattle.refusal.specs.Said.{at}
+use Rattle.refusal.specs.Said.{saidAt}
 use Rattle.refusal.specs.Answer.{Answer, gives, refuses}
-use Rattle.order_sizes.specs.declared.Sides.{Sides}
+use Rattle.dct_select.specs.declared.Sides.{Sides}
 use Rattle.dct_select.specs.declared.Carried.{Carried}
 use Rattle.dct_select.specs.declared.TransformType.{TransformType}
 use Rattle.dct_select.specs.Transforms.{wide, high, orderOf, turns}
@@ -29,8 +29,8 @@ numberIn (refuses r) = 27
 pub number-at : (t : ℕ) → t < 27 → numberIn (lookUp t) ≡ t
 number-at t h = eqb→eq (numberIn (lookUp t)) t (below-27 (λ (t : ℕ). eqb (numberIn (lookUp t)) t) tt t h)
 
-pub none-at : (t : ℕ) → 27 ≤ t → lookUp t ≡ refuses (at 5 0 0)
-none-at t h = List·getD-eq-default known (refuses (at 5 0 0)) {n = t} h
+pub none-at : (t : ℕ) → 27 ≤ t → lookUp t ≡ refuses (saidAt 5 0 0)
+none-at t h = List·getD-eq-default known (refuses (saidAt 5 0 0)) {n = t} h
 
 pub known-is : (t : ℕ) (k : TransformType) → lookUp t ≡ gives k → (t < 27) × (numberOf k ≡ t)
 known-is t k e = go (le-or-lt 27 t)

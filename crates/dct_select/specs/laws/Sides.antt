@@ -5,12 +5,21 @@ use mathlib.Core.Bool.{Bool, true, false, cond}
 use mathlib.Core.Logic.{_↔_}
 use Prim.Native.Nat.{ℕ, _*_, _/_, _≤_, _<_, min, max}
 use native.Mathlib.Omega.{arith}
-use lib.Dec.{T, eqb, leb, leb→le, eqb→eq}
-use Rattle.dct_select.specs.Transforms.{TRANSFORMS, wide, high, orderOf, turns, turnedX, turnedY}
+use lib.Dec.{T, ltb, eqb, leb, leb→le, ltb→lt, eqb→eq}
+use Rattle.dct_select.specs.Transforms.{TRANSFORMS, wide, high, orderOf, turns, across, down}
 use Rattle.order_sizes.specs.BlockSizes.{BLOCK-SIZES, widthOf, heightOf}
 use Rattle.dct_select.specs.laws.Rules.{below-27}
 
+-- an order's width and height as the sides of a varblock, swapped where it turns
+pub data OrderSides (turn : Bool) (w h width height : ℕ) : Type 0 where
+  swapped : turn ≡ true → height ≡ 8 * w → width ≡ 8 * h → OrderSides turn w h width height
+  straight : turn ≡ false → width ≡ 8 * w → height ≡ 8 * h → OrderSides turn w h width height
+
 module _ (t : ℕ) (known : t < 27) where
+  pub order-lt : orderOf t < 13
+  unfolding orderOf TRANSFORMS
+  order-lt = ltb→lt (orderOf t) 13 (below-27 (λ (t : ℕ). ltb (orderOf t) 13) tt t known)
+
   -- a side is 1 to 32 blocks
   pub wide-some : 1 ≤ wide t
   unfolding wide TRANSFORMS
@@ -58,20 +67,27 @@ module _ (t : ℕ) (known : t < 27) where
   unturned : turns t ≡ false → high t ≤ wide t
   unturned e = leb→le (high t) (wide t) (rw e at by-turn)
 
+  pub sides-of : OrderSides (turns t) (wide t) (high t) (widthOf (orderOf t)) (heightOf (orderOf t))
+  sides-of = go (turns t) refl
+    where
+      go : (b : Bool) → turns t ≡ b → OrderSides (turns t) (wide t) (high t) (widthOf (orderOf t)) (heightOf (orderOf t))
+      go true e = let n = turned e in swapped e (omega (arith, smaller-side)) (omega (arith, larger-side))
+      go false e = let n = unturned e in straight e (omega (arith, larger-side)) (omega (arith, smaller-side))
+
 module _ (t : ℕ) (known : t < 27) (x y : ℕ) where
   -- a place of the order is a cell of the varblock
-  pub inside : x < widthOf (orderOf t) → y < heightOf (orderOf t) → (turnedX t x y < 8 * wide t) × (turnedY t x y < 8 * high t)
+  pub inside : x < widthOf (orderOf t) → y < heightOf (orderOf t) → (across (turns t) x y < 8 * wide t) × (down (turns t) x y < 8 * high t)
   inside h l = go (turns t) refl
     where
-      go : (b : Bool) → turns t ≡ b → (turnedX t x y < 8 * wide t) × (turnedY t x y < 8 * high t)
+      go : (b : Bool) → turns t ≡ b → (across (turns t) x y < 8 * wide t) × (down (turns t) x y < 8 * high t)
       go true e = let n = turned t known e in rw e (omega (arith, larger-side t known, smaller-side t known), omega (arith, larger-side t known, smaller-side t known))
       go false e = let n = unturned t known e in rw e (omega (arith, larger-side t known, smaller-side t known), omega (arith, larger-side t known, smaller-side t known))
 
   -- the order's corner of one place in 64 is the varblock's corner, as many cells wide and high as it has blocks
-  pub corner : (x < widthOf (orderOf t) / 8) × (y < heightOf (orderOf t) / 8) ↔ (turnedX t x y < wide t) × (turnedY t x y < high t)
+  pub corner : (x < widthOf (orderOf t) / 8) × (y < heightOf (orderOf t) / 8) ↔ (across (turns t) x y < wide t) × (down (turns t) x y < high t)
   corner = go (turns t) refl
     where
-      go : (b : Bool) → turns t ≡ b → (x < widthOf (orderOf t) / 8) × (y < heightOf (orderOf t) / 8) ↔ (turnedX t x y < wide t) × (turnedY t x y < high t)
+      go : (b : Bool) → turns t ≡ b → (x < widthOf (orderOf t) / 8) × (y < heightOf (orderOf t) / 8) ↔ (across (turns t) x y < wide t) × (down (turns t) x y < high t)
       go true e = let n = turned t known e in let a = larger-side t known in let b = smaller-side t known in
           rw e (λ h. (omega arith, omega arith), λ h. (omega arith, omega arith))
       go false e = let n = unturned t known e in let a = larger-side t known in let b = smaller-side t known in

@@ -12,7 +12,7 @@ use lib.Seq.{getD-set-other}
 use borrow.Author.Tests.{le-leb, lt-leb}
 use Rattle.layout.specs.Kinds.{wideOf, highOf}
 use Rattle.layout.specs.laws.Kinds.{wide-sized, high-sized}
-use Rattle.layout.specs.Walk.{cells, rows, walk}
+use Rattle.layout.specs.Walk.{cells, rows, rowByRow}
 use Rattle.layout.specs.laws.Walk.{beside}
 use Rattle.laws.specs.laws.Cases.{eq-or-ne}
 use Rattle.layout.specs.laws.Stretch.{Place, left, inside, right, place}
@@ -154,10 +154,10 @@ module _ (bw bh : ℕ) (K M : Cells) where
       let q : length u * bh ≡ bw * bh = rw (r .size) in
       omega arith
 
-  walked : Valid bw bh K M → walk (add K) bw bh 0 ≡ bw * bh
+  walked : Valid bw bh K M → rowByRow (add K) bw bh 0 ≡ bw * bh
   unfolding Grown
   walked ok =
-      end (walk (visit bw bh K M) bw bh (Until (replicate bw 0))) (walk (add K) bw bh 0) (valid-check bw bh K M ok bw (omega arith))
+      end (rowByRow (visit bw bh K M) bw bh (Until (replicate bw 0))) (rowByRow (add K) bw bh 0) (valid-check bw bh K M ok bw (omega arith))
       (beside (visit bw bh K M) (add K) bw bh Grown step turn (Until (replicate bw 0)) 0
       (record {
         size = length-replicate bw 0;

@@ -7,7 +7,7 @@ use Prim.Native.Nat.{ℕ, _+_, _≤_, _<_}
 use native.Mathlib.Omega.{arith}
 use lib.ListN.{length, getD, replicate, length-replicate, getD-replicate}
 use Rattle.layout.specs.Kinds.{wideOf, highOf}
-use Rattle.layout.specs.Walk.{walk}
+use Rattle.layout.specs.Walk.{rowByRow}
 use Rattle.layout.specs.laws.Walk.{backward}
 use Rattle.layout.specs.laws.Stretch.{Place, left, inside, right, place}
 use Rattle.layout.specs.Grid.{fillFrom}
@@ -197,7 +197,7 @@ module _ (bw bh : ℕ) (K M : Cells) where
   unfolding Promise
   check-valid room wide e =
       let r : Rest bw bh K M (replicate room 0) 0 0 =
-      backward (visit bw bh K M) bw bh Promise step turn (Until (replicate room 0)) (end (walk (visit bw bh K M) bw bh (Until (replicate room 0))) e)
+      backward (visit bw bh K M) bw bh Promise step turn (Until (replicate room 0)) (end (rowByRow (visit bw bh K M) bw bh (Until (replicate room 0))) e)
       (let z = length-replicate {A = ℕ} room 0 in omega arith) in
       record {
         fits = λ x y h l. r .fits x y (from-start x y) h l;

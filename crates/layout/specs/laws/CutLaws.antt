@@ -11,7 +11,7 @@ use lib.ListN.{length}
 use borrow.Author.Tests.{ltb-true}
 use Rattle.laws.specs.laws.Cases.{le-or-lt}
 use Rattle.layout.specs.Kinds.{wideOf, highOf}
-use Rattle.layout.specs.Grid.{at}
+use Rattle.layout.specs.Grid.{blockAt}
 use Rattle.layout.specs.laws.Grid.{grid-length, grid-at}
 use Rattle.layout.specs.Valid.{Cells, Covers, Fits, Owned, Valid, Layout}
 use Rattle.layout.specs.laws.Same.{valid-same}
@@ -66,23 +66,23 @@ module _ (bw bh : ℕ) (K M : Cells) (gx gy : ℕ) where
 module _ (bw bh g : ℕ) where
   pub cut-length : (l : List ℕ) → length (cut bw bh g l) ≡ groupBh bw bh g * groupBw bw g
   unfolding cut
-  cut-length l = grid-length (cutCells (at l bw) (groupX bw g) (groupY bw g)) (groupBw bw g) (groupBh bw bh g)
+  cut-length l = grid-length (cutCells (blockAt l bw) (groupX bw g) (groupY bw g)) (groupBw bw g) (groupBh bw bh g)
 
   -- each cell of the group is the layout's: corners stay corners
   pub cut-at : (l : List ℕ) (x y : ℕ) → x < groupBw bw g → y < groupBh bw bh g
-      → at (cut bw bh g l) (groupBw bw g) x y ≡ at l bw (32 * groupX bw g + x) (32 * groupY bw g + y)
+      → blockAt (cut bw bh g l) (groupBw bw g) x y ≡ blockAt l bw (32 * groupX bw g + x) (32 * groupY bw g + y)
   unfolding cut
-  cut-at l x y i j = grid-at (cutCells (at l bw) (groupX bw g) (groupY bw g)) (groupBw bw g) (groupBh bw bh g) x y i j
+  cut-at l x y i j = grid-at (cutCells (blockAt l bw) (groupX bw g) (groupY bw g)) (groupBw bw g) (groupBh bw bh g) x y i j
 
   pub cut-layout : (kinds hfMul : List ℕ) → Layout bw bh kinds hfMul → Layout (groupBw bw g) (groupBh bw bh g) (cut bw bh g kinds) (cut bw bh g hfMul)
   cut-layout kinds hfMul ok = record {
     kindsLength = cut-length kinds;
     hfMulLength = cut-length hfMul;
     valid = valid-same (groupBw bw g) (groupBh bw bh g)
-        (cutCells (at kinds bw) (groupX bw g) (groupY bw g)) (cutCells (at hfMul bw) (groupX bw g) (groupY bw g))
-        (at (cut bw bh g kinds) (groupBw bw g)) (at (cut bw bh g hfMul) (groupBw bw g))
+        (cutCells (blockAt kinds bw) (groupX bw g) (groupY bw g)) (cutCells (blockAt hfMul bw) (groupX bw g) (groupY bw g))
+        (blockAt (cut bw bh g kinds) (groupBw bw g)) (blockAt (cut bw bh g hfMul) (groupBw bw g))
         (λ x y i j. sym (cut-at kinds x y i j)) (λ x y i j. sym (cut-at hfMul x y i j))
-        (cut-valid bw bh (at kinds bw) (at hfMul bw) (groupX bw g) (groupY bw g) (ok .valid));
+        (cut-valid bw bh (blockAt kinds bw) (blockAt hfMul bw) (groupX bw g) (groupY bw g) (ok .valid));
   }
 
 -- The first block of a group is in the layout.

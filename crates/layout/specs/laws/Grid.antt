@@ -9,7 +9,7 @@ use lib.Arith.{digits-lt, digits-div, digits-mod}
 use lib.ListN.{length, getD, set, length-set, length-append, List·getD-append}
 use lib.Seq.{getD-set-same, getD-set-other, getD-append-add, ext-getD}
 use Rattle.laws.specs.laws.Cases.{eq-or-ne}
-use Rattle.layout.specs.Grid.{at, fillFrom, gridFrom, gridOf, rowOf}
+use Rattle.layout.specs.Grid.{blockAt, fillFrom, gridFrom, gridOf, rowOf}
 
 pub length-fill : (l : List ℕ) (i n v : ℕ) → length (fillFrom l i n v) ≡ length l
 unfolding fillFrom
@@ -66,10 +66,10 @@ cell-at (suc w) bh i h = record {
 }
 
 -- One cell set.
-pub set-same : (g : List ℕ) (bw bh x y v : ℕ) → length g ≡ bh * bw → x < bw → y < bh → at (set g (y * bw + x) v) bw x y ≡ v
+pub set-same : (g : List ℕ) (bw bh x y v : ℕ) → length g ≡ bh * bw → x < bw → y < bh → blockAt (set g (y * bw + x) v) bw x y ≡ v
 set-same g bw bh x y v e h l = let k : y * bw + x < length g = omega (arith, place-lt bw bh x y h l) in getD-set-same g (y * bw + x) v 0 k
 
-pub set-other : (g : List ℕ) (bw x y v a b : ℕ) → x < bw → a < bw → ((a ≡ x) × (b ≡ y) → ⊥) → at (set g (y * bw + x) v) bw a b ≡ at g bw a b
+pub set-other : (g : List ℕ) (bw x y v a b : ℕ) → x < bw → a < bw → ((a ≡ x) × (b ≡ y) → ⊥) → blockAt (set g (y * bw + x) v) bw a b ≡ blockAt g bw a b
 set-other g bw x y v a b h l n =
     getD-set-other g (y * bw + x) (b * bw + a) v 0 (λ e. n (place-col bw x y a b h l e, place-row bw x y a b h l e))
 
@@ -91,7 +91,7 @@ module _ (f : ℕ → ℕ → ℕ) where
   at-row (suc n) x y zero h = let e : x + 0 ≡ x = omega arith in rw e
   at-row (suc n) x y (suc i) h = let e : x + suc i ≡ x + 1 + i = omega arith in rw e (at-row n (x + 1) y i (omega arith))
 
-  at-grid : (w n y a b : ℕ) → a < w → b < n → at (gridFrom f w n y) w a b ≡ f a (y + b)
+  at-grid : (w n y a b : ℕ) → a < w → b < n → blockAt (gridFrom f w n y) w a b ≡ f a (y + b)
   unfolding gridFrom
   at-grid w zero y a b h l = absurd (omega arith)
   at-grid w (suc n) y a zero h l =
@@ -107,11 +107,11 @@ module _ (f : ℕ → ℕ → ℕ) where
   pub grid-length : (w h : ℕ) → length (gridOf f w h) ≡ h * w
   grid-length w h = length-grid w h 0
 
-  pub grid-at : (w h x y : ℕ) → x < w → y < h → at (gridOf f w h) w x y ≡ f x y
+  pub grid-at : (w h x y : ℕ) → x < w → y < h → blockAt (gridOf f w h) w x y ≡ f x y
   grid-at w h x y p q = let e : 0 + y ≡ y = omega arith in at-grid w h 0 x y p q ∙ ap (λ (i : ℕ). f x i) e
 
   -- a list with these cells is this grid
-  pub grid-is : (w h : ℕ) (l : List ℕ) → length l ≡ h * w → ((x y : ℕ) → x < w → y < h → at l w x y ≡ f x y) → l ≡ gridOf f w h
+  pub grid-is : (w h : ℕ) (l : List ℕ) → length l ≡ h * w → ((x y : ℕ) → x < w → y < h → blockAt l w x y ≡ f x y) → l ≡ gridOf f w h
   grid-is w h l e same = ext-getD 0 l (gridOf f w h) (e ∙ sym (grid-length w h)) (λ i j. go i (cell-at w h i (omega arith)))
     where
       go : (i : ℕ) → Cell w h i → getD l i 0 ≡ getD (gridOf f w h) i 0

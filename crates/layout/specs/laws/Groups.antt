@@ -6,17 +6,17 @@ use native.Mathlib.Omega.{arith}
 use borrow.Author.Tests.{lt-ltb}
 use Rattle.layout.specs.Cut.{groups, groupX, groupY}
 use Rattle.layout.specs.laws.CutLaws.{cut-at, groupAt, group-x, group-y, group-lt, block-in}
-use Rattle.layout.specs.Like.{Lent}
+use Rattle.layout.specs.Like.{LentLayout}
 use Rattle.layout.specs.Varblocks.{Varblock}
-use Rattle.layout.specs.Groups.{HasVarblock, InOneGroup, groupOf, moved}
+use Rattle.layout.specs.Groups.{HasVarblock, InOneGroup, cutGroup, moved}
 
 index : (bw f : ℕ) → f ≡ groupY bw f * groups bw + groupX bw f
 unfolding groupX groupY
 index bw f = sym (div-add-mod f (groups bw)) ∙ ap (λ (n : ℕ). n + f % groups bw) (mul-comm (groups bw) (f / groups bw))
 
-module _ (L : Lent) where
+module _ (L : LentLayout) where
   -- a varblock of a group is the layout's
-  pub of-layout : (g : ℕ) (v : Varblock) → HasVarblock (groupOf L g) v → HasVarblock L (moved L g v)
+  pub of-layout : (g : ℕ) (v : Varblock) → HasVarblock (cutGroup L g) v → HasVarblock L (moved L g v)
   of-layout g v h =
       let i = h .inX in let j = h .inY in
       record {
@@ -51,7 +51,7 @@ module _ (L : Lent) where
       there : moved L g p ≡ v
       there = rw (atX, atY)
 
-      inside : HasVarblock (groupOf L g) p
+      inside : HasVarblock (cutGroup L g) p
       inside =
           let b = block-in (L .bw) (L .bh) (v .x) (v .y) (h .inX) (h .inY) in
           record {
@@ -61,7 +61,7 @@ module _ (L : Lent) where
             isHfMul = cut-at (L .bw) (L .bh) g (L .hfMul) (v .x % 32) (v .y % 32) (b .0) (b .1) ∙ rw (atX, atY) (h .isHfMul);
           }
 
-      alone : (f : ℕ) (q : Varblock) → HasVarblock (groupOf L f) q → moved L f q ≡ v → (f ≡ g) × (q ≡ p)
+      alone : (f : ℕ) (q : Varblock) → HasVarblock (cutGroup L f) q → moved L f q ≡ v → (f ≡ g) × (q ≡ p)
       alone f q w e =
           let i = w .inX in let j = w .inY in let a = gx in let b = gy in
           let ex : 32 * groupX (L .bw) f + q .x ≡ v .x = ap (λ (u : Varblock). u .x) e in

@@ -12,7 +12,7 @@ use Rattle.laws.specs.laws.Cases.{le-or-lt, eq-or-ne, and-true}
 use Rattle.layout.specs.Kinds.{wideOf, highOf}
 use Rattle.layout.specs.laws.Grid.{place-lt, cell-at}
 use Rattle.layout.specs.Valid.{Layout}
-use Rattle.layout.specs.Like.{Lent, lent, kindAt, hfMulAt, HasRectangle, SameRectangles, alikeCorners, bySort, alikeCell, alikeFrom, alike}
+use Rattle.layout.specs.Like.{LentLayout, lentLayout, kindAt, hfMulAt, HasRectangle, SameRectangles, alikeCorners, bySort, alikeCell, alikeFrom, alike}
 
 -- what one cell tells
 data Pair (k m k′ m′ : ℕ) : Type 0 where
@@ -60,11 +60,11 @@ module _ (kinds hfMul kinds′ hfMul′ : List ℕ) where
       (all n (i + 1) (λ j a b. f j (omega arith) (omega arith)))
 
   module _ (bw bh : ℕ) where
-    abbrev L : Lent
-    L = lent bw bh kinds hfMul
+    abbrev L : LentLayout
+    L = lentLayout bw bh kinds hfMul
 
-    abbrev N : Lent
-    N = lent bw bh kinds′ hfMul′
+    abbrev N : LentLayout
+    N = lentLayout bw bh kinds′ hfMul′
 
     to : ((j : ℕ) → 0 ≤ j → j < 0 + bh * bw → PairAt j) → SameRectangles L N
     unfolding SameRectangles
@@ -93,13 +93,13 @@ module _ (kinds hfMul kinds′ hfMul′ : List ℕ) where
     from-pairs : SameRectangles L N → alikeFrom kinds hfMul kinds′ hfMul′ (bh * bw) 0 ≡ true
     from-pairs s = all (bh * bw) 0 (λ j a b. let p = cell-at bw bh j (omega arith) in rw (p .place) (fro s (p .x) (p .y) (p .inX) (p .inY)))
 
-module _ (L N : Lent) where
+module _ (L N : LentLayout) where
   pub alike-iff : (alike L N ≡ true) ↔ ((L .bw ≡ N .bw) × (L .bh ≡ N .bh) × SameRectangles L N)
   unfolding alike
   alike-iff = (there, back)
     where
-      N′ : Lent
-      N′ = lent (L .bw) (L .bh) (N .kinds) (N .hfMul)
+      N′ : LentLayout
+      N′ = lentLayout (L .bw) (L .bh) (N .kinds) (N .hfMul)
 
       moved : L .bw ≡ N .bw → L .bh ≡ N .bh → N′ ≡ N
       moved a b = rw (a, b)
@@ -112,17 +112,17 @@ module _ (L N : Lent) where
           let b = eqb-true (L .bh) (N .bh) (q .1) in (
             a,
             b,
-            subst (λ (n : Lent). SameRectangles L n) (moved a b)
+            subst (λ (n : LentLayout). SameRectangles L n) (moved a b)
                 (to (L .kinds) (L .hfMul) (N .kinds) (N .hfMul) (L .bw) (L .bh) (each (L .kinds) (L .hfMul) (N .kinds) (N .hfMul) (L .bh * L .bw) 0 (p .1))),
           )
 
       back : (L .bw ≡ N .bw) × (L .bh ≡ N .bh) × SameRectangles L N → alike L N ≡ true
       back s =
           rw (eq-eqb (L .bw) (N .bw) (s .0), eq-eqb (L .bh) (N .bh) (s .1))
-          (from-pairs (L .kinds) (L .hfMul) (N .kinds) (N .hfMul) (L .bw) (L .bh) (subst (λ (n : Lent). SameRectangles L n) (sym (moved (s .0) (s .1))) (s .2)))
+          (from-pairs (L .kinds) (L .hfMul) (N .kinds) (N .hfMul) (L .bw) (L .bh) (subst (λ (n : LentLayout). SameRectangles L n) (sym (moved (s .0) (s .1))) (s .2)))
 
 -- A layout reaches its right and lower edges, so that layouts with the same rectangles have the same sides.
-module _ (L N : Lent) (here : Layout (L .bw) (L .bh) (L .kinds) (L .hfMul)) (there : Layout (N .bw) (N .bh) (N .kinds) (N .hfMul)) (same : SameRectangles L N) where
+module _ (L N : LentLayout) (here : Layout (L .bw) (L .bh) (L .kinds) (L .hfMul)) (there : Layout (N .bw) (N .bh) (N .kinds) (N .hfMul)) (same : SameRectangles L N) where
   inside : (x y : ℕ) → x < L .bw → y < L .bh → (x < N .bw) × (y < N .bh)
   unfolding SameRectangles
   inside x y i j =
@@ -139,14 +139,14 @@ module _ (L N : Lent) (here : Layout (L .bw) (L .bh) (L .kinds) (L .hfMul)) (the
   pub not-wider : 1 ≤ L .bw → 1 ≤ L .bh → (L .bw ≤ N .bw) × (L .bh ≤ N .bh)
   not-wider i j = let p = inside (L .bw - 1) (L .bh - 1) (omega arith) (omega arith) in (omega arith, omega arith)
 
-pub same-turned : (L N : Lent) → SameRectangles L N → SameRectangles N L
+pub same-turned : (L N : LentLayout) → SameRectangles L N → SameRectangles N L
 unfolding SameRectangles
 same-turned L N s x y w h m = (s x y w h m .1, s x y w h m .0)
 
-pub same-joined : (L N O : Lent) → SameRectangles L N → SameRectangles N O → SameRectangles L O
+pub same-joined : (L N O : LentLayout) → SameRectangles L N → SameRectangles N O → SameRectangles L O
 unfolding SameRectangles
 same-joined L N O s t x y w h m = (λ r. t x y w h m .0 (s x y w h m .0 r), λ r. s x y w h m .1 (t x y w h m .1 r))
 
-pub same-itself : (L : Lent) → SameRectangles L L
+pub same-itself : (L : LentLayout) → SameRectangles L L
 unfolding SameRectangles
 same-itself L x y w h m = (λ r. r, λ r. r)

@@ -10,7 +10,7 @@ use borrow.Author.Tests.{leb-true, le-leb}
 use Rattle.laws.specs.laws.Cases.{eq-or-ne}
 use Rattle.layout.specs.Valid.{Cells}
 use Rattle.layout.specs.Varblocks.{Varblock, addVarblock, cornersRow, cornersFrom, varblocksOf}
-use Rattle.layout.specs.Like.{Lent, kindAt, hfMulAt}
+use Rattle.layout.specs.Like.{LentLayout, kindAt, hfMulAt}
 use Rattle.layout.specs.Groups.{HasVarblock}
 use Rattle.layout.specs.Listed.{Among, first, later}
 
@@ -93,7 +93,7 @@ module _ (K M : Cells) (v : Varblock) where
       go ih (inl e) = row-lists bw 0 y (cornersFrom K M bw n (y + 1)) (let i = r .inX in record { row = e; from = omega arith; to = omega arith; isType = r .isType; isHfMul = r .isHfMul })
       go ih (inr n′) = row-rest bw 0 y (cornersFrom K M bw n (y + 1)) (ih (let f = r .from in let t = r .to in record { inX = r .inX; from = omega arith; to = omega arith; isType = r .isType; isHfMul = r .isHfMul }))
 
-pub listed : (L : Lent) (v : Varblock) → Among v (varblocksOf (L .bw) (L .bh) (L .kinds) (L .hfMul)) ↔ HasVarblock L v
+pub listed : (L : LentLayout) (v : Varblock) → Among v (varblocksOf (L .bw) (L .bh) (L .kinds) (L .hfMul)) ↔ HasVarblock L v
 listed L v = (λ a. there (rows-have (kindAt L) (hfMulAt L) v (L .bw) (L .bh) 0 a), λ h. rows-list (kindAt L) (hfMulAt L) v (L .bw) (L .bh) 0 (back h))
   where
     there : InRows (kindAt L) (hfMulAt L) v (L .bw) (L .bh) 0 → HasVarblock L v

@@ -1,7 +1,7 @@
 -- A walk as two nested loops go: what is left from a row, and from a cell, on.
 use mathlib.Core.Path.{_≡_, ap, sym, _∙_}
 use Prim.Native.Nat.{ℕ, _+_, _-_, _≤_, _<_}
-use Rattle.layout.specs.Walk.{cells, rows, walk}
+use Rattle.layout.specs.Walk.{cells, rows, rowByRow}
 use Rattle.layout.specs.laws.WalkSteps.{cells-step, cells-end, rows-step, rows-end, rows-start, cells-stuck, rows-stuck}
 
 module _ {S : Type 0} (f : ℕ → ℕ → S → S) (w h : ℕ) where
@@ -11,7 +11,7 @@ module _ {S : Type 0} (f : ℕ → ℕ → S → S) (w h : ℕ) where
   abbrev pub cellsLeft : ℕ → ℕ → S → S
   cellsLeft y x s = rows f w (h - (y + 1)) (y + 1) (cells f (w - x) x y s)
 
-  pub loop-start : (s : S) → walk f w h s ≡ rowsLeft 0 s
+  pub loop-start : (s : S) → rowByRow f w h s ≡ rowsLeft 0 s
   loop-start s = rows-start f w h s
 
   pub loop-enter : (y : ℕ) (s : S) → y < h → rowsLeft y s ≡ cellsLeft y 0 s

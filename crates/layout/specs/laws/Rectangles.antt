@@ -6,23 +6,23 @@ use native.Mathlib.Omega.{arith}
 use native.Mathlib.Nat.{mul-le-mul}
 use Rattle.dct_select.specs.Transforms.{wide, high}
 use Rattle.dct_select.specs.laws.Sides.{wide-most, high-most}
-use Rattle.layout.specs.Grid.{at}
+use Rattle.layout.specs.Grid.{blockAt}
 use Rattle.layout.specs.Valid.{Covers, Layout}
 use Rattle.layout.specs.Varblocks.{Varblock, varblock, varblocksOf}
-use Rattle.layout.specs.Like.{lent}
+use Rattle.layout.specs.Like.{lentLayout}
 use Rattle.layout.specs.Groups.{HasVarblock}
 use Rattle.layout.specs.Listed.{Among}
 use Rattle.layout.specs.laws.Listed.{listed}
 
 module _ {bw bh : ℕ} {kinds hfMul : List ℕ} (lay : Layout bw bh kinds hfMul) where
   module _ (v : Varblock) (i : Among v (varblocksOf bw bh kinds hfMul)) where
-    pub has : HasVarblock (lent bw bh kinds hfMul) v
-    has = listed (lent bw bh kinds hfMul) v .0 i
+    pub has : HasVarblock (lentLayout bw bh kinds hfMul) v
+    has = listed (lentLayout bw bh kinds hfMul) v .0 i
 
-    corner : 2 ≤ at kinds bw (v .x) (v .y)
+    corner : 2 ≤ blockAt kinds bw (v .x) (v .y)
     corner = let e = has .isType in omega arith
 
-    pub type-is : v .type ≡ at kinds bw (v .x) (v .y) - 2
+    pub type-is : v .type ≡ blockAt kinds bw (v .x) (v .y) - 2
     type-is = let e = has .isType in omega arith
 
     pub known : v .type < 27
@@ -37,9 +37,9 @@ module _ {bw bh : ℕ} {kinds hfMul : List ℕ} (lay : Layout bw bh kinds hfMul)
     pub few : wide (v .type) * high (v .type) ≤ 1024
     few = mul-le-mul {n₁ = wide (v .type)} {m₁ = high (v .type)} {n₂ = 32} {m₂ = 32} (wide-most (v .type) known) (high-most (v .type) known)
 
-    pub covers : (x y : ℕ) → v .x ≤ x → x < v .x + wide (v .type) → v .y ≤ y → y < v .y + high (v .type) → Covers (at kinds bw) (v .x) (v .y) x y
+    pub covers : (x y : ℕ) → v .x ≤ x → x < v .x + wide (v .type) → v .y ≤ y → y < v .y + high (v .type) → Covers (blockAt kinds bw) (v .x) (v .y) x y
     covers x y a b c d = record { corner = corner; fromX = a; toX = rw type-is at b; fromY = c; toY = rw type-is at d }
 
   -- a corner of the grid is the corner of one of them
-  pub at-corner : (x y : ℕ) → x < bw → y < bh → 2 ≤ at kinds bw x y → Among (varblock x y (at kinds bw x y - 2) (at hfMul bw x y)) (varblocksOf bw bh kinds hfMul)
-  at-corner x y a b k = listed (lent bw bh kinds hfMul) (varblock x y (at kinds bw x y - 2) (at hfMul bw x y)) .1 (record { inX = a; inY = b; isType = omega arith; isHfMul = refl })
+  pub at-corner : (x y : ℕ) → x < bw → y < bh → 2 ≤ blockAt kinds bw x y → Among (varblock x y (blockAt kinds bw x y - 2) (blockAt hfMul bw x y)) (varblocksOf bw bh kinds hfMul)
+  at-corner x y a b k = listed (lentLayout bw bh kinds hfMul) (varblock x y (blockAt kinds bw x y - 2) (blockAt hfMul bw x y)) .1 (record { inX = a; inY = b; isType = omega arith; isHfMul = refl })

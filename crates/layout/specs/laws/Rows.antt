@@ -10,7 +10,7 @@ use borrow.Author.Tests.{lt-ltb}
 use lib.ListN.{length, drop, length-drop}
 use lib.Seq.{length-take-le, getD-take, getD-drop}
 use Rattle.layout.specs.Kinds.{highOf}
-use Rattle.layout.specs.Grid.{at}
+use Rattle.layout.specs.Grid.{blockAt}
 use Rattle.layout.specs.laws.Grid.{grid-length, grid-at, grid-is, place-lt}
 use Rattle.layout.specs.Valid.{Cells, Covers, Owned, Valid, Layout}
 use Rattle.layout.specs.laws.Same.{valid-same}
@@ -21,7 +21,7 @@ module _ (bw bh q : ℕ) where
   abbrev below : Cells → Cells
   below K x y = K x (32 * q + y)
 
-  pub at-rows : (l : List ℕ) (x y : ℕ) → x < bw → y < side bh q → at (rowsOf bw bh q l) bw x y ≡ below (at l bw) x y
+  pub at-rows : (l : List ℕ) (x y : ℕ) → x < bw → y < side bh q → blockAt (rowsOf bw bh q l) bw x y ≡ below (blockAt l bw) x y
   at-rows l x y i j =
       let a : y * bw + x < side bh q * bw = place-lt bw (side bh q) x y i j in
       let e : 32 * q * bw + (y * bw + x) ≡ (32 * q + y) * bw + x = omega (arith, add-mul (32 * q) y bw) in
@@ -73,9 +73,9 @@ module _ (bw bh q : ℕ) where
     rows-layout kinds hfMul ok = record {
       kindsLength = rows-length kinds (ok .kindsLength);
       hfMulLength = rows-length hfMul (ok .hfMulLength);
-      valid = valid-same bw (side bh q) (below (at kinds bw)) (below (at hfMul bw)) (at (rowsOf bw bh q kinds) bw) (at (rowsOf bw bh q hfMul) bw)
+      valid = valid-same bw (side bh q) (below (blockAt kinds bw)) (below (blockAt hfMul bw)) (blockAt (rowsOf bw bh q kinds) bw) (blockAt (rowsOf bw bh q hfMul) bw)
           (λ x y i j. sym (at-rows kinds x y i j)) (λ x y i j. sym (at-rows hfMul x y i j))
-          (rows-valid (at kinds bw) (at hfMul bw) (ok .valid));
+          (rows-valid (blockAt kinds bw) (blockAt hfMul bw) (ok .valid));
     }
 
   -- group p of the rows is the p-th group of the row of groups
@@ -112,6 +112,6 @@ module _ (bw bh q : ℕ) where
     unfolding cut
     cut-rows l =
         rw (first-x, first-y, there-x, there-y, same-high)
-        (grid-is (cutCells (at l bw) p q) (side bw p) (side bh q) _ (grid-length (cutCells (at (rowsOf bw bh q l) bw) p 0) (side bw p) (side bh q))
-        (λ x y i j. grid-at (cutCells (at (rowsOf bw bh q l) bw) p 0) (side bw p) (side bh q) x y i j
-        ∙ ap (λ (n : ℕ). at (rowsOf bw bh q l) bw (32 * p + x) n) (omega arith) ∙ at-rows l (32 * p + x) y (omega arith) j))
+        (grid-is (cutCells (blockAt l bw) p q) (side bw p) (side bh q) _ (grid-length (cutCells (blockAt (rowsOf bw bh q l) bw) p 0) (side bw p) (side bh q))
+        (λ x y i j. grid-at (cutCells (blockAt (rowsOf bw bh q l) bw) p 0) (side bw p) (side bh q) x y i j
+        ∙ ap (λ (n : ℕ). blockAt (rowsOf bw bh q l) bw (32 * p + x) n) (omega arith) ∙ at-rows l (32 * p + x) y (omega arith) j))

@@ -7,7 +7,7 @@ use Prim.Native.Nat.{ℕ, _+_, _≤_, _<_}
 use native.Mathlib.Omega.{arith}
 use lib.ListN.{length, getD, replicate, length-replicate, getD-replicate}
 use Rattle.layout.specs.Kinds.{wideOf, highOf}
-use Rattle.layout.specs.Walk.{walk, Before}
+use Rattle.layout.specs.Walk.{rowByRow, Before}
 use Rattle.layout.specs.laws.Walk.{forward}
 use Rattle.laws.specs.laws.Cases.{eq-or-ne, le-or-lt}
 use Rattle.layout.specs.laws.Stretch.{Place, left, inside, right, place}
@@ -165,7 +165,7 @@ module _ (bw bh : ℕ) (K M : Cells) (ok : Valid bw bh K M) where
   pub valid-check : (room : ℕ) → bw ≤ room → passes (checkIn room bw bh K M) ≡ true
   unfolding Upto
   valid-check room wide =
-      good (walk (visit bw bh K M) bw bh (Until (replicate room 0)))
+      good (rowByRow (visit bw bh K M) bw bh (Until (replicate room 0)))
       (forward (visit bw bh K M) bw bh Upto step turn (Until (replicate room 0)) (record { size = let z = length-replicate {A = ℕ} room 0 in omega arith; back = from-zero; forth = at-zero }))
     where
       from-zero : (a b c d : ℕ) → a < bw → b < bh → Covers K c d a b → b < getD (replicate room 0) a 0 → Before c d 0 0

@@ -2,7 +2,7 @@
 use mathlib.Core.Path.{_≡_}
 use Prim.Native.Nat.{ℕ, zero, suc, _+_, _<_}
 use native.Mathlib.Omega.{arith}
-use Rattle.layout.specs.Walk.{cells, rows, walk}
+use Rattle.layout.specs.Walk.{cells, rows, rowByRow}
 
 -- Forward: what holds at the start and is kept by each cell and each turn of row holds at the end.
 module _ {S : Type 0} (f : ℕ → ℕ → S → S) (bw bh : ℕ) (P : ℕ → ℕ → S → Type 0)
@@ -20,7 +20,7 @@ module _ {S : Type 0} (f : ℕ → ℕ → S → S) (bw bh : ℕ) (P : ℕ → �
       forward-rows n (y + 1) (cells f bw 0 y s) (omega arith)
       (turn y (cells f bw 0 y s) (omega arith) (forward-cells bw 0 y s (omega arith) (omega arith) p))
 
-  pub forward : (s : S) → P 0 0 s → P 0 bh (walk f bw bh s)
+  pub forward : (s : S) → P 0 0 s → P 0 bh (rowByRow f bw bh s)
   forward s p = forward-rows bh 0 s (omega arith) p
 
 -- Backward: what holds at the end, and before each cell if after it, holds at the start.
@@ -39,7 +39,7 @@ module _ {S : Type 0} (f : ℕ → ℕ → S → S) (bw bh : ℕ) (P : ℕ → �
       backward-cells bw 0 y s (omega arith) (omega arith)
       (turn y (cells f bw 0 y s) (omega arith) (backward-rows n (y + 1) (cells f bw 0 y s) (omega arith) p))
 
-  pub backward : (s : S) → P 0 bh (walk f bw bh s) → P 0 0 s
+  pub backward : (s : S) → P 0 bh (rowByRow f bw bh s) → P 0 0 s
   backward s p = backward-rows bh 0 s (omega arith) p
 
 -- Two walks side by side.
@@ -58,5 +58,5 @@ module _ {S R : Type 0} (f : ℕ → ℕ → S → S) (g : ℕ → ℕ → R →
       beside-rows n (y + 1) (cells f bw 0 y s) (cells g bw 0 y r) (omega arith)
       (turn y (cells f bw 0 y s) (cells g bw 0 y r) (omega arith) (beside-cells bw 0 y s r (omega arith) (omega arith) p))
 
-  pub beside : (s : S) (r : R) → P 0 0 s r → P 0 bh (walk f bw bh s) (walk g bw bh r)
+  pub beside : (s : S) (r : R) → P 0 0 s r → P 0 bh (rowByRow f bw bh s) (rowByRow g bw bh r)
   beside s r p = beside-rows bh 0 s r (omega arith) p

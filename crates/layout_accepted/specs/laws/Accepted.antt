@@ -5,14 +5,14 @@ use mathlib.Core.Logic.{_⊎_, inl, inr}
 use Prim.Native.Nat.{ℕ, _+_, _*_, _-_, _≤_, _<_}
 use native.Mathlib.Omega.{arith}
 use lib.Dec.{eqb}
-use lib.ListN.{length, getD, length-replicate, getD-replicate}
+use lib.ListN.{length, length-replicate, getD-replicate}
 use borrow.Author.Tests.{eqb-false}
 use Rattle.laws.specs.laws.Cases.{eq-or-ne}
 use Rattle.dct_select.specs.Transforms.{wide, high}
 use Rattle.dct_select.specs.laws.Sides.{wide-some, high-some}
 use Rattle.layout.specs.Kinds.{wideOf, highOf}
 use Rattle.layout.specs.laws.Walk.{forward}
-use Rattle.layout.specs.Grid.{at}
+use Rattle.layout.specs.Grid.{blockAt}
 use Rattle.layout.specs.laws.Grid.{place-lt}
 use Rattle.layout.specs.Valid.{Cells, Covers, Fits, Owned, Layout}
 use Rattle.layout.specs.Walk.{Before}
@@ -146,10 +146,10 @@ module _ (bw bh : ℕ) (K M K′ M′ : Cells) (t h x y : ℕ) (r : Part bw bh K
       go (beyond n) = let z = s .elsewhere a b i n in omega arith
 
 module _ (J : Job) where
-  pub passing : (x y : ℕ) (p : Placed) → 0 < at (p .kinds) (J .bw) x y → Sofar J x y p → Sofar J (x + 1) y p
+  pub passing : (x y : ℕ) (p : Placed) → 0 < blockAt (p .kinds) (J .bw) x y → Sofar J x y p → Sofar J (x + 1) y p
   passing x y p h q = record { lengthK = q .lengthK; lengthM = q .lengthM; part = q .part; done = λ a b i j g. go a b i j (last a b x y g); behind = λ a b i j h. later a b x y (q .behind a b i j h) }
     where
-      go : (a b : ℕ) → a < J .bw → b < J .bh → Here x y a b ⊎ Before a b x y → 0 < at (p .kinds) (J .bw) a b
+      go : (a b : ℕ) → a < J .bw → b < J .bh → Here x y a b ⊎ Before a b x y → 0 < blockAt (p .kinds) (J .bw) a b
       go a b i j (inl e) = rw (e .0, e .1) h
       go a b i j (inr g) = q .done a b i j g
 
@@ -161,13 +161,13 @@ module _ (J : Job) where
       record { known = omega arith; inX = rw same (c .inX); inY = rw same (c .inY); squareX = rw same (f .squareX); squareY = rw same (f .squareY); positive = f .positive; signed = f .signed }
 
   -- a rectangle after a column was placed is the column's or an old one
-  pub after : (x y t h : ℕ) (p p′ : Placed) → Column J x y p p′ t h → Sofar J x y p → (a b c d : ℕ) → a < J .bw → Covers (at (p′ .kinds) (J .bw)) c d a b
-      → (Here x y c d × InRect x y (wide t) (high t) a b) ⊎ Covers (at (p .kinds) (J .bw)) c d a b
+  pub after : (x y t h : ℕ) (p p′ : Placed) → Column J x y p p′ t h → Sofar J x y p → (a b c d : ℕ) → a < J .bw → Covers (blockAt (p′ .kinds) (J .bw)) c d a b
+      → (Here x y c d × InRect x y (wide t) (high t) a b) ⊎ Covers (blockAt (p .kinds) (J .bw)) c d a b
   after x y t h p p′ k q a b c d i v =
-      go (which (J .bw) (J .bh) (at (p .kinds) (J .bw)) (at (p .hfMul) (J .bw)) (at (p′ .kinds) (J .bw)) (at (p′ .hfMul) (J .bw)) t h x y (q .part) (fitting x y t h p p′ k) (k .free) (k .puts) a b c d i v)
+      go (which (J .bw) (J .bh) (blockAt (p .kinds) (J .bw)) (blockAt (p .hfMul) (J .bw)) (blockAt (p′ .kinds) (J .bw)) (blockAt (p′ .hfMul) (J .bw)) t h x y (q .part) (fitting x y t h p p′ k) (k .free) (k .puts) a b c d i v)
     where
-      go : Here x y c d ⊎ Covers (at (p .kinds) (J .bw)) c d a b → (Here x y c d × InRect x y (wide t) (high t) a b) ⊎ Covers (at (p .kinds) (J .bw)) c d a b
-      go (inl e) = inl (e, new-in (J .bw) (J .bh) (at (p .kinds) (J .bw)) (at (p .hfMul) (J .bw)) (at (p′ .kinds) (J .bw)) (at (p′ .hfMul) (J .bw)) t h x y (q .part) (fitting x y t h p p′ k) (k .free) (k .puts) a b (rw (e .0, e .1) at v))
+      go : Here x y c d ⊎ Covers (blockAt (p .kinds) (J .bw)) c d a b → (Here x y c d × InRect x y (wide t) (high t) a b) ⊎ Covers (blockAt (p .kinds) (J .bw)) c d a b
+      go (inl e) = inl (e, new-in (J .bw) (J .bh) (blockAt (p .kinds) (J .bw)) (blockAt (p .hfMul) (J .bw)) (blockAt (p′ .kinds) (J .bw)) (blockAt (p′ .hfMul) (J .bw)) t h x y (q .part) (fitting x y t h p p′ k) (k .free) (k .puts) a b (rw (e .0, e .1) at v))
       go (inr w) = inr w
 
   pub placing : (x y t h : ℕ) (p p′ : Placed) → Column J x y p p′ t h → Sofar J x y p → Sofar J (x + 1) y p′
@@ -180,16 +180,16 @@ module _ (J : Job) where
   }
     where
       K : Cells
-      K = at (p .kinds) (J .bw)
+      K = blockAt (p .kinds) (J .bw)
 
       M : Cells
-      M = at (p .hfMul) (J .bw)
+      M = blockAt (p .hfMul) (J .bw)
 
       K′ : Cells
-      K′ = at (p′ .kinds) (J .bw)
+      K′ = blockAt (p′ .kinds) (J .bw)
 
       M′ : Cells
-      M′ = at (p′ .hfMul) (J .bw)
+      M′ = blockAt (p′ .hfMul) (J .bw)
 
       fit : Fits (J .bw) (J .bh) x y (2 + t) h
       fit = fitting x y t h p p′ c
@@ -218,7 +218,7 @@ module _ (J : Job) where
       fwd a b (inl g) = inl (omega arith)
       fwd a b (inr g) = inl (omega arith)
 
-  pub blank : (a b : ℕ) → a < J .bw → b < J .bh → at (start J .kinds) (J .bw) a b ≡ 0
+  pub blank : (a b : ℕ) → a < J .bw → b < J .bh → blockAt (start J .kinds) (J .bw) a b ≡ 0
   blank a b i j = getD-replicate {A = ℕ} (J .bh * J .bw) (b * J .bw + a) 0 0 (place-lt (J .bw) (J .bh) a b i j)
 
   pub begun : (Sofar J) 0 0 (start J)
@@ -235,7 +235,7 @@ module _ (J : Job) where
     behind = λ a b i j h. absurd (let z = blank a b i j in omega arith);
   }
     where
-      go : (a b : ℕ) → Before a b 0 0 → 0 < at (start J .kinds) (J .bw) a b
+      go : (a b : ℕ) → Before a b 0 0 → 0 < blockAt (start J .kinds) (J .bw) a b
       go a b (inl g) = absurd (omega arith)
       go a b (inr g) = absurd (omega arith)
 
@@ -250,7 +250,7 @@ module _ (J : Job) where
     one : (x y : ℕ) (s : Placing) → x < J .bw → y < J .bh → Along x y s → Along (x + 1) y (visit J x y s)
     unfolding Along
     one x y (Stopped n r) hx hy q = tt
-    one x y (Going p) hx hy q = go (eqb (at (p .kinds) (J .bw) x y) 0) refl
+    one x y (Going p) hx hy q = go (eqb (blockAt (p .kinds) (J .bw) x y) 0) refl
       where
         col : (s : Placing) → column J x y p ≡ s → Along (x + 1) y s
         col (Stopped n r) e = tt
@@ -258,9 +258,9 @@ module _ (J : Job) where
             let c = column-put J x y p p′ (q .0 .lengthK) (q .0 .lengthM) hx hy e in
             (placing x y _ _ p p′ (c .0) (q .0), keep x y p p′ hx hy (c .1) (q .0) (c .0) (q .1))
 
-        go : (b : Bool) → eqb (at (p .kinds) (J .bw) x y) 0 ≡ b → Along (x + 1) y (cond b (column J x y p) (Going p))
+        go : (b : Bool) → eqb (blockAt (p .kinds) (J .bw) x y) 0 ≡ b → Along (x + 1) y (cond b (column J x y p) (Going p))
         go true e = col (column J x y p) refl
-        go false e = (passing x y p (let n = eqb-false (at (p .kinds) (J .bw) x y) 0 e in omega arith) (q .0), q .1)
+        go false e = (passing x y p (let n = eqb-false (blockAt (p .kinds) (J .bw) x y) 0 e in omega arith) (q .0), q .1)
 
     row : (y : ℕ) (s : Placing) → y < J .bh → Along (J .bw) y s → Along 0 (y + 1) s
     unfolding Along

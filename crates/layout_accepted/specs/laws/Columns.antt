@@ -13,7 +13,7 @@ use borrow.Author.Tests.{le-leb, lt-leb, lt-ltb, eqb-false, eq-eqb}
 use Rattle.laws.specs.laws.Cases.{eq-or-ne, le-or-lt}
 use Rattle.dct_select.specs.Transforms.{wide, high}
 use Rattle.layout.specs.laws.Walk.{beside}
-use Rattle.layout.specs.Grid.{at}
+use Rattle.layout.specs.Grid.{blockAt}
 use Rattle.layout.specs.Valid.{Cells}
 use Rattle.layout.specs.Walk.{Before}
 use Rattle.layout.specs.laws.Order.{Here, From, from-start}
@@ -136,7 +136,7 @@ module _ (J : Job) (pairs : length (J .muls) ≡ length (J .types)) where
   begin = record { enough = omega arith; typesAre = ap (map (λ (v : Varblock). v .type)) nothing; mulsAre = ap (map (λ (v : Varblock). v .hfMul)) nothing }
     where
       nothing : varblocks (start J) ≡ []
-      nothing = rows-none (J .bw) (J .bh) 0 0 (at (start J .kinds) (J .bw)) (at (start J .hfMul) (J .bw)) (λ a b i j f. let z = blank J a b i j in omega arith) (J .bh) 0 (omega arith) (from-start 0 0)
+      nothing = rows-none (J .bw) (J .bh) 0 0 (blockAt (start J .kinds) (J .bw)) (blockAt (start J .hfMul) (J .bw)) (λ a b i j f. let z = blank J a b i j in omega arith) (J .bh) 0 (omega arith) (from-start 0 0)
 
   module _ (x y : ℕ) (p q : Placed) (hx : x < J .bw) (hy : y < J .bh) (more : p .used < length (J .types)) (o : Sofar J x y p) where
     abbrev type : ℕ
@@ -146,8 +146,8 @@ module _ (J : Job) (pairs : length (J .muls) ≡ length (J .types)) where
     hfMul = nextHfMul J p
 
     module _ (c : Column J x y p q type hfMul) (r : InTurn p) where
-      no-corner : (a b : ℕ) → a < J .bw → b < J .bh → From x y a b → at (p .kinds) (J .bw) a b < 2
-      no-corner a b i j f = go (le-or-lt 2 (at (p .kinds) (J .bw) a b))
+      no-corner : (a b : ℕ) → a < J .bw → b < J .bh → From x y a b → blockAt (p .kinds) (J .bw) a b < 2
+      no-corner a b i j f = go (le-or-lt 2 (blockAt (p .kinds) (J .bw) a b))
         where
           not : Before a b x y → From x y a b → ⊥
           not (inl g) (inl h) = omega arith
@@ -155,28 +155,28 @@ module _ (J : Job) (pairs : length (J .muls) ≡ length (J .types)) where
           not (inr g) (inl h) = omega arith
           not (inr g) (inr h) = omega arith
 
-          go : (2 ≤ at (p .kinds) (J .bw) a b) ⊎ (at (p .kinds) (J .bw) a b < 2) → at (p .kinds) (J .bw) a b < 2
+          go : (2 ≤ blockAt (p .kinds) (J .bw) a b) ⊎ (blockAt (p .kinds) (J .bw) a b < 2) → blockAt (p .kinds) (J .bw) a b < 2
           go (inl k) = absurd (not (o .behind a b i j k) f)
           go (inr k) = k
 
       alike : (a b : ℕ) → a < J .bw → b < J .bh → (Here x y a b → ⊥) → (l : List Varblock)
-          → addVarblock (leb 2 (at (q .kinds) (J .bw) a b)) (record { x = a; y = b; type = at (q .kinds) (J .bw) a b - 2; hfMul = at (q .hfMul) (J .bw) a b }) l
-          ≡ addVarblock (leb 2 (at (p .kinds) (J .bw) a b)) (record { x = a; y = b; type = at (p .kinds) (J .bw) a b - 2; hfMul = at (p .hfMul) (J .bw) a b }) l
+          → addVarblock (leb 2 (blockAt (q .kinds) (J .bw) a b)) (record { x = a; y = b; type = blockAt (q .kinds) (J .bw) a b - 2; hfMul = blockAt (q .hfMul) (J .bw) a b }) l
+          ≡ addVarblock (leb 2 (blockAt (p .kinds) (J .bw) a b)) (record { x = a; y = b; type = blockAt (p .kinds) (J .bw) a b - 2; hfMul = blockAt (p .hfMul) (J .bw) a b }) l
       alike a b i j n l = go (spot x y (wide type) (high type) a b)
         where
           go : Spot x y (wide type) (high type) a b
-              → addVarblock (leb 2 (at (q .kinds) (J .bw) a b)) (record { x = a; y = b; type = at (q .kinds) (J .bw) a b - 2; hfMul = at (q .hfMul) (J .bw) a b }) l
-              ≡ addVarblock (leb 2 (at (p .kinds) (J .bw) a b)) (record { x = a; y = b; type = at (p .kinds) (J .bw) a b - 2; hfMul = at (p .hfMul) (J .bw) a b }) l
+              → addVarblock (leb 2 (blockAt (q .kinds) (J .bw) a b)) (record { x = a; y = b; type = blockAt (q .kinds) (J .bw) a b - 2; hfMul = blockAt (q .hfMul) (J .bw) a b }) l
+              ≡ addVarblock (leb 2 (blockAt (p .kinds) (J .bw) a b)) (record { x = a; y = b; type = blockAt (p .kinds) (J .bw) a b - 2; hfMul = blockAt (p .hfMul) (J .bw) a b }) l
           go (corner m) = absurd (n m)
           go (body m k) =
-              let u : at (q .kinds) (J .bw) a b < 2 = let z = c .puts .inBody a b m k in omega arith in
-              let w : at (p .kinds) (J .bw) a b < 2 = let z = c .free a b k in omega arith in
-              rw (lt-leb 2 (at (q .kinds) (J .bw) a b) u, lt-leb 2 (at (p .kinds) (J .bw) a b) w)
+              let u : blockAt (q .kinds) (J .bw) a b < 2 = let z = c .puts .inBody a b m k in omega arith in
+              let w : blockAt (p .kinds) (J .bw) a b < 2 = let z = c .free a b k in omega arith in
+              rw (lt-leb 2 (blockAt (q .kinds) (J .bw) a b) u, lt-leb 2 (blockAt (p .kinds) (J .bw) a b) w)
           go (beyond m) = rw (c .puts .elsewhere a b i m, c .puts .hfMulOther a b i n)
 
-      grown : varblocks q ≡ varblocks p ++ (record { x = x; y = y; type = at (q .kinds) (J .bw) x y - 2; hfMul = at (q .hfMul) (J .bw) x y } ∷ [])
+      grown : varblocks q ≡ varblocks p ++ (record { x = x; y = y; type = blockAt (q .kinds) (J .bw) x y - 2; hfMul = blockAt (q .hfMul) (J .bw) x y } ∷ [])
       grown =
-          rows-new (J .bw) (J .bh) x y hx hy (at (p .kinds) (J .bw)) (at (p .hfMul) (J .bw)) (at (q .kinds) (J .bw)) (at (q .hfMul) (J .bw)) no-corner (let z = c .puts .atCorner in omega arith) alike (J .bh) 0
+          rows-new (J .bw) (J .bh) x y hx hy (blockAt (p .kinds) (J .bw)) (blockAt (p .hfMul) (J .bw)) (blockAt (q .kinds) (J .bw)) (blockAt (q .hfMul) (J .bw)) no-corner (let z = c .puts .atCorner in omega arith) alike (J .bh) 0
           (omega arith) (omega arith) (omega arith)
 
       next : q .used ≡ suc (p .used)
@@ -195,7 +195,7 @@ module _ (J : Job) (pairs : length (J .muls) ≡ length (J .types)) where
             ∙ sym (ap (λ (n : ℕ). map hfMulOf (take n (J .muls))) next ∙ ap (map hfMulOf) (take-suc (J .muls) (p .used) 0 (omega arith)) ∙ map-last hfMulOf (take (p .used) (J .muls)) (getD (J .muls) (p .used) 0));
       }
         where
-          typeIs : at (q .kinds) (J .bw) x y - 2 ≡ type
+          typeIs : blockAt (q .kinds) (J .bw) x y - 2 ≡ type
           typeIs = let z = c .puts .atCorner in omega arith
 
 -- the varblocks of a reading that was not stopped are those of its columns in turn
@@ -223,9 +223,9 @@ module _ (J : Job) (n : ℕ) (types muls : List ℕ) (long : n ≤ length types)
   step : (x y : ℕ) (s r : Placing) → x < J .bw → y < J .bh → Beside x y s r → Beside (x + 1) y (visit J x y s) (visit other x y r)
   unfolding Beside
   step x y (Stopped m s) r hx hy q = tt
-  step x y (Going p) r hx hy q = go (eqb (at (p .kinds) (J .bw) x y) 0) refl
+  step x y (Going p) r hx hy q = go (eqb (blockAt (p .kinds) (J .bw) x y) 0) refl
     where
-      col : eqb (at (p .kinds) (J .bw) x y) 0 ≡ true → (s : Placing) → column J x y p ≡ s → Beside (x + 1) y s (visit other x y r)
+      col : eqb (blockAt (p .kinds) (J .bw) x y) 0 ≡ true → (s : Placing) → column J x y p ≡ s → Beside (x + 1) y s (visit other x y r)
       col e (Stopped m s) f = tt
       col e (Going p′) f =
           let c = column-put J x y p p′ (q .0 .lengthK) (q .0 .lengthM) hx hy f in
@@ -234,10 +234,10 @@ module _ (J : Job) (n : ℕ) (types muls : List ℕ) (long : n ≤ length types)
             λ l. ap (visit other x y) (q .1 (omega arith)) ∙ ap (λ (b : Bool). cond b (column other x y p) (Going p)) e ∙ column-same x y p (omega arith) (c .1) ∙ f,
           )
 
-      go : (b : Bool) → eqb (at (p .kinds) (J .bw) x y) 0 ≡ b → Beside (x + 1) y (cond b (column J x y p) (Going p)) (visit other x y r)
+      go : (b : Bool) → eqb (blockAt (p .kinds) (J .bw) x y) 0 ≡ b → Beside (x + 1) y (cond b (column J x y p) (Going p)) (visit other x y r)
       go true e = col e (column J x y p) refl
       go false e = (
-        passing J x y p (let n = eqb-false (at (p .kinds) (J .bw) x y) 0 e in omega arith) (q .0),
+        passing J x y p (let n = eqb-false (blockAt (p .kinds) (J .bw) x y) 0 e in omega arith) (q .0),
         λ l. ap (visit other x y) (q .1 l) ∙ ap (λ (b : Bool). cond b (column other x y p) (Going p)) e,
       )
 

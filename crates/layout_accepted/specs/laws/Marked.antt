@@ -4,7 +4,7 @@ use mathlib.Core.Bool.{Bool, true}
 use mathlib.Core.List.{[], _∷_}
 use lib.ListN.{replicate}
 use lib.Ieee.{le, lt, eq}
-use Rattle.refusal.specs.Said.{at}
+use Rattle.refusal.specs.Said.{saidAt}
 use Rattle.dct_select.specs.Transforms.{TRANSFORMS, wide, high}
 use Rattle.layout.specs.Walk.{cells, rows}
 use Rattle.layout.specs.Varblocks.{varblock, varblocksOf, area, cornersRow, cornersFrom}
@@ -41,11 +41,11 @@ pub m5 : off 1 1 (0 ∷ []) (0 ∷ []) .hfMul ≡ 1 ∷ []
 unfolding layout-computes
 m5 = refl
 
-pub m5-refused : off 1 1 (0 ∷ []) (4294967295 ∷ []) .answer ≡ refuses (at 6 0 0)
+pub m5-refused : off 1 1 (0 ∷ []) (4294967295 ∷ []) .answer ≡ refuses (saidAt 6 0 0)
 unfolding layout-computes
 m5-refused = refl
 
-pub m5-largest : off 1 1 (0 ∷ []) (2147483647 ∷ []) .answer ≡ refuses (at 6 0 0)
+pub m5-largest : off 1 1 (0 ∷ []) (2147483647 ∷ []) .answer ≡ refuses (saidAt 6 0 0)
 unfolding layout-computes
 m5-largest = refl
 
@@ -54,28 +54,28 @@ pub m6 : off 32 1 (replicate 16 7) (replicate 16 0) .answer ≡ gives 16
 unfolding layout-computes
 m6 = refl
 
-pub m6-refused : off 33 1 (0 ∷ replicate 16 7) (replicate 17 0) .answer ≡ refuses (at 7 31 0)
+pub m6-refused : off 33 1 (0 ∷ replicate 16 7) (replicate 17 0) .answer ≡ refuses (saidAt 7 31 0)
 unfolding layout-computes
 m6-refused = refl
 
 -- the examples of the table: 4 two blocks, one column of type 0; 5 type 27; 8 types 0, 6, 7 on 2 x 2 blocks; 9 one block, type 4
-pub no4 : off 2 1 (0 ∷ []) (0 ∷ []) .answer ≡ refuses (at 4 1 0)
+pub no4 : off 2 1 (0 ∷ []) (0 ∷ []) .answer ≡ refuses (saidAt 4 1 0)
 unfolding layout-computes
 no4 = refl
 
-pub no5 : off 1 1 (27 ∷ []) (0 ∷ []) .answer ≡ refuses (at 5 0 0)
+pub no5 : off 1 1 (27 ∷ []) (0 ∷ []) .answer ≡ refuses (saidAt 5 0 0)
 unfolding layout-computes
 no5 = refl
 
-pub no8 : off 2 2 (0 ∷ 6 ∷ 7 ∷ []) (0 ∷ 0 ∷ 0 ∷ []) .answer ≡ refuses (at 8 0 1)
+pub no8 : off 2 2 (0 ∷ 6 ∷ 7 ∷ []) (0 ∷ 0 ∷ 0 ∷ []) .answer ≡ refuses (saidAt 8 0 1)
 unfolding layout-computes
 no8 = refl
 
-pub no9 : off 1 1 (4 ∷ []) (0 ∷ []) .answer ≡ refuses (at 9 0 0)
+pub no9 : off 1 1 (4 ∷ []) (0 ∷ []) .answer ≡ refuses (saidAt 9 0 0)
 unfolding layout-computes
 no9 = refl
 
 -- 10: filter on, sharpness 8
-pub no10 : layoutOf (inputs 8 8 (0 ∷ 0 ∷ 0 ∷ []) (0 ∷ []) (0 ∷ []) (8 ∷ []) (On zero32) (replicate 8 zero32) 1) (0 ∷ []) (0 ∷ []) (0 ∷ []) .answer ≡ refuses (at 10 0 0)
+pub no10 : layoutOf (inputs 8 8 (0 ∷ 0 ∷ 0 ∷ []) (0 ∷ []) (0 ∷ []) (8 ∷ []) (On zero32) (replicate 8 zero32) 1) (0 ∷ []) (0 ∷ []) (0 ∷ []) .answer ≡ refuses (saidAt 10 0 0)
 unfolding layout-computes
 no10 = refl

@@ -13,7 +13,7 @@ use Rattle.refusal.specs.laws.Answer.{pass, worked}
 use Rattle.dct_select.specs.Transforms.{wide, high}
 use Rattle.dct_select.specs.laws.Sides.{wide-some, high-some}
 use Rattle.layout.specs.laws.Stretch.{Place, left, inside, right, place}
-use Rattle.layout.specs.Grid.{at}
+use Rattle.layout.specs.Grid.{blockAt}
 use Rattle.layout.specs.laws.Grid.{set-same, set-other}
 use Rattle.layout.specs.laws.Order.{Here}
 use Rattle.layout_filter.specs.Strength.{dividedBy}
@@ -36,8 +36,8 @@ pub record Column (J : Job) (x y : ℕ) (p q : Placed) (t h : ℕ) : Type 0 wher
   pub fits : Fitting t h x y
   pub inX : x + wide t ≤ J .bw
   pub inY : y + high t ≤ J .bh
-  pub free : (a b : ℕ) → InRect x y (wide t) (high t) a b → at (p .kinds) (J .bw) a b ≡ 0
-  pub puts : Puts (J .bw) (at (p .kinds) (J .bw)) (at (p .hfMul) (J .bw)) (at (q .kinds) (J .bw)) (at (q .hfMul) (J .bw)) t h x y
+  pub free : (a b : ℕ) → InRect x y (wide t) (high t) a b → blockAt (p .kinds) (J .bw) a b ≡ 0
+  pub puts : Puts (J .bw) (blockAt (p .kinds) (J .bw)) (blockAt (p .hfMul) (J .bw)) (blockAt (q .kinds) (J .bw)) (blockAt (q .hfMul) (J .bw)) t h x y
   pub lengthK : length (q .kinds) ≡ J .bh * J .bw
   pub lengthM : length (q .hfMul) ≡ J .bh * J .bw
   pub usedIs : q .used ≡ p .used + 1
@@ -93,20 +93,20 @@ module _ (J : Job) (x y : ℕ) (p q : Placed) (lk : length (p .kinds) ≡ J .bh 
       scanIs = f ∙ ap (λ (o : Placed). Taking k (o .sigma)) (sym g);
     }
       where
-        both : Took (J .bw) (J .bh) (at (p .kinds) (J .bw)) (at k (J .bw)) x y (wide t) (high t) × (length k ≡ J .bh * J .bw)
+        both : Took (J .bw) (J .bh) (blockAt (p .kinds) (J .bw)) (blockAt k (J .bw)) x y (wide t) (high t) × (length k ≡ J .bh * J .bw)
         both = took (J .bw) (J .bh) (dividedBy (J .filter) h) (J .lookups) (J .sharpness) x y (wide t) (high t) (p .kinds) (p .sigma) s k lk f
 
-        w : Took (J .bw) (J .bh) (at (p .kinds) (J .bw)) (at k (J .bw)) x y (wide t) (high t)
+        w : Took (J .bw) (J .bh) (blockAt (p .kinds) (J .bw)) (blockAt k (J .bw)) x y (wide t) (high t)
         w = both .0
 
         l : length k ≡ J .bh * J .bw
         l = both .1
 
-        kindsAt : (i j : ℕ) → at (q .kinds) (J .bw) i j ≡ at (set k (y * J .bw + x) (2 + t)) (J .bw) i j
-        kindsAt i j = ap (λ (o : Placed). at (o .kinds) (J .bw) i j) g
+        kindsAt : (i j : ℕ) → blockAt (q .kinds) (J .bw) i j ≡ blockAt (set k (y * J .bw + x) (2 + t)) (J .bw) i j
+        kindsAt i j = ap (λ (o : Placed). blockAt (o .kinds) (J .bw) i j) g
 
-        hfMulAt : (i j : ℕ) → at (q .hfMul) (J .bw) i j ≡ at (set (p .hfMul) (y * J .bw + x) h) (J .bw) i j
-        hfMulAt i j = ap (λ (o : Placed). at (o .hfMul) (J .bw) i j) g
+        hfMulAt : (i j : ℕ) → blockAt (q .hfMul) (J .bw) i j ≡ blockAt (set (p .hfMul) (y * J .bw + x) h) (J .bw) i j
+        hfMulAt i j = ap (λ (o : Placed). blockAt (o .hfMul) (J .bw) i j) g
 
         itself : (i j : ℕ) → Here x y i j → InRect x y (wide t) (high t) i j
         itself i j m = let u = wide-some t a in let v = high-some t a in (omega arith, omega arith, omega arith, omega arith)

@@ -13,13 +13,13 @@ use Rattle.refusal.specs.Said as refusals
 use Rattle.refusal.specs.Answer.{Answer, gives, refuses, unless, passed, answeredBy}
 use Rattle.dct_select.specs.Transforms.{COUNT, wide, high}
 use Rattle.layout.specs.laws.Walk.{forward}
-use Rattle.layout.specs.Grid.{at}
+use Rattle.layout.specs.Grid.{blockAt}
 use Rattle.layout_sizes.specs.Blocks.{sizeFits}
 use Rattle.layout_filter.specs.declared.DividedFilter.{DividedFilter}
 use Rattle.layout_filter.specs.Strength.{dividedBy}
 use Rattle.layout_column.specs.Columns.{positive}
 use Rattle.layout_reading.specs.Scan.{Scan, Taking, Left, isOn, takeCell, scan}
-use Rattle.layout_reading.specs.Reading.{Job, Placed, Placing, Going, Stopped, stopAt, placed, place, placeIn, nextType, nextHfMul, nextChecks, column, visit, start, reading}
+use Rattle.layout_reading.specs.Reading.{Job, Placed, Placing, Going, Stopped, stopAt, placed, place, placeIn, nextType, nextHfMul, column, visit, start, reading}
 use Rattle.layout_call.specs.Call.{Outcome, outcomeOf, Inputs, jobOf, parametersFit, lengthsFit, refuse, layoutOf}
 use Rattle.layout_accepted.specs.laws.Puts.{column-put}
 use Rattle.layout_accepted.specs.laws.Accepted.{passing, placing, turned, begun}
@@ -42,7 +42,7 @@ module _ (bw bh : ℕ) (filter : DividedFilter) (lookups : List Float) (sharpnes
   cell-left cx cy (Taking k s) p =
       cond-left (leb bw cx) (Left 9 cx cy) _ (omega arith)
       (cond-left (leb bh cy) (Left 9 cx cy) _ (omega arith)
-      (cond-left (ltb 0 (at k bw cx cy)) (Left 8 cx cy) _ (omega arith) (cond-left (isOn filter && leb 8 (at sharpness bw cx cy)) (Left 10 cx cy) _ (omega arith) tt)))
+      (cond-left (ltb 0 (blockAt k bw cx cy)) (Left 8 cx cy) _ (omega arith) (cond-left (isOn filter && leb 8 (blockAt sharpness bw cx cy)) (Left 10 cx cy) _ (omega arith) tt)))
 
   pub scan-left : (x y w h : ℕ) (s : Scan) → LeftWell s → LeftWell (scan bw bh filter lookups sharpness x y w h s)
   unfolding scan
@@ -87,7 +87,7 @@ module _ (J : Job) where
         (check-well 7 (leb (x % 32 + wide t) 32) _ next (omega arith) (omega arith)
         (check-well 7 (leb (y % 32 + high t) 32) passed next (omega arith) (omega arith) (place-well (2 + t) h (wide t) (high t))))))
 
-    column-stops : (n : ℕ) (r : Said) → x < J .bw → y < J .bh → Sofar J x y p → at (p .kinds) (J .bw) x y ≡ 0 → column J x y p ≡ Stopped n r → AtBlock (J .bw) (J .bh) r × AtFree J r
+    column-stops : (n : ℕ) (r : Said) → x < J .bw → y < J .bh → Sofar J x y p → blockAt (p .kinds) (J .bw) x y ≡ 0 → column J x y p ≡ Stopped n r → AtBlock (J .bw) (J .bh) r × AtFree J r
     unfolding Well
     column-stops n r hx hy o f e =
         let w : Well (Stopped n r) = rw e at column-well in
@@ -104,15 +104,15 @@ module _ (J : Job) where
   step : (x y : ℕ) (s : Placing) → x < J .bw → y < J .bh → Sound x y s → Sound (x + 1) y (visit J x y s)
   unfolding Sound
   step x y (Stopped n r) hx hy q = q
-  step x y (Going p) hx hy q = go (eqb (at (p .kinds) (J .bw) x y) 0) refl
+  step x y (Going p) hx hy q = go (eqb (blockAt (p .kinds) (J .bw) x y) 0) refl
     where
-      col : at (p .kinds) (J .bw) x y ≡ 0 → (s : Placing) → column J x y p ≡ s → Sound (x + 1) y s
+      col : blockAt (p .kinds) (J .bw) x y ≡ 0 → (s : Placing) → column J x y p ≡ s → Sound (x + 1) y s
       col f (Stopped n r) e = column-stops x y p n r hx hy q f e
       col f (Going p′) e = placing J x y _ _ p p′ (column-put J x y p p′ (q .lengthK) (q .lengthM) hx hy e .0) q
 
-      go : (b : Bool) → eqb (at (p .kinds) (J .bw) x y) 0 ≡ b → Sound (x + 1) y (cond b (column J x y p) (Going p))
-      go true e = col (eqb-true (at (p .kinds) (J .bw) x y) 0 e) (column J x y p) refl
-      go false e = passing J x y p (let n = eqb-false (at (p .kinds) (J .bw) x y) 0 e in omega arith) q
+      go : (b : Bool) → eqb (blockAt (p .kinds) (J .bw) x y) 0 ≡ b → Sound (x + 1) y (cond b (column J x y p) (Going p))
+      go true e = col (eqb-true (blockAt (p .kinds) (J .bw) x y) 0 e) (column J x y p) refl
+      go false e = passing J x y p (let n = eqb-false (blockAt (p .kinds) (J .bw) x y) 0 e in omega arith) q
 
   turn : (y : ℕ) (s : Placing) → y < J .bh → Sound (J .bw) y s → Sound 0 (y + 1) s
   unfolding Sound
@@ -127,9 +127,9 @@ module _ (i : Inputs) (kinds hfMul sigma : List ℕ) where
   same : (r s : Said) → _≡_ {A = Answer ℕ} (refuses r) (refuses s) → r ≡ s
   same r s e = cc
 
-  before-work : (n : ℕ) (r : Said) → refuse i kinds hfMul sigma (refusals.at n 0 0) ≡ layoutOf i kinds hfMul sigma → layoutOf i kinds hfMul sigma .answer ≡ refuses r → BeforeWork i kinds hfMul sigma n r
+  before-work : (n : ℕ) (r : Said) → refuse i kinds hfMul sigma (refusals.saidAt n 0 0) ≡ layoutOf i kinds hfMul sigma → layoutOf i kinds hfMul sigma .answer ≡ refuses r → BeforeWork i kinds hfMul sigma n r
   before-work n r e f = record {
-    saidIs = sym (same (refusals.at n 0 0) r (ap (λ (o : Outcome). o .answer) e ∙ f));
+    saidIs = sym (same (refusals.saidAt n 0 0) r (ap (λ (o : Outcome). o .answer) e ∙ f));
     kindsKept = sym (ap (λ (o : Outcome). o .kinds) e);
     hfMulKept = sym (ap (λ (o : Outcome). o .hfMul) e);
     sigmaKept = sym (ap (λ (o : Outcome). o .sigma) e);

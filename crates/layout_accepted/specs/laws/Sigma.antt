@@ -17,7 +17,7 @@ use Rattle.laws.specs.laws.Cases.{eq-or-ne}
 use Rattle.dct_select.specs.Transforms.{wide, high}
 use Rattle.dct_select.specs.laws.Sides.{wide-some, high-some}
 use Rattle.layout.specs.laws.Walk.{forward}
-use Rattle.layout.specs.Grid.{at}
+use Rattle.layout.specs.Grid.{blockAt}
 use Rattle.layout.specs.laws.Grid.{place-lt, place-col, place-row}
 use Rattle.layout.specs.Valid.{Covers}
 use Rattle.layout.specs.Walk.{Before}
@@ -73,15 +73,15 @@ module _ (bw bh : ℕ) (filter : DividedFilter) (lookups : List Float) (sharpnes
 
   -- one cell
   cell-sigma : (cx cy : ℕ) (k k′ s s′ : List ℕ) → takeCell bw bh filter lookups sharpness cx cy (Taking k s) ≡ Taking k′ s′
-      → (s′ ≡ sigmaWith filter lookups sharpness s (cy * bw + cx)) × (isOn filter ≡ true → at sharpness bw cx cy < 8)
+      → (s′ ≡ sigmaWith filter lookups sharpness s (cy * bw + cx)) × (isOn filter ≡ true → blockAt sharpness bw cx cy < 8)
   unfolding takeCell
   cell-sigma cx cy k k′ s s′ e =
       let p1 = passed (leb bw cx) 9 cx cy _ k′ s′ e in
       let p2 = passed (leb bh cy) 9 cx cy _ k′ s′ (p1 .1) in
-      let p3 = passed (ltb 0 (at k bw cx cy)) 8 cx cy _ k′ s′ (p2 .1) in
-      let p4 = passed (isOn filter && leb 8 (at sharpness bw cx cy)) 10 cx cy _ k′ s′ (p3 .1) in (
+      let p3 = passed (ltb 0 (blockAt k bw cx cy)) 8 cx cy _ k′ s′ (p2 .1) in
+      let p4 = passed (isOn filter && leb 8 (blockAt sharpness bw cx cy)) 10 cx cy _ k′ s′ (p3 .1) in (
         sym (same-sigma (set k (cy * bw + cx) 1) k′ (sigmaWith filter lookups sharpness s (cy * bw + cx)) s′ (p4 .1)),
-        sharp-below filter (at sharpness bw cx cy) (p4 .0),
+        sharp-below filter (blockAt sharpness bw cx cy) (p4 .0),
       )
 
   module _ (x y w h : ℕ) (s : List ℕ) (len : length s ≡ bh * bw) (a b : ℕ) (ha : a < bw) (hb : b < bh) where
@@ -91,8 +91,8 @@ module _ (bw bh : ℕ) (filter : DividedFilter) (lookups : List Float) (sharpnes
 
     record SigmaSofar (dx dy : ℕ) (s′ : List ℕ) : Type 0 where
       lengthS : length s′ ≡ bh * bw
-      now : Taken dx dy → sigmaAt s′ bw a b ≡ cellSigma filter lookups (at sharpness bw a b) (sigmaAt s bw a b)
-      sharp : Taken dx dy → isOn filter ≡ true → at sharpness bw a b < 8
+      now : Taken dx dy → sigmaAt s′ bw a b ≡ cellSigma filter lookups (blockAt sharpness bw a b) (sigmaAt s bw a b)
+      sharp : Taken dx dy → isOn filter ≡ true → blockAt sharpness bw a b < 8
       kept : (Taken dx dy → ⊥) → sigmaAt s′ bw a b ≡ sigmaAt s bw a b
 
     Sound : ℕ → ℕ → Scan → Type 0
@@ -100,7 +100,7 @@ module _ (bw bh : ℕ) (filter : DividedFilter) (lookups : List Float) (sharpnes
     Sound dx dy (Left n c d) = Unit
 
     one-more : (dx dy : ℕ) (s₁ s₂ : List ℕ) → dx < w → x + dx < bw → y + dy < bh
-        → (s₂ ≡ sigmaWith filter lookups sharpness s₁ ((y + dy) * bw + (x + dx))) × (isOn filter ≡ true → at sharpness bw (x + dx) (y + dy) < 8)
+        → (s₂ ≡ sigmaWith filter lookups sharpness s₁ ((y + dy) * bw + (x + dx))) × (isOn filter ≡ true → blockAt sharpness bw (x + dx) (y + dy) < 8)
         → SigmaSofar dx dy s₁ → SigmaSofar (dx + 1) dy s₂
     one-more dx dy s₁ s₂ hd hx hy c r = go (eq-or-ne a (x + dx)) (eq-or-ne b (y + dy))
       where
@@ -146,10 +146,10 @@ module _ (bw bh : ℕ) (filter : DividedFilter) (lookups : List Float) (sharpnes
             at-place : b * bw + a ≡ (y + dy) * bw + (x + dx)
             at-place = rw (e, f)
 
-            is : sigmaAt s₂ bw a b ≡ cellSigma filter lookups (at sharpness bw a b) (sigmaAt s bw a b)
+            is : sigmaAt s₂ bw a b ≡ cellSigma filter lookups (blockAt sharpness bw a b) (sigmaAt s bw a b)
             is = ap (λ (z : List ℕ). sigmaAt z bw a b) (c .0 ∙ ap (λ (j : ℕ). sigmaWith filter lookups sharpness s₁ j) (sym at-place))
                 ∙ with-same lookups sharpness s₁ (b * bw + a) filter (let l = r .lengthS in omega (arith, place-lt bw bh a b ha hb))
-                ∙ ap (λ (z : ℕ). cellSigma filter lookups (at sharpness bw a b) z) old
+                ∙ ap (λ (z : ℕ). cellSigma filter lookups (blockAt sharpness bw a b) z) old
 
         go : (a ≡ x + dx) ⊎ (a ≡ x + dx → ⊥) → (b ≡ y + dy) ⊎ (b ≡ y + dy → ⊥) → SigmaSofar (dx + 1) dy s₂
         go (inl e) (inl f) = itself e f
@@ -208,8 +208,8 @@ module _ (bw bh : ℕ) (filter : DividedFilter) (lookups : List Float) (sharpnes
     -- by the rectangle
     record Scanned (s′ : List ℕ) : Type 0 where
       lengthS : length s′ ≡ bh * bw
-      now : InRect x y w h a b → sigmaAt s′ bw a b ≡ cellSigma filter lookups (at sharpness bw a b) (sigmaAt s bw a b)
-      sharp : InRect x y w h a b → isOn filter ≡ true → at sharpness bw a b < 8
+      now : InRect x y w h a b → sigmaAt s′ bw a b ≡ cellSigma filter lookups (blockAt sharpness bw a b) (sigmaAt s bw a b)
+      sharp : InRect x y w h a b → isOn filter ≡ true → blockAt sharpness bw a b < 8
       kept : (InRect x y w h a b → ⊥) → sigmaAt s′ bw a b ≡ sigmaAt s bw a b
 
     scanned : (k k′ s′ : List ℕ) → scan bw bh filter lookups sharpness x y w h (Taking k s) ≡ Taking k′ s′ → Scanned s′
@@ -240,10 +240,10 @@ module _ (J : Job) where
   -- blocks that are free have +0.0, the others the filter strength by the hf_mul of their varblock's corner
   record Strengths (p : Placed) : Type 0 where
     lengthS : length (p .sigma) ≡ J .bh * J .bw
-    free : (a b : ℕ) → a < J .bw → b < J .bh → at (p .kinds) (J .bw) a b ≡ 0 → sigmaAt (p .sigma) (J .bw) a b ≡ 0
-    taken : (a b c d : ℕ) → a < J .bw → b < J .bh → Covers (at (p .kinds) (J .bw)) c d a b
-        → sigmaAt (p .sigma) (J .bw) a b ≡ cellSigma (dividedBy (J .filter) (at (p .hfMul) (J .bw) c d)) (J .lookups) (at (J .sharpness) (J .bw) a b) 0
-    sharp : (a b : ℕ) → a < J .bw → b < J .bh → 0 < at (p .kinds) (J .bw) a b → isScaledOn (J .filter) ≡ true → at (J .sharpness) (J .bw) a b < 8
+    free : (a b : ℕ) → a < J .bw → b < J .bh → blockAt (p .kinds) (J .bw) a b ≡ 0 → sigmaAt (p .sigma) (J .bw) a b ≡ 0
+    taken : (a b c d : ℕ) → a < J .bw → b < J .bh → Covers (blockAt (p .kinds) (J .bw)) c d a b
+        → sigmaAt (p .sigma) (J .bw) a b ≡ cellSigma (dividedBy (J .filter) (blockAt (p .hfMul) (J .bw) c d)) (J .lookups) (blockAt (J .sharpness) (J .bw) a b) 0
+    sharp : (a b : ℕ) → a < J .bw → b < J .bh → 0 < blockAt (p .kinds) (J .bw) a b → isScaledOn (J .filter) ≡ true → blockAt (J .sharpness) (J .bw) a b < 8
 
   begin : Strengths (start J)
   begin = record {
@@ -259,26 +259,26 @@ module _ (J : Job) where
     seen a b i j =
         scanned (J .bw) (J .bh) (dividedBy (J .filter) h) (J .lookups) (J .sharpness) x y (wide t) (high t) (p .sigma) (r .lengthS) a b i j (p .kinds) (c .taken) (q .sigma) (c .scanIs)
 
-    was-free : at (p .kinds) (J .bw) x y ≡ 0
+    was-free : blockAt (p .kinds) (J .bw) x y ≡ 0
     was-free = c .free x y (let w = wide-some t (c .fits .known) in let v = high-some t (c .fits .known) in (omega arith, omega arith, omega arith, omega arith))
 
-    now-free : (a b : ℕ) → a < J .bw → b < J .bh → at (q .kinds) (J .bw) a b ≡ 0 → Spot x y (wide t) (high t) a b → sigmaAt (q .sigma) (J .bw) a b ≡ 0
-    now-free a b i j e (corner m) = absurd (let z = c .puts .atCorner in let u : at (q .kinds) (J .bw) a b ≡ at (q .kinds) (J .bw) x y = rw (m .0, m .1) in omega arith)
+    now-free : (a b : ℕ) → a < J .bw → b < J .bh → blockAt (q .kinds) (J .bw) a b ≡ 0 → Spot x y (wide t) (high t) a b → sigmaAt (q .sigma) (J .bw) a b ≡ 0
+    now-free a b i j e (corner m) = absurd (let z = c .puts .atCorner in let u : blockAt (q .kinds) (J .bw) a b ≡ blockAt (q .kinds) (J .bw) x y = rw (m .0, m .1) in omega arith)
     now-free a b i j e (body n m) = absurd (let z = c .puts .inBody a b n m in omega arith)
     now-free a b i j e (beyond n) = seen a b i j .kept n ∙ r .free a b i j (sym (c .puts .elsewhere a b i n) ∙ e)
 
-    now-taken : (a b u v : ℕ) → a < J .bw → b < J .bh → (Here x y u v × InRect x y (wide t) (high t) a b) ⊎ Covers (at (p .kinds) (J .bw)) u v a b
-        → sigmaAt (q .sigma) (J .bw) a b ≡ cellSigma (dividedBy (J .filter) (at (q .hfMul) (J .bw) u v)) (J .lookups) (at (J .sharpness) (J .bw) a b) 0
+    now-taken : (a b u v : ℕ) → a < J .bw → b < J .bh → (Here x y u v × InRect x y (wide t) (high t) a b) ⊎ Covers (blockAt (p .kinds) (J .bw)) u v a b
+        → sigmaAt (q .sigma) (J .bw) a b ≡ cellSigma (dividedBy (J .filter) (blockAt (q .hfMul) (J .bw) u v)) (J .lookups) (blockAt (J .sharpness) (J .bw) a b) 0
     now-taken a b u v i j (inl m) =
         seen a b i j .now (m .1)
-        ∙ ap (λ (z : ℕ). cellSigma (dividedBy (J .filter) h) (J .lookups) (at (J .sharpness) (J .bw) a b) z) (r .free a b i j (c .free a b (m .1)))
-        ∙ ap (λ (n : ℕ). cellSigma (dividedBy (J .filter) n) (J .lookups) (at (J .sharpness) (J .bw) a b) 0) (sym (ap (λ (n : ℕ). at (q .hfMul) (J .bw) n v) (m .0 .0) ∙ ap (λ (n : ℕ). at (q .hfMul) (J .bw) x n) (m .0 .1) ∙ c .puts .hfMulCorner))
+        ∙ ap (λ (z : ℕ). cellSigma (dividedBy (J .filter) h) (J .lookups) (blockAt (J .sharpness) (J .bw) a b) z) (r .free a b i j (c .free a b (m .1)))
+        ∙ ap (λ (n : ℕ). cellSigma (dividedBy (J .filter) n) (J .lookups) (blockAt (J .sharpness) (J .bw) a b) 0) (sym (ap (λ (n : ℕ). blockAt (q .hfMul) (J .bw) n v) (m .0 .0) ∙ ap (λ (n : ℕ). blockAt (q .hfMul) (J .bw) x n) (m .0 .1) ∙ c .puts .hfMulCorner))
     now-taken a b u v i j (inr w) =
         seen a b i j .kept (λ m. let z = c .free a b m in let f = o .part .full a b u v i j w in omega arith) ∙ r .taken a b u v i j w
-        ∙ ap (λ (n : ℕ). cellSigma (dividedBy (J .filter) n) (J .lookups) (at (J .sharpness) (J .bw) a b) 0)
-        (sym (c .puts .hfMulOther u v (let z = w .fromX in omega arith) (λ m. let z = w .corner in let k : at (p .kinds) (J .bw) u v ≡ at (p .kinds) (J .bw) x y = rw (m .0, m .1) in omega (arith, was-free))))
+        ∙ ap (λ (n : ℕ). cellSigma (dividedBy (J .filter) n) (J .lookups) (blockAt (J .sharpness) (J .bw) a b) 0)
+        (sym (c .puts .hfMulOther u v (let z = w .fromX in omega arith) (λ m. let z = w .corner in let k : blockAt (p .kinds) (J .bw) u v ≡ blockAt (p .kinds) (J .bw) x y = rw (m .0, m .1) in omega (arith, was-free))))
 
-    now-sharp : (a b : ℕ) → a < J .bw → b < J .bh → 0 < at (q .kinds) (J .bw) a b → isScaledOn (J .filter) ≡ true → Spot x y (wide t) (high t) a b → at (J .sharpness) (J .bw) a b < 8
+    now-sharp : (a b : ℕ) → a < J .bw → b < J .bh → 0 < blockAt (q .kinds) (J .bw) a b → isScaledOn (J .filter) ≡ true → Spot x y (wide t) (high t) a b → blockAt (J .sharpness) (J .bw) a b < 8
     now-sharp a b i j l e (corner m) = seen a b i j .sharp (let w = wide-some t (c .fits .known) in let v = high-some t (c .fits .known) in (omega arith, omega arith, omega arith, omega arith)) (shared-on (J .filter) h e)
     now-sharp a b i j l e (body n m) = seen a b i j .sharp m (shared-on (J .filter) h e)
     now-sharp a b i j l e (beyond n) = r .sharp a b i j (let z = c .puts .elsewhere a b i n in omega arith) e
@@ -319,23 +319,23 @@ module _ (i : Inputs) (kinds hfMul sigma : List ℕ) where
     accepted-sigmas = ap length (read .sigmaAre) ∙ strengths .1 .lengthS
 
     -- its bit pattern is what is left
-    pub accepted-sigma : (cx cy x y : ℕ) → x < bwOf i → y < bhOf i → Covers (at (layoutOf i kinds hfMul sigma .kinds) (bwOf i)) cx cy x y → sigmaAt (layoutOf i kinds hfMul sigma .sigma) (bwOf i) x y ≡ pattern (strengthAt i kinds hfMul sigma cx cy x y)
+    pub accepted-sigma : (cx cy x y : ℕ) → x < bwOf i → y < bhOf i → Covers (blockAt (layoutOf i kinds hfMul sigma .kinds) (bwOf i)) cx cy x y → sigmaAt (layoutOf i kinds hfMul sigma .sigma) (bwOf i) x y ≡ pattern (strengthAt i kinds hfMul sigma cx cy x y)
     accepted-sigma cx cy x y hx hy v =
         let r = read in
         rw (r .sigmaAre, r .hfMulAre)
         (strengths .1 .taken x y cx cy hx hy (rw (r .kindsAre) at v)
-        ∙ steps (i .filter) (i .scale) (at (r .last .hfMul) (bwOf i) cx cy) (i .lookups) (at (i .sharpness) (bwOf i) x y))
+        ∙ steps (i .filter) (i .scale) (blockAt (r .last .hfMul) (bwOf i) cx cy) (i .lookups) (blockAt (i .sharpness) (bwOf i) x y))
 
     -- with the filter on every sharpness number is 0 to 7
-    pub accepted-sharpness : (m : Float) → i .filter ≡ On m → (x y : ℕ) → x < bwOf i → y < bhOf i → at (i .sharpness) (bwOf i) x y < 8
+    pub accepted-sharpness : (m : Float) → i .filter ≡ On m → (x y : ℕ) → x < bwOf i → y < bhOf i → blockAt (i .sharpness) (bwOf i) x y < 8
     accepted-sharpness m f x y hx hy = strengths .1 .sharp x y hx hy (strengths .0 .done x y hx hy (inl hy)) (scaled-on (i .filter) (i .scale) m f)
 
     -- it is finite, no NaN and no infinity, at most 65,504 × 65,536 × 65,504 in size, and the bit pattern reads back as it
-    pub accepted-finite : (cx cy x y : ℕ) → x < bwOf i → y < bhOf i → Covers (at (layoutOf i kinds hfMul sigma .kinds) (bwOf i)) cx cy x y
+    pub accepted-finite : (cx cy x y : ℕ) → x < bwOf i → y < bhOf i → Covers (blockAt (layoutOf i kinds hfMul sigma .kinds) (bwOf i)) cx cy x y
         → T (finite (strengthAt i kinds hfMul sigma cx cy x y)) × Within SIGMA-MOST (strengthAt i kinds hfMul sigma cx cy x y) × (ofBits binary32 (sigmaAt (layoutOf i kinds hfMul sigma .sigma) (bwOf i) x y) ≡ strengthAt i kinds hfMul sigma cx cy x y)
     accepted-finite cx cy x y hx hy v =
-        let h = at (layoutOf i kinds hfMul sigma .hfMul) (bwOf i) cx cy in
-        let s = at (i .sharpness) (bwOf i) x y in
+        let h = blockAt (layoutOf i kinds hfMul sigma .hfMul) (bwOf i) cx cy in
+        let s = blockAt (i .sharpness) (bwOf i) x y in
         let f = accepted-layout i kinds hfMul sigma n e .valid .fits cx cy (let z = v .fromX in omega arith) (let z = v .fromY in omega arith) (v .corner) in
         let a = f .positive in
         let b = f .signed in

@@ -9,7 +9,7 @@ use Rattle.refusal.specs.Said as refusals
 use Rattle.refusal.specs.Answer.{Answer, gives, refuses, answeredBy}
 use Rattle.refusal.specs.laws.Answer.{pass}
 use Rattle.layout_sizes.specs.Blocks.{sizeFits}
-use Rattle.layout.specs.Grid.{at}
+use Rattle.layout.specs.Grid.{blockAt}
 use Rattle.layout.specs.Valid.{Covers, Owned, Layout}
 use Rattle.layout.specs.Varblocks.{varblocksOf, area}
 use Rattle.layout.specs.laws.Theorems.{disjoint, covered, layout-area}
@@ -39,15 +39,15 @@ module _ (i : Inputs) (kinds hfMul sigma : List ℕ) where
   by-reading n (Going p) e f = (p, refl, cc)
 
   -- each way through the tests before work
-  pub off-size : sizeFits (i .width) (i .height) ≡ false → refuse i kinds hfMul sigma (refusals.at 2 0 0) ≡ layoutOf i kinds hfMul sigma
+  pub off-size : sizeFits (i .width) (i .height) ≡ false → refuse i kinds hfMul sigma (refusals.saidAt 2 0 0) ≡ layoutOf i kinds hfMul sigma
   unfolding layoutOf
   off-size a = rw a
 
-  pub off-parameters : sizeFits (i .width) (i .height) ≡ true → parametersFit i ≡ false → refuse i kinds hfMul sigma (refusals.at 11 0 0) ≡ layoutOf i kinds hfMul sigma
+  pub off-parameters : sizeFits (i .width) (i .height) ≡ true → parametersFit i ≡ false → refuse i kinds hfMul sigma (refusals.saidAt 11 0 0) ≡ layoutOf i kinds hfMul sigma
   unfolding layoutOf
   off-parameters a b = rw (a, b)
 
-  pub off-lengths : sizeFits (i .width) (i .height) ≡ true → parametersFit i ≡ true → lengthsFit i kinds hfMul sigma ≡ false → refuse i kinds hfMul sigma (refusals.at 1 0 0) ≡ layoutOf i kinds hfMul sigma
+  pub off-lengths : sizeFits (i .width) (i .height) ≡ true → parametersFit i ≡ true → lengthsFit i kinds hfMul sigma ≡ false → refuse i kinds hfMul sigma (refusals.saidAt 1 0 0) ≡ layoutOf i kinds hfMul sigma
   unfolding layoutOf
   off-lengths a b c = rw (a, b, c)
 
@@ -92,12 +92,12 @@ module _ (i : Inputs) (kinds hfMul sigma : List ℕ) where
     accepted-cut g outKinds outMuls = cut-not-18 (bwOf i) (bhOf i) (layoutOf i kinds hfMul sigma .kinds) (layoutOf i kinds hfMul sigma .hfMul) g outKinds outMuls accepted-layout
 
     -- each block is in just one varblock, which lies inside the grid and a square of 32 x 32 blocks (`Fits` of accepted-layout)
-    pub accepted-covered : (x y : ℕ) → x < bwOf i → y < bhOf i → Owned (at (layoutOf i kinds hfMul sigma .kinds) (bwOf i)) x y
+    pub accepted-covered : (x y : ℕ) → x < bwOf i → y < bhOf i → Owned (blockAt (layoutOf i kinds hfMul sigma .kinds) (bwOf i)) x y
     accepted-covered = covered (bwOf i) (bhOf i) (layoutOf i kinds hfMul sigma .kinds) (layoutOf i kinds hfMul sigma .hfMul) accepted-layout
 
     -- varblocks are disjoint
     pub accepted-disjoint : (a b c d x y : ℕ) → x < bwOf i → y < bhOf i
-        → Covers (at (layoutOf i kinds hfMul sigma .kinds) (bwOf i)) a b x y → Covers (at (layoutOf i kinds hfMul sigma .kinds) (bwOf i)) c d x y → (a ≡ c) × (b ≡ d)
+        → Covers (blockAt (layoutOf i kinds hfMul sigma .kinds) (bwOf i)) a b x y → Covers (blockAt (layoutOf i kinds hfMul sigma .kinds) (bwOf i)) c d x y → (a ≡ c) × (b ≡ d)
     accepted-disjoint = disjoint (bwOf i) (bhOf i) (layoutOf i kinds hfMul sigma .kinds) (layoutOf i kinds hfMul sigma .hfMul) accepted-layout
 
     -- their areas sum to the grid's blocks

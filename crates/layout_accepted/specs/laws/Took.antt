@@ -11,7 +11,7 @@ use lib.Ieee.{Float}
 use borrow.Author.Tests.{ltb-false, leb-false}
 use Rattle.laws.specs.laws.Cases.{eq-or-ne}
 use Rattle.layout.specs.laws.Walk.{forward}
-use Rattle.layout.specs.Grid.{at}
+use Rattle.layout.specs.Grid.{blockAt}
 use Rattle.layout.specs.laws.Grid.{set-same, set-other}
 use Rattle.layout.specs.Walk.{Before}
 use Rattle.layout.specs.laws.Order.{Here, last}
@@ -36,7 +36,7 @@ pub record Took (bw bh : ℕ) (K K′ : ℕ → ℕ → ℕ) (x y w h : ℕ) : T
 pub record CellTook (bw bh cx cy : ℕ) (k k′ : List ℕ) : Type 0 where
   pub inX : cx < bw
   pub inY : cy < bh
-  pub free : at k bw cx cy ≡ 0
+  pub free : blockAt k bw cx cy ≡ 0
   pub now : k′ ≡ set k (cy * bw + cx) 1
 
 pub passed : (b : Bool) (n cx cy : ℕ) (t : Scan) (k s : List ℕ) → cond b (Left n cx cy) t ≡ Taking k s → (b ≡ false) × (t ≡ Taking k s)
@@ -52,9 +52,9 @@ module _ (bw bh : ℕ) (filter : DividedFilter) (lookups : List Float) (sharpnes
   cell-took cx cy k k′ s s′ e =
       let p1 = passed (leb bw cx) 9 cx cy _ k′ s′ e in
       let p2 = passed (leb bh cy) 9 cx cy _ k′ s′ (p1 .1) in
-      let p3 = passed (ltb 0 (at k bw cx cy)) 8 cx cy _ k′ s′ (p2 .1) in
-      let p4 = passed (isOn filter && leb 8 (at sharpness bw cx cy)) 10 cx cy _ k′ s′ (p3 .1) in
-      let z = ltb-false 0 (at k bw cx cy) (p3 .0) in
+      let p3 = passed (ltb 0 (blockAt k bw cx cy)) 8 cx cy _ k′ s′ (p2 .1) in
+      let p4 = passed (isOn filter && leb 8 (blockAt sharpness bw cx cy)) 10 cx cy _ k′ s′ (p3 .1) in
+      let z = ltb-false 0 (blockAt k bw cx cy) (p3 .0) in
       record {
         inX = leb-false bw cx (p1 .0);
         inY = leb-false bh cy (p2 .0);
@@ -68,9 +68,9 @@ module _ (bw bh : ℕ) (filter : DividedFilter) (lookups : List Float) (sharpnes
       pub len : length k′ ≡ bh * bw
       pub inX : (i j : ℕ) → i < w → j < h → Before i j dx dy → x + i < bw
       pub inY : (i j : ℕ) → i < w → j < h → Before i j dx dy → y + j < bh
-      pub free : (i j : ℕ) → i < w → j < h → Before i j dx dy → at k bw (x + i) (y + j) ≡ 0
-      pub taken : (i j : ℕ) → i < w → j < h → Before i j dx dy → at k′ bw (x + i) (y + j) ≡ 1
-      pub kept : (a b : ℕ) → a < bw → ((i j : ℕ) → i < w → j < h → Before i j dx dy → Here (x + i) (y + j) a b → ⊥) → at k′ bw a b ≡ at k bw a b
+      pub free : (i j : ℕ) → i < w → j < h → Before i j dx dy → blockAt k bw (x + i) (y + j) ≡ 0
+      pub taken : (i j : ℕ) → i < w → j < h → Before i j dx dy → blockAt k′ bw (x + i) (y + j) ≡ 1
+      pub kept : (a b : ℕ) → a < bw → ((i j : ℕ) → i < w → j < h → Before i j dx dy → Here (x + i) (y + j) a b → ⊥) → blockAt k′ bw a b ≡ blockAt k bw a b
 
     Sound : ℕ → ℕ → Scan → Type 0
     Sound dx dy (Taking k′ s) = Sofar dx dy k′
@@ -83,7 +83,7 @@ module _ (bw bh : ℕ) (filter : DividedFilter) (lookups : List Float) (sharpnes
       inY = λ i j hi hj g. inY′ i j hi hj (last i j dx dy g);
       free = λ i j hi hj g. free′ i j hi hj (last i j dx dy g);
       taken = λ i j hi hj g. taken′ i j hi hj (last i j dx dy g);
-      kept = λ a b ha n. ap (λ (g : List ℕ). at g bw a b) (c .now)
+      kept = λ a b ha n. ap (λ (g : List ℕ). blockAt g bw a b) (c .now)
           ∙ set-other k₁ bw (x + dx) (y + dy) 1 a b (c .inX) ha (λ e. n dx dy hx hy (inr (refl, omega arith)) e)
           ∙ r .kept a b ha (λ i j hi hj g e. n i j hi hj (before i j g) e);
     }
@@ -100,7 +100,7 @@ module _ (bw bh : ℕ) (filter : DividedFilter) (lookups : List Float) (sharpnes
         other i j (inl g) e = omega arith
         other i j (inr g) e = omega arith
 
-        was : at k bw (x + dx) (y + dy) ≡ 0
+        was : blockAt k bw (x + dx) (y + dy) ≡ 0
         was = sym (r .kept (x + dx) (y + dy) (c .inX) (λ i j hi hj g e. other i j g (omega arith, omega arith))) ∙ c .free
 
         inX′ : (i j : ℕ) → i < w → j < h → Here dx dy i j ⊎ Before i j dx dy → x + i < bw
@@ -111,14 +111,14 @@ module _ (bw bh : ℕ) (filter : DividedFilter) (lookups : List Float) (sharpnes
         inY′ i j hi hj (inl e) = rw (e .1) (c .inY)
         inY′ i j hi hj (inr g) = r .inY i j hi hj g
 
-        free′ : (i j : ℕ) → i < w → j < h → Here dx dy i j ⊎ Before i j dx dy → at k bw (x + i) (y + j) ≡ 0
+        free′ : (i j : ℕ) → i < w → j < h → Here dx dy i j ⊎ Before i j dx dy → blockAt k bw (x + i) (y + j) ≡ 0
         free′ i j hi hj (inl e) = rw (e .0, e .1) was
         free′ i j hi hj (inr g) = r .free i j hi hj g
 
-        taken′ : (i j : ℕ) → i < w → j < h → Here dx dy i j ⊎ Before i j dx dy → at k₂ bw (x + i) (y + j) ≡ 1
-        taken′ i j hi hj (inl e) = rw (e .0, e .1) (ap (λ (g : List ℕ). at g bw (x + dx) (y + dy)) (c .now) ∙ set-same k₁ bw bh (x + dx) (y + dy) 1 (r .len) (c .inX) (c .inY))
+        taken′ : (i j : ℕ) → i < w → j < h → Here dx dy i j ⊎ Before i j dx dy → blockAt k₂ bw (x + i) (y + j) ≡ 1
+        taken′ i j hi hj (inl e) = rw (e .0, e .1) (ap (λ (g : List ℕ). blockAt g bw (x + dx) (y + dy)) (c .now) ∙ set-same k₁ bw bh (x + dx) (y + dy) 1 (r .len) (c .inX) (c .inY))
         taken′ i j hi hj (inr g) =
-            ap (λ (l : List ℕ). at l bw (x + i) (y + j)) (c .now)
+            ap (λ (l : List ℕ). blockAt l bw (x + i) (y + j)) (c .now)
             ∙ set-other k₁ bw (x + dx) (y + dy) 1 (x + i) (y + j) (c .inX) (r .inX i j hi hj g) (other i j g)
             ∙ r .taken i j hi hj g
 
@@ -182,7 +182,7 @@ module _ (bw bh : ℕ) (filter : DividedFilter) (lookups : List Float) (sharpnes
 
     -- by cells of the grid
     pub took : (s s′ k′ : List ℕ) → length k ≡ bh * bw → scan bw bh filter lookups sharpness x y w h (Taking k s) ≡ Taking k′ s′
-        → Took bw bh (at k bw) (at k′ bw) x y w h × (length k′ ≡ bh * bw)
+        → Took bw bh (blockAt k bw) (blockAt k′ bw) x y w h × (length k′ ≡ bh * bw)
     took s s′ k′ e f = (
       record {
         inX = λ a b m. let q : x + (a - x) ≡ a = omega arith in rw q at (r .inX (a - x) (b - y) (omega arith) (omega arith) (inl (omega arith)));
@@ -201,7 +201,7 @@ module _ (bw bh : ℕ) (filter : DividedFilter) (lookups : List Float) (sharpnes
 module _ (bw bh : ℕ) (lookups : List Float) (sharpness : List ℕ) (x y w h : ℕ) (k s : List ℕ)
     (inX : (a b : ℕ) → InRect x y w h a b → a < bw)
     (inY : (a b : ℕ) → InRect x y w h a b → b < bh)
-    (free : (a b : ℕ) → InRect x y w h a b → at k bw a b ≡ 0) where
+    (free : (a b : ℕ) → InRect x y w h a b → blockAt k bw a b ≡ 0) where
   -- the cells before (dx, dy) are taken, sigma is as it was
   Upto : ℕ → ℕ → Scan → Type 0
   Upto dx dy t = (k′ : List ℕ) × (t ≡ Taking k′ s) × Sofar bw bh Off lookups sharpness x y w h k dx dy k′
@@ -214,7 +214,7 @@ module _ (bw bh : ℕ) (lookups : List Float) (sharpness : List ℕ) (x y w h : 
       let m : InRect x y w h (x + dx) (y + dy) = (omega arith, omega arith, omega arith, omega arith) in
       let i = inX (x + dx) (y + dy) m in
       let j = inY (x + dx) (y + dy) m in
-      let z : at k₁ bw (x + dx) (y + dy) ≡ 0 = o .kept (x + dx) (y + dy) i (λ a b p q g e. other a b g (e .0) (e .1)) ∙ free (x + dx) (y + dy) m in
+      let z : blockAt k₁ bw (x + dx) (y + dy) ≡ 0 = o .kept (x + dx) (y + dy) i (λ a b p q g e. other a b g (e .0) (e .1)) ∙ free (x + dx) (y + dy) m in
       let c : CellTook bw bh (x + dx) (y + dy) k₁ (set k₁ ((y + dy) * bw + (x + dx)) 1) = record { inX = i; inY = j; free = z; now = refl } in (
         set k₁ ((y + dy) * bw + (x + dx)) 1,
         ap (takeCell bw bh Off lookups sharpness (x + dx) (y + dy)) (u .1) ∙ sym (cell-off bw bh Off lookups sharpness (x + dx) (y + dy) k₁ s i j (omega arith) refl),

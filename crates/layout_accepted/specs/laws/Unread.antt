@@ -9,8 +9,8 @@ use lib.Ieee.{Float}
 use Rattle.refusal.specs.declared.Said.{Said}
 use Rattle.refusal.specs.Answer.{answeredBy}
 use Rattle.dct_select.specs.Transforms.{wide, high}
-use Rattle.layout.specs.Walk.{walk}
-use Rattle.layout.specs.Grid.{at}
+use Rattle.layout.specs.Walk.{rowByRow}
+use Rattle.layout.specs.Grid.{blockAt}
 use Rattle.layout_filter.specs.declared.Filter.the-variants.{Off}
 use Rattle.layout_filter.specs.declared.DividedFilter.the-variants.{Off as DividedOff}
 use Rattle.layout_filter.specs.Strength.{scaledBy, dividedBy}
@@ -27,7 +27,7 @@ module _ (bw bh : ℕ) (lookups : List Float) (s t : List ℕ) where
 
   scan-unread : (x y w h : ℕ) (p : Scan) → scan bw bh DividedOff lookups s x y w h p ≡ scan bw bh DividedOff lookups t x y w h p
   unfolding scan
-  scan-unread x y w h p = ap (λ (f : ℕ → ℕ → Scan → Scan). walk f w h p) (fun-ext (λ dx. fun-ext (λ dy. fun-ext (λ q. cell-unread (x + dx) (y + dy) q))))
+  scan-unread x y w h p = ap (λ (f : ℕ → ℕ → Scan → Scan). rowByRow f w h p) (fun-ext (λ dx. fun-ext (λ dy. fun-ext (λ q. cell-unread (x + dx) (y + dy) q))))
 
 module _ (i : Inputs) (s : List ℕ) (off : i .filter ≡ Off) where
   abbrev J : Job
@@ -45,12 +45,12 @@ module _ (i : Inputs) (s : List ℕ) (off : i .filter ≡ Off) where
   unfolding column
   visit-unread x y (Stopped n r) = refl
   visit-unread x y (Going p) =
-      ap (λ (r : Placing). cond (eqb (at (p .kinds) (J .bw) x y) 0) (answeredBy (nextChecks J x y p) (λ (s : Said). stopAt (s .number) x y p) (λ (u : Unit). r)) (Going p))
+      ap (λ (r : Placing). cond (eqb (blockAt (p .kinds) (J .bw) x y) 0) (answeredBy (nextChecks J x y p) (λ (s : Said). stopAt (s .number) x y p) (λ (u : Unit). r)) (Going p))
       (place-unread (2 + nextType J p) (nextHfMul J p) (wide (nextType J p)) (high (nextType J p)) x y p)
 
   reading-unread : reading J′ ≡ reading J
   unfolding reading
-  reading-unread = ap (λ (f : ℕ → ℕ → Placing → Placing). walk f (J .bw) (J .bh) (Going (start J))) (fun-ext (λ x. fun-ext (λ y. fun-ext (λ r. visit-unread x y r))))
+  reading-unread = ap (λ (f : ℕ → ℕ → Placing → Placing). rowByRow f (J .bw) (J .bh) (Going (start J))) (fun-ext (λ x. fun-ext (λ y. fun-ext (λ r. visit-unread x y r))))
 
   outcome-unread : (r : Placing) → outcomeOf J′ r ≡ outcomeOf J r
   outcome-unread (Stopped n r) = refl

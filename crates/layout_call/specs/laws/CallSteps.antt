@@ -5,7 +5,7 @@ use mathlib.Core.List.{List}
 use Prim.Native.Nat.{ℕ, _≤_}
 use native.Mathlib.Omega.{arith}
 use borrow.Author.Tests.{le-leb}
-use Rattle.refusal.specs.Said.{at}
+use Rattle.refusal.specs.Said.{saidAt}
 use Rattle.layout_sizes.specs.declared.Blocks.{Blocks}
 use Rattle.layout_sizes.specs.Blocks.{sizeFits, modesFit, bwIn, bhIn}
 use Rattle.layout_sizes.specs.laws.Bounds.{blocksOf, bw-most, bh-most}
@@ -28,12 +28,12 @@ hands-on (GoesOn used) k m g = refl
 hands-on (Stops n r) k m g = refl
 
 module _ (i : Inputs) (k m g : List ℕ) where
-  pub call-size : sizeFits (i .width) (i .height) ≡ false → refuse i k m g (at 2 0 0) ≡ layoutOf i k m g
+  pub call-size : sizeFits (i .width) (i .height) ≡ false → refuse i k m g (saidAt 2 0 0) ≡ layoutOf i k m g
   unfolding layoutOf
   call-size a = rw a
 
   module _ (a : sizeFits (i .width) (i .height) ≡ true) where
-    pub call-modes : modesFit (i .modes) ≡ false → refuse i k m g (at 11 0 0) ≡ layoutOf i k m g
+    pub call-modes : modesFit (i .modes) ≡ false → refuse i k m g (saidAt 11 0 0) ≡ layoutOf i k m g
     unfolding layoutOf
     call-modes b = rw (a, b)
 

@@ -6,7 +6,7 @@ use lib.Dec.{leb, ltb}
 use borrow.Author.Tests.{lt-ltb, le-ltb, le-leb, lt-leb, leb-true, ltb-true}
 use Rattle.laws.specs.laws.Cases.{and-true}
 use Rattle.refusal.specs.declared.Said.{Said}
-use Rattle.refusal.specs.Said.{at, said}
+use Rattle.refusal.specs.Said.{saidAt, said}
 use Rattle.refusal.specs.Answer.{Answer, gives, refuses, answeredBy}
 use Rattle.refusal.specs.laws.Answer.{pass, worked}
 use Rattle.dct_select.specs.Transforms.{COUNT, wide, high}
@@ -25,28 +25,28 @@ judgedColumn t h = record { kind = 2 + t; «hf_mul» = h; wide = wide t; high = 
 
 -- what a column asks for at the block (x, y); refused, it is at that block
 unfoldable pub judgedOf : ℕ → ℕ → ℕ → ℕ → Answer JudgedColumn
-judgedOf t h x y = answeredBy (columnChecks t h x y) (λ (s : Said). refuses (at (s .number) x y)) (λ (u : Unit). gives (judgedColumn t h))
+judgedOf t h x y = answeredBy (columnChecks t h x y) (λ (s : Said). refuses (saidAt (s .number) x y)) (λ (u : Unit). gives (judgedColumn t h))
 
 module _ (t h x y : ℕ) where
-  pub judged-unknown : 27 ≤ t → refuses (at 5 x y) ≡ judgedOf t h x y
+  pub judged-unknown : 27 ≤ t → refuses (saidAt 5 x y) ≡ judgedOf t h x y
   unfolding judgedOf
   judged-unknown a = rw (le-ltb t 27 a)
 
   module _ (a : t < 27) where
-    pub judged-zero : h < 1 → refuses (at 6 x y) ≡ judgedOf t h x y
+    pub judged-zero : h < 1 → refuses (saidAt 6 x y) ≡ judgedOf t h x y
     unfolding judgedOf
     judged-zero b = rw (lt-ltb t 27 a, lt-leb 1 h b)
 
-    pub judged-negative : 1 ≤ h → 2147483648 ≤ h → refuses (at 6 x y) ≡ judgedOf t h x y
+    pub judged-negative : 1 ≤ h → 2147483648 ≤ h → refuses (saidAt 6 x y) ≡ judgedOf t h x y
     unfolding judgedOf
     judged-negative b c = rw (lt-ltb t 27 a, le-leb 1 h b, le-ltb h 2147483648 c)
 
     module _ (b : 1 ≤ h) (c : h < 2147483648) where
-      pub judged-wide : 32 < x % 32 + wide t → refuses (at 7 x y) ≡ judgedOf t h x y
+      pub judged-wide : 32 < x % 32 + wide t → refuses (saidAt 7 x y) ≡ judgedOf t h x y
       unfolding judgedOf
       judged-wide d = rw (lt-ltb t 27 a, le-leb 1 h b, lt-ltb h 2147483648 c, lt-leb (x % 32 + wide t) 32 d)
 
-      pub judged-high : x % 32 + wide t ≤ 32 → 32 < y % 32 + high t → refuses (at 7 x y) ≡ judgedOf t h x y
+      pub judged-high : x % 32 + wide t ≤ 32 → 32 < y % 32 + high t → refuses (saidAt 7 x y) ≡ judgedOf t h x y
       unfolding judgedOf
       judged-high d e =
           rw (lt-ltb t 27 a, le-leb 1 h b, lt-ltb h 2147483648 c, le-leb (x % 32 + wide t) 32 d, lt-leb (y % 32 + high t) 32 e)
@@ -89,7 +89,7 @@ asked v u e = cc
 pub asks-most : (t h x y : ℕ) (v : JudgedColumn) → judgedOf t h x y ≡ gives v → (v .wide ≤ 32) × (v .high ≤ 32) × (1 ≤ v .«hf_mul»)
 unfolding judgedOf
 asks-most t h x y v e =
-    let w = worked (columnChecks t h x y) (λ (s : Said). refuses (at (s .number) x y)) (λ (u : Unit). gives (judgedColumn t h)) (gives v) (λ s f. refused-not _ v f) e in
+    let w = worked (columnChecks t h x y) (λ (s : Said). refuses (saidAt (s .number) x y)) (λ (u : Unit). gives (judgedColumn t h)) (gives v) (λ s f. refused-not _ v f) e in
     let f = fitting t h x y (w .0) (w .1) in
     let q = asked (judgedColumn t h) v (w .2) in
     let a = wide-most t (f .known) in

@@ -6,11 +6,11 @@ use Prim.Native.Nat.{ℕ, _+_, _*_, _/_, _%_, _^_, _≤_, _<_, min}
 use native.Mathlib.Nat.{mul-le-mul, mod-lt}
 use native.Mathlib.Omega.{arith}
 use lib.Pow.{pow-mono, pow-pos}
-use Rattle.refusal.specs.Said.{at}
+use Rattle.refusal.specs.Said.{saidAt}
 use Rattle.refusal.specs.Answer.{gives, refuses}
 use Rattle.bits.specs.declared.Got.{Got}
 use Rattle.bits.specs.declared.Got.the-variants as got
-use Rattle.bits.specs.declared.Place.{Place}
+use Rattle.bits.specs.declared.BitPlace.{BitPlace}
 use Rattle.bits.specs.Bits.{Value, readBits, Bytes}
 use Rattle.bits.specs.laws.Numbers.{number}
 use Rattle.bits.specs.Reads.{gotOf, placeAt, bitsBefore}
@@ -21,11 +21,11 @@ use Rattle.layout_sizes.specs.laws.Bounds.{bw-most, bh-most}
 use Rattle.layout_column_count.specs.Count.{counts, plusOne, fieldBits, countOf}
 
 module _ (width height : ℕ) (modes bytes : List ℕ) where
-  pub count-size : sizeFits width height ≡ false → refuses (at 2 0 0) ≡ countOf width height modes bytes
+  pub count-size : sizeFits width height ≡ false → refuses (saidAt 2 0 0) ≡ countOf width height modes bytes
   unfolding countOf
   count-size a = rw a
 
-  pub count-modes : sizeFits width height ≡ true → modesFit modes ≡ false → refuses (at 11 0 0) ≡ countOf width height modes bytes
+  pub count-modes : sizeFits width height ≡ true → modesFit modes ≡ false → refuses (saidAt 11 0 0) ≡ countOf width height modes bytes
   unfolding countOf
   count-modes a b = rw (a, b)
 
@@ -37,7 +37,7 @@ module _ (width height : ℕ) (modes bytes : List ℕ) where
     few-bits = exponent-least (bhIn height modes * bwIn width modes) 16 most-blocks
 
     -- the field was read from the first bit on
-    module _ (n : ℕ) (p : Place) (g : Got) (c : n ≡ fieldBits width height modes) (d : p ≡ placeAt 0) (e : g ≡ gotOf (bitsBefore p) (readBits bytes (bitsBefore p) (min n 32))) where
+    module _ (n : ℕ) (p : BitPlace) (g : Got) (c : n ≡ fieldBits width height modes) (d : p ≡ placeAt 0) (e : g ≡ gotOf (bitsBefore p) (readBits bytes (bitsBefore p) (min n 32))) where
       whole : g ≡ gotOf 0 (readBits bytes 0 n)
       whole = let f = few-bits in let m : min n 32 ≡ n = omega arith in e ∙ rw (d, m)
 
@@ -45,7 +45,7 @@ module _ (width height : ℕ) (modes bytes : List ℕ) where
       unfolding countOf
       read = rw (a, b, c)
 
-      pub count-value : (v : ℕ) (q : Place) → g ≡ got.Value v q → gives (counts (1 + v) n) ≡ countOf width height modes bytes
+      pub count-value : (v : ℕ) (q : BitPlace) → g ≡ got.Value v q → gives (counts (1 + v) n) ≡ countOf width height modes bytes
       count-value v q f =
           let w = was-value 0 (readBits bytes 0 n) v q (sym whole ∙ f) in
           let l = value-at bytes 0 n v (w .at) (w .is) in
@@ -53,7 +53,7 @@ module _ (width height : ℕ) (modes bytes : List ℕ) where
           ap (λ (i : ℕ). gives (counts (1 + v) i)) k ∙ sym (read ∙ ap plusOne (w .is))
 
       -- the number fits in 16 bits
-      pub count-small : (v : ℕ) (q : Place) → Bytes bytes → g ≡ got.Value v q → v < 65536
+      pub count-small : (v : ℕ) (q : BitPlace) → Bytes bytes → g ≡ got.Value v q → v < 65536
       count-small v q h f =
           let w = was-value 0 (readBits bytes 0 n) v q (sym whole ∙ f) in
           let l = value-at bytes 0 n v (w .at) (w .is) in
@@ -64,8 +64,8 @@ module _ (width height : ℕ) (modes bytes : List ℕ) where
           let m : number bytes / 2 ^ 0 % 2 ^ n < 2 ^ n = mod-lt (number bytes / 2 ^ 0) (pow-pos n) in
           omega arith
 
-      pub count-end : (k : ℕ) → g ≡ got.End k → refuses (at 3 0 0) ≡ countOf width height modes bytes
+      pub count-end : (k : ℕ) → g ≡ got.End k → refuses (saidAt 3 0 0) ≡ countOf width height modes bytes
       count-end k f =
           let w = was-end 0 (readBits bytes 0 n) k (sym whole ∙ f) in
           let l : 0 ≡ w .at = sym (ended-at bytes 0 n (w .at) (w .is)) in
-          ap (λ (i : ℕ). refuses (at 3 i 0)) l ∙ sym (read ∙ ap plusOne (w .is))
+          ap (λ (i : ℕ). refuses (saidAt 3 i 0)) l ∙ sym (read ∙ ap plusOne (w .is))

@@ -7,7 +7,7 @@ use lib.ListN.{length}
 use borrow.Author.Tests.{le-leb, lt-leb}
 use Rattle.refusal.specs.declared.Refusal.{Refusal}
 use Rattle.refusal.specs.declared.Refusal.the-variants.{Length, Parameter}
-use Rattle.layout.specs.Walk.{walk}
+use Rattle.layout.specs.Walk.{rowByRow}
 use Rattle.layout_reading.specs.declared.column.Step.{Step}
 use Rattle.layout_reading.specs.declared.column.Step.the-variants.{Going as GoesOn, Stopped as Stops}
 use Rattle.layout_reading.specs.Reading.{Job, Going, visit, zeros, reading}
@@ -46,7 +46,7 @@ module _ (J : Job) (k m s : List ℕ) (filter : Filter) (scale : ℕ) where
 
 -- the blocks visited from cleared buffers
 module _ (J : Job) (t : Step) (k m k′ m′ g g′ : List ℕ) (zk : k ≡ zeros J) (zm : m ≡ zeros J) (zg : g ≡ zeros J)
-    (e : stepped t k′ m′ g′ ≡ walk (visit J) (J .bw) (J .bh) (Going (stateOf 0 k m g))) where
+    (e : stepped t k′ m′ g′ ≡ rowByRow (visit J) (J .bw) (J .bh) (Going (stateOf 0 k m g))) where
   read-all : stepped t k′ m′ g′ ≡ reading J
   unfolding reading
   read-all = e ∙ rw (zk, zm, zg)

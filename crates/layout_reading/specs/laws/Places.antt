@@ -11,7 +11,7 @@ use Rattle.refusal.specs.Said as refusals
 use Rattle.refusal.specs.Answer.{Answer, gives, refuses, answeredBy}
 use Rattle.refusal.specs.laws.Answer.{answered-by}
 use Rattle.refusal.specs.declared.Refusal.{Refusal}
-use Rattle.layout.specs.Grid.{at}
+use Rattle.layout.specs.Grid.{blockAt}
 use Rattle.layout_filter.specs.declared.ScaledFilter.{ScaledFilter}
 use Rattle.layout_filter.specs.declared.DividedFilter.{DividedFilter}
 use Rattle.layout_filter.specs.Strength.{dividedBy}
@@ -45,23 +45,23 @@ module _ (J : Job) (x y : ℕ) (p : Placed) where
   abbrev pub byJudged : Judged → Placing
   byJudged j = byAsking (saidJudged j)
 
-  pub visit-taken : 0 < at (p .kinds) (J .bw) x y → Going p ≡ visit J x y (Going p)
-  visit-taken h = rw (ne-eqb (at (p .kinds) (J .bw) x y) 0 (omega arith))
+  pub visit-taken : 0 < blockAt (p .kinds) (J .bw) x y → Going p ≡ visit J x y (Going p)
+  visit-taken h = rw (ne-eqb (blockAt (p .kinds) (J .bw) x y) 0 (omega arith))
 
-  module _ (free : at (p .kinds) (J .bw) x y ≤ 0) where
-    is-free : at (p .kinds) (J .bw) x y ≡ 0
+  module _ (free : blockAt (p .kinds) (J .bw) x y ≤ 0) where
+    is-free : blockAt (p .kinds) (J .bw) x y ≡ 0
     is-free = omega arith
 
     pub visit-ends : length (J .types) ≤ p .used → stopAt 4 x y p ≡ visit J x y (Going p)
     unfolding column
-    visit-ends l = rw (eq-eqb (at (p .kinds) (J .bw) x y) 0 is-free, le-ltb (p .used) (length (J .types)) l)
+    visit-ends l = rw (eq-eqb (blockAt (p .kinds) (J .bw) x y) 0 is-free, le-ltb (p .used) (length (J .types)) l)
 
     pub visit-judged : (j : Judged) → p .used < length (J .types) → saidJudged j ≡ judgedOf (nextType J p) (nextHfMul J p) x y → byJudged j ≡ visit J x y (Going p)
     unfolding column judgedOf
     visit-judged j l e =
-        rw (eq-eqb (at (p .kinds) (J .bw) x y) 0 is-free, lt-ltb (p .used) (length (J .types)) l)
+        rw (eq-eqb (blockAt (p .kinds) (J .bw) x y) 0 is-free, lt-ltb (p .used) (length (J .types)) l)
         (ap byAsking e
-        ∙ answered-by byAsking (columnChecks (nextType J p) (nextHfMul J p) x y) (λ (s : Said). refuses (refusals.at (s .number) x y)) (λ (u : Unit). gives (judgedColumn (nextType J p) (nextHfMul J p))))
+        ∙ answered-by byAsking (columnChecks (nextType J p) (nextHfMul J p) x y) (λ (s : Said). refuses (refusals.saidAt (s .number) x y)) (λ (u : Unit). gives (judgedColumn (nextType J p) (nextHfMul J p))))
 
 -- a reading that was stopped stays so
 pub stop-stays : (J : Job) (s : Step) (n : ℕ) (r : Refusal) (k m g : List ℕ) → s ≡ Stops n r → (a b : ℕ) → visit J a b (stepped s k m g) ≡ stepped s k m g

@@ -7,7 +7,7 @@ use native.Mathlib.Omega.{arith}
 use lib.ListN.{set}
 use lib.Ieee.{Float}
 use borrow.Author.Tests.{lt-ltb, le-ltb, le-leb, lt-leb}
-use Rattle.layout.specs.Grid.{at}
+use Rattle.layout.specs.Grid.{blockAt}
 use Rattle.layout_filter.specs.declared.DividedFilter.{DividedFilter}
 use Rattle.layout_filter.specs.declared.DividedFilter.the-variants.{Off, On}
 use Rattle.layout_filter.specs.Strength.{timesLookUp, pattern}
@@ -31,22 +31,22 @@ module _ (bw bh : ℕ) (divided : DividedFilter) (lookups : List Float) (sharpne
     cell-high h l = rw (lt-leb bw cx h, le-leb bh cy l)
 
     module _ (inX : cx < bw) (inY : cy < bh) where
-      pub cell-overlap : 0 < at k bw cx cy → Left 8 cx cy ≡ taken
+      pub cell-overlap : 0 < blockAt k bw cx cy → Left 8 cx cy ≡ taken
       unfolding takeCell
-      cell-overlap h = rw (lt-leb bw cx inX, lt-leb bh cy inY, lt-ltb 0 (at k bw cx cy) h)
+      cell-overlap h = rw (lt-leb bw cx inX, lt-leb bh cy inY, lt-ltb 0 (blockAt k bw cx cy) h)
 
-      pub cell-off : at k bw cx cy ≤ 0 → divided ≡ Off → Taking (set k (cy * bw + cx) 1) s ≡ taken
+      pub cell-off : blockAt k bw cx cy ≤ 0 → divided ≡ Off → Taking (set k (cy * bw + cx) 1) s ≡ taken
       unfolding takeCell
-      cell-off h e = rw (lt-leb bw cx inX, lt-leb bh cy inY, le-ltb 0 (at k bw cx cy) h, e)
+      cell-off h e = rw (lt-leb bw cx inX, lt-leb bh cy inY, le-ltb 0 (blockAt k bw cx cy) h, e)
 
-      pub cell-sharpness : (q : Float) → at k bw cx cy ≤ 0 → divided ≡ On q → 8 ≤ at sharpness bw cx cy → Left 10 cx cy ≡ taken
+      pub cell-sharpness : (q : Float) → blockAt k bw cx cy ≤ 0 → divided ≡ On q → 8 ≤ blockAt sharpness bw cx cy → Left 10 cx cy ≡ taken
       unfolding takeCell
-      cell-sharpness q h e l = rw (lt-leb bw cx inX, lt-leb bh cy inY, le-ltb 0 (at k bw cx cy) h, e, le-leb 8 (at sharpness bw cx cy) l)
+      cell-sharpness q h e l = rw (lt-leb bw cx inX, lt-leb bh cy inY, le-ltb 0 (blockAt k bw cx cy) h, e, le-leb 8 (blockAt sharpness bw cx cy) l)
 
-      pub cell-on : (q : Float) → at k bw cx cy ≤ 0 → divided ≡ On q → at sharpness bw cx cy < 8
-          → Taking (set k (cy * bw + cx) 1) (set s (cy * bw + cx) (pattern (timesLookUp q lookups (at sharpness bw cx cy)))) ≡ taken
+      pub cell-on : (q : Float) → blockAt k bw cx cy ≤ 0 → divided ≡ On q → blockAt sharpness bw cx cy < 8
+          → Taking (set k (cy * bw + cx) 1) (set s (cy * bw + cx) (pattern (timesLookUp q lookups (blockAt sharpness bw cx cy)))) ≡ taken
       unfolding takeCell
-      cell-on q h e l = rw (lt-leb bw cx inX, lt-leb bh cy inY, le-ltb 0 (at k bw cx cy) h, e, lt-leb 8 (at sharpness bw cx cy) l)
+      cell-on q h e l = rw (lt-leb bw cx inX, lt-leb bh cy inY, le-ltb 0 (blockAt k bw cx cy) h, e, lt-leb 8 (blockAt sharpness bw cx cy) l)
 
   -- the rectangle's walk
   abbrev pub cellAt : ℕ → ℕ → ℕ → ℕ → Scan → Scan

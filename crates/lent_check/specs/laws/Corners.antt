@@ -7,7 +7,7 @@ use native.Mathlib.Omega.{arith}
 use lib.Dec.{leb}
 use lib.ListN.{List·getD-eq-default}
 use borrow.Author.Tests.{leb-true, leb-false}
-use Rattle.order_sizes.specs.BlockSizes.{sides}
+use Rattle.dct_select.specs.LookUp.{sides}
 use Rattle.dct_select.specs.Transforms.{row, TRANSFORMS, wide, high}
 use Rattle.layout.specs.Kinds.{wideOf, highOf}
 use Rattle.lent_sides.specs.laws.Sizes.{widths, heights, wide-at, high-at, sizeBy, size-large, size-known}

@@ -12,7 +12,7 @@ use borrow.Author.Tests.{lt-ltb, le-ltb, le-leb, lt-leb, eq-eqb, ne-eqb}
 use Rattle.laws.specs.laws.Cases.{eq-or-ne, le-or-lt}
 use Rattle.layout.specs.Kinds.{wideOf, highOf}
 use Rattle.layout.specs.Walk.{cells, rows}
-use Rattle.layout.specs.Grid.{at, fillFrom}
+use Rattle.layout.specs.Grid.{blockAt, fillFrom}
 use Rattle.layout.specs.laws.Grid.{length-fill, fill-left, fill-in, fill-right}
 use Rattle.layout.specs.Valid.{Cells, Fits}
 use Rattle.layout.specs.Check.{Covering, Fault, Until, passes, clear, fitting, visitCell, visit, checkRun, isLayout}
@@ -191,8 +191,8 @@ module _ (bw bh : ℕ) (K M : Cells) where
 
 -- A layout is what the check by depths passes, with room for more columns.
 pub depths-check : (bw bh : ℕ) (kinds hfMul : List ℕ) → bw ≤ 256
-    → isLayout bw bh kinds hfMul ≡ passes (rows (visitDepths bw bh (at kinds bw) (at hfMul bw)) bw bh 0 (Until (replicate 259 0)))
+    → isLayout bw bh kinds hfMul ≡ passes (rows (visitDepths bw bh (blockAt kinds bw) (blockAt hfMul bw)) bw bh 0 (Until (replicate 259 0)))
 unfolding checkRun
 depths-check bw bh kinds hfMul h =
-    rows-alike bw bh (at kinds bw) (at hfMul bw) bh 0 (Until (replicate bw 0)) (Until (replicate 259 0))
+    rows-alike bw bh (blockAt kinds bw) (blockAt hfMul bw) bh 0 (Until (replicate bw 0)) (Until (replicate 259 0))
     (record { wideU = omega (arith, length-replicate {A = ℕ} bw 0); wideD = omega (arith, length-replicate {A = ℕ} 259 0); done = λ i l b. absurd (omega arith); ahead = λ i l b. getD-replicate {A = ℕ} 259 i 0 0 (omega arith) ∙ omega (arith, getD-replicate {A = ℕ} bw i 0 0 b) })

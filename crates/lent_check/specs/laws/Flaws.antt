@@ -10,7 +10,7 @@ use lib.ListN.{length, getD}
 use borrow.Author.Tests.{ltb-true, ltb-false, eqb-true, eqb-false, lt-ltb, le-ltb, eq-eqb, ne-eqb}
 use Rattle.laws.specs.laws.Cases.{eq-or-ne, le-or-lt, and-true}
 use Rattle.bytes_below.specs.Below.{bytesBelow}
-use Rattle.layout.specs.Grid.{at}
+use Rattle.layout.specs.Grid.{blockAt}
 use Rattle.layout.specs.laws.Grid.{place-lt, Cell, cell-at}
 use Rattle.layout.specs.Valid.{Layout}
 use Rattle.layout.specs.Check.{isLayout}
@@ -108,12 +108,12 @@ module _ (bw bh : ℕ) (ks ms : List ℕ) (a : length ks ≡ bh * bw) (b : lengt
   unfolding isSound
   sound-kinds e = below-each 29 ks (and-true (bytesBelow 29 ks) _ e .0)
 
-  pub sound-cells : isSound ks ms ≡ true → (x y : ℕ) → x < bw → y < bh → Sound (at ks bw x y) (at ms bw x y)
+  pub sound-cells : isSound ks ms ≡ true → (x y : ℕ) → x < bw → y < bh → Sound (blockAt ks bw x y) (blockAt ms bw x y)
   unfolding isSound
   sound-cells e x y i j =
       let p = and-true (bytesBelow 29 ks) _ e in
       let l : y * bw + x < length ks = omega (arith, place-lt bw bh x y i j) in
-      sound-of (at ks bw x y) (at ms bw x y) (below-each 29 ks (p .0) (y * bw + x) l) (each-flawless ks ms (length ks) (eqb-true (flaws ks ms (length ks)) 0 (p .1)) (y * bw + x) l)
+      sound-of (blockAt ks bw x y) (blockAt ms bw x y) (below-each 29 ks (p .0) (y * bw + x) l) (each-flawless ks ms (length ks) (eqb-true (flaws ks ms (length ks)) 0 (p .1)) (y * bw + x) l)
 
   -- the cells of a layout are sound
   sound-layout : Layout bw bh ks ms → isSound ks ms ≡ true
@@ -122,12 +122,12 @@ module _ (bw bh : ℕ) (ks ms : List ℕ) (a : length ks ≡ bh * bw) (b : lengt
       rw (each-below 29 ks (λ i h. let s = at-place i h in let k = s .known in omega arith))
       (eq-eqb (flaws ks ms (length ks)) 0 (flawless-each ks ms (length ks) (λ i h. flawless (getD ks i 0) (getD ms i 0) (at-place i h))))
     where
-      at-cell : (x y : ℕ) → x < bw → y < bh → Sound (at ks bw x y) (at ms bw x y)
+      at-cell : (x y : ℕ) → x < bw → y < bh → Sound (blockAt ks bw x y) (blockAt ms bw x y)
       at-cell x y i j =
           ⊎-elim
-          (λ (h : 2 ≤ at ks bw x y). let f = ok .valid .fits x y i j h in record { known = f .known; occupied = λ e. absurd (omega arith); other = λ n. f .positive; signed = f .signed })
-          (λ (h : at ks bw x y < 2). let p = ok .valid .plain x y i j h in record { known = omega arith; occupied = λ e. p .1; other = λ n. absurd (n (p .0)); signed = omega arith })
-          (le-or-lt 2 (at ks bw x y))
+          (λ (h : 2 ≤ blockAt ks bw x y). let f = ok .valid .fits x y i j h in record { known = f .known; occupied = λ e. absurd (omega arith); other = λ n. f .positive; signed = f .signed })
+          (λ (h : blockAt ks bw x y < 2). let p = ok .valid .plain x y i j h in record { known = omega arith; occupied = λ e. p .1; other = λ n. absurd (n (p .0)); signed = omega arith })
+          (le-or-lt 2 (blockAt ks bw x y))
 
       at-place : (i : ℕ) → i < length ks → Sound (getD ks i 0) (getD ms i 0)
       at-place i h = let c = cell-at bw bh i (omega arith) in rw (c .place) (at-cell (c .x) (c .y) (c .inX) (c .inY))

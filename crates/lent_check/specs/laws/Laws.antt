@@ -4,7 +4,7 @@ use mathlib.Core.Bool.{Bool, true, false, _&&_}
 use mathlib.Core.List.{List}
 use Prim.Native.Nat.{ℕ}
 use lib.ListN.{length}
-use Rattle.refusal.specs.Said.{at}
+use Rattle.refusal.specs.Said.{saidAt}
 use Rattle.layout.specs.Check.{isLayout}
 use Rattle.refusal.specs.Answer.{gives, refuses}
 use Rattle.lent_check.specs.Calls.{checkOf}
@@ -31,16 +31,16 @@ module _ (w h : ℕ) (kinds hfMul : List ℕ) where
 
 -- The ends of the check.
 module _ (limit w h : ℕ) (kinds hfMul : List ℕ) where
-  pub check-size : inLimits limit w h ≡ false → checkOf limit w h kinds hfMul ≡ refuses (at 2 0 0)
+  pub check-size : inLimits limit w h ≡ false → checkOf limit w h kinds hfMul ≡ refuses (saidAt 2 0 0)
   unfolding checkOf
   check-size e = rw e
 
   module _ (e : inLimits limit w h ≡ true) where
-    pub check-length : lengthsFit w h (length kinds) (length hfMul) ≡ false → checkOf limit w h kinds hfMul ≡ refuses (at 1 0 0)
+    pub check-length : lengthsFit w h (length kinds) (length hfMul) ≡ false → checkOf limit w h kinds hfMul ≡ refuses (saidAt 1 0 0)
     unfolding checkOf
     check-length f = rw (e, f)
 
-    pub check-fault : lengthsFit w h (length kinds) (length hfMul) ≡ true → isLayout w h kinds hfMul ≡ false → checkOf limit w h kinds hfMul ≡ refuses (at 18 0 0)
+    pub check-fault : lengthsFit w h (length kinds) (length hfMul) ≡ true → isLayout w h kinds hfMul ≡ false → checkOf limit w h kinds hfMul ≡ refuses (saidAt 18 0 0)
     unfolding checkOf
     check-fault f g = rw (e, f, g)
 

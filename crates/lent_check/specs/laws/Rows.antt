@@ -8,7 +8,7 @@ use lib.Dec.{ltb, leb, eqb}
 use lib.ListN.{length, getD, set, length-set, replicate}
 use Rattle.layout.specs.Kinds.{wideOf, highOf}
 use Rattle.layout.specs.Walk.{cells, rows}
-use Rattle.layout.specs.Grid.{at, fillFrom}
+use Rattle.layout.specs.Grid.{blockAt, fillFrom}
 use Rattle.layout.specs.laws.Grid.{length-fill}
 use Rattle.layout.specs.Valid.{Cells}
 use Rattle.layout.specs.Check.{Covering, Fault, Until, passes, clear, fitting, isLayout}
@@ -80,32 +80,32 @@ module _ (bw bh : ℕ) (K M : Cells) (y : ℕ) (h : y < bh) (sound : (x : ℕ) �
 -- Rows from y on.
 module _ (kinds hfMul : List ℕ) (bw bh : ℕ) where
   abbrev pub rowsLeft : ℕ → List ℕ → Bool
-  rowsLeft y d = passes (rows (visitDepths bw bh (at kinds bw) (at hfMul bw)) bw (bh - y) y (Until d))
+  rowsLeft y d = passes (rows (visitDepths bw bh (blockAt kinds bw) (blockAt hfMul bw)) bw (bh - y) y (Until d))
 
   pub rows-start : bw ≤ 256 → isLayout bw bh kinds hfMul ≡ rowsLeft 0 (replicate 259 0)
   rows-start h =
       let e : bh ≡ bh - 0 = omega arith in
-      depths-check bw bh kinds hfMul h ∙ ap (λ (n : ℕ). passes (rows (visitDepths bw bh (at kinds bw) (at hfMul bw)) bw n 0 (Until (replicate 259 0)))) e
+      depths-check bw bh kinds hfMul h ∙ ap (λ (n : ℕ). passes (rows (visitDepths bw bh (blockAt kinds bw) (blockAt hfMul bw)) bw n 0 (Until (replicate 259 0)))) e
 
   pub rows-finish : (y : ℕ) (d : List ℕ) → bh ≤ y → rowsLeft y d ≡ true
-  rows-finish y d h = ap passes (rows-end (visitDepths bw bh (at kinds bw) (at hfMul bw)) bw bh y (Until d) h)
+  rows-finish y d h = ap passes (rows-end (visitDepths bw bh (blockAt kinds bw) (blockAt hfMul bw)) bw bh y (Until d) h)
 
-  module _ (sound : (x y : ℕ) → x < bw → y < bh → Sound (at kinds bw x y) (at hfMul bw x y)) (y : ℕ) (d : List ℕ) (h : y < bh) (r : bw ≤ length d) where
-    row-turn : rowsLeft y d ≡ passes (rows (visitDepths bw bh (at kinds bw) (at hfMul bw)) bw (bh - (y + 1)) (y + 1) (Row bw bh (at kinds bw) y (Until d)))
+  module _ (sound : (x y : ℕ) → x < bw → y < bh → Sound (blockAt kinds bw x y) (blockAt hfMul bw x y)) (y : ℕ) (d : List ℕ) (h : y < bh) (r : bw ≤ length d) where
+    row-turn : rowsLeft y d ≡ passes (rows (visitDepths bw bh (blockAt kinds bw) (blockAt hfMul bw)) bw (bh - (y + 1)) (y + 1) (Row bw bh (blockAt kinds bw) y (Until d)))
     row-turn =
-        let f = visitDepths bw bh (at kinds bw) (at hfMul bw) in
+        let f = visitDepths bw bh (blockAt kinds bw) (blockAt hfMul bw) in
         let e : bw - 0 ≡ bw = omega arith in
         ap passes (rows-step f bw bh y (Until d) h ∙ ap (λ (n : ℕ). rows f bw (bh - (y + 1)) (y + 1) (cells f n 0 y (Until d))) e
-        ∙ ap (rows f bw (bh - (y + 1)) (y + 1)) (row-steps bw bh (at kinds bw) (at hfMul bw) y h (λ x i. sound x y i h) bw 0 (Until d) (omega arith) r))
+        ∙ ap (rows f bw (bh - (y + 1)) (y + 1)) (row-steps bw bh (blockAt kinds bw) (blockAt hfMul bw) y h (λ x i. sound x y i h) bw 0 (Until d) (omega arith) r))
 
     -- a row that passes, and one that does not
-    pub row-next : (d′ : List ℕ) → Until d′ ≡ Row bw bh (at kinds bw) y (Until d) → (rowsLeft y d ≡ rowsLeft (y + 1) d′) × (bw ≤ length d′)
-    row-next d′ e = (row-turn ∙ ap (λ (s : Covering). passes (rows (visitDepths bw bh (at kinds bw) (at hfMul bw)) bw (bh - (y + 1)) (y + 1) s)) (sym e), rw (← e) at (row-wide bw bh (at kinds bw) y (Until d) r))
+    pub row-next : (d′ : List ℕ) → Until d′ ≡ Row bw bh (blockAt kinds bw) y (Until d) → (rowsLeft y d ≡ rowsLeft (y + 1) d′) × (bw ≤ length d′)
+    row-next d′ e = (row-turn ∙ ap (λ (s : Covering). passes (rows (visitDepths bw bh (blockAt kinds bw) (blockAt hfMul bw)) bw (bh - (y + 1)) (y + 1) s)) (sym e), rw (← e) at (row-wide bw bh (blockAt kinds bw) y (Until d) r))
 
-    pub row-stop : Fault ≡ Row bw bh (at kinds bw) y (Until d) → rowsLeft y d ≡ false
+    pub row-stop : Fault ≡ Row bw bh (blockAt kinds bw) y (Until d) → rowsLeft y d ≡ false
     row-stop e =
-        row-turn ∙ ap (λ (s : Covering). passes (rows (visitDepths bw bh (at kinds bw) (at hfMul bw)) bw (bh - (y + 1)) (y + 1) s)) (sym e)
-        ∙ ap passes (rows-stuck (visitDepths bw bh (at kinds bw) (at hfMul bw)) Fault (λ a b. refl) bw (bh - (y + 1)) (y + 1))
+        row-turn ∙ ap (λ (s : Covering). passes (rows (visitDepths bw bh (blockAt kinds bw) (blockAt hfMul bw)) bw (bh - (y + 1)) (y + 1) s)) (sym e)
+        ∙ ap passes (rows-stuck (visitDepths bw bh (blockAt kinds bw) (blockAt hfMul bw)) Fault (λ a b. refl) bw (bh - (y + 1)) (y + 1))
 
 -- what a step's result says
 pub told-good : (r : Bool) (d : List ℕ) (s : Covering) → cond r (Until d) Fault ≡ s → r ≡ true → Until d ≡ s

@@ -7,9 +7,9 @@ use native.Mathlib.Nat.{mul-le-mul-right}
 use native.Mathlib.Omega.{arith}
 use lib.ListN.{length}
 use Rattle.refusal.specs.declared.Said.{Said}
-use Rattle.refusal.specs.Said.{at}
+use Rattle.refusal.specs.Said.{saidAt}
 use Rattle.layout.specs.laws.Loops.{rowsLeft, loop-start}
-use Rattle.layout.specs.Grid.{gridOf, at as cellAt}
+use Rattle.layout.specs.Grid.{gridOf, blockAt as cellAt}
 use Rattle.layout.specs.laws.Fill.{write, written}
 use Rattle.layout.specs.Check.{isLayout}
 use Rattle.layout.specs.Cut.{groupX, groupY, hasGroup, groupBw, groupBh, cut}
@@ -17,32 +17,33 @@ use Rattle.layout.specs.laws.CutLaws.{starts-x, starts-y}
 use Rattle.refusal.specs.Answer.{gives, refuses}
 use Rattle.lent_sides.specs.Limits.{inLimits, lengthsFit}
 use Rattle.lent_sides.specs.laws.Limits.{in-limits, lengths-fit}
-use Rattle.lent_cut.specs.Calls.{group, outcome, cutCheck, cutOf}
+use Rattle.lent_check.specs.Group.{groupOf}
+use Rattle.lent_cut.specs.Calls.{outcome, cutCheck, cutOf}
 use Rattle.refusal.specs.laws.Answer.{pass}
 use Rattle.lent_check.specs.declared.Group.{Group}
 
 module _ (bw bh : ℕ) (kinds hfMul : List ℕ) (g ok om : ℕ) where
-  pub cut-size : inLimits 256 bw bh ≡ false → cutCheck bw bh kinds hfMul g ok om ≡ refuses (at 2 0 0)
+  pub cut-size : inLimits 256 bw bh ≡ false → cutCheck bw bh kinds hfMul g ok om ≡ refuses (saidAt 2 0 0)
   unfolding cutCheck
   cut-size e = rw e
 
   module _ (e : inLimits 256 bw bh ≡ true) where
-    pub cut-index : hasGroup bw bh g ≡ false → cutCheck bw bh kinds hfMul g ok om ≡ refuses (at 2 0 0)
+    pub cut-index : hasGroup bw bh g ≡ false → cutCheck bw bh kinds hfMul g ok om ≡ refuses (saidAt 2 0 0)
     unfolding cutCheck
     cut-index f = rw (e, f)
 
     module _ (f : hasGroup bw bh g ≡ true) where
-      pub cut-lent : lengthsFit bw bh (length kinds) (length hfMul) ≡ false → cutCheck bw bh kinds hfMul g ok om ≡ refuses (at 1 0 0)
+      pub cut-lent : lengthsFit bw bh (length kinds) (length hfMul) ≡ false → cutCheck bw bh kinds hfMul g ok om ≡ refuses (saidAt 1 0 0)
       unfolding cutCheck
       cut-lent h = rw (e, f, h)
 
       module _ (h : lengthsFit bw bh (length kinds) (length hfMul) ≡ true) where
-        pub cut-buffers : lengthsFit (groupBw bw g) (groupBh bw bh g) ok om ≡ false → cutCheck bw bh kinds hfMul g ok om ≡ refuses (at 1 0 0)
+        pub cut-buffers : lengthsFit (groupBw bw g) (groupBh bw bh g) ok om ≡ false → cutCheck bw bh kinds hfMul g ok om ≡ refuses (saidAt 1 0 0)
         unfolding cutCheck
         cut-buffers i = rw (e, f, h, i)
 
         module _ (i : lengthsFit (groupBw bw g) (groupBh bw bh g) ok om ≡ true) where
-          pub cut-fault : isLayout bw bh kinds hfMul ≡ false → cutCheck bw bh kinds hfMul g ok om ≡ refuses (at 18 0 0)
+          pub cut-fault : isLayout bw bh kinds hfMul ≡ false → cutCheck bw bh kinds hfMul g ok om ≡ refuses (saidAt 18 0 0)
           unfolding cutCheck
           cut-fault j = rw (e, f, h, i, j)
 
@@ -74,7 +75,7 @@ module _ (bw bh : ℕ) (kinds hfMul : List ℕ) (g : ℕ) (outKinds outHfMul : L
   cut-refused s e = rw e
 
   pub cut-done : cutCheck bw bh kinds hfMul g (length outKinds) (length outHfMul) ≡ gives tt
-      → cutOf bw bh kinds hfMul g outKinds outHfMul ≡ outcome (gives (group (groupBw bw g) (groupBh bw bh g))) (cut bw bh g kinds) (cut bw bh g hfMul)
+      → cutOf bw bh kinds hfMul g outKinds outHfMul ≡ outcome (gives (groupOf (groupBw bw g) (groupBh bw bh g))) (cut bw bh g kinds) (cut bw bh g hfMul)
   unfolding cutOf
   cut-done e = rw e
 
@@ -87,10 +88,10 @@ module _ (bw bh : ℕ) (kinds hfMul : List ℕ) (g : ℕ) (outKinds outHfMul : L
     pub outKindsFit : length outKinds ≡ r .bh * r .bw
     pub outHfMulFit : length outHfMul ≡ r .bh * r .bw
 
-  pub ready : (gx gy : ℕ) (r : Group) → Passed bw bh kinds hfMul g (length outKinds) (length outHfMul) → gx ≡ groupX bw g → gy ≡ groupY bw g → r ≡ group (groupBw bw g) (groupBh bw bh g) → Ready gx gy r
+  pub ready : (gx gy : ℕ) (r : Group) → Passed bw bh kinds hfMul g (length outKinds) (length outHfMul) → gx ≡ groupX bw g → gy ≡ groupY bw g → r ≡ groupOf (groupBw bw g) (groupBh bw bh g) → Ready gx gy r
   ready gx gy r p ex ey er = rw (ex, ey, er) here
     where
-      here : Ready (groupX bw g) (groupY bw g) (group (groupBw bw g) (groupBh bw bh g))
+      here : Ready (groupX bw g) (groupY bw g) (groupOf (groupBw bw g) (groupBh bw bh g))
       here =
           let s = in-limits 256 bw bh (p .sides) in
           let x = starts-x bw bh g (p .index) in
@@ -101,7 +102,7 @@ module _ (bw bh : ℕ) (kinds hfMul : List ℕ) (g : ℕ) (outKinds outHfMul : L
           let m = mul-le-mul-right bw h in
           record { fitsX = omega arith; fitsY = omega arith; fits = omega arith; same = omega arith; outKindsFit = b .0; outHfMulFit = b .1 }
 
-  pub copied : (l : List ℕ) (gx gy : ℕ) (r : Group) → gx ≡ groupX bw g → gy ≡ groupY bw g → r ≡ group (groupBw bw g) (groupBh bw bh g)
+  pub copied : (l : List ℕ) (gx gy : ℕ) (r : Group) → gx ≡ groupX bw g → gy ≡ groupY bw g → r ≡ groupOf (groupBw bw g) (groupBh bw bh g)
       → gridOf (λ x y. cellAt l bw (32 * gx + x) (32 * gy + y)) (r .bw) (r .bh) ≡ cut bw bh g l
   unfolding cut
   copied l gx gy r ex ey er = rw (ex, ey, er)

@@ -16,7 +16,8 @@ use Rattle.refusal.specs.Answer.{Answer, gives, refuses, unless}
 use Rattle.lent_check.specs.Calls.{checkOf}
 use Rattle.lent_sides.specs.Limits.{inLimits, lengthsFit}
 use Rattle.lent_sides.specs.laws.Limits.{lengths-fit}
-use Rattle.lent_cut.specs.Calls.{group, Outcome, outcome, cutCheck, cutBy, cutOf}
+use Rattle.lent_check.specs.Group.{groupOf}
+use Rattle.lent_cut.specs.Calls.{Outcome, outcome, cutCheck, cutBy, cutOf}
 use Rattle.lent_check.specs.laws.Theorems.{checks}
 use Rattle.lent_cut.specs.laws.CutSteps.{Passed, passed, cut-done, cut-refused}
 
@@ -34,7 +35,7 @@ module _ (bw bh : ℕ) (kinds hfMul : List ℕ) (g : ℕ) (outKinds outHfMul : L
       (layout-iff bw bh kinds hfMul (ok .kindsLength) (ok .hfMulLength) .1 ok) (ap numberOf e ∙ n)
     where
       go : (p q r s t : Bool) → t ≡ true
-          → numberOf ((cutBy (unless 2 p (unless 2 q (unless 1 r (unless 1 s (unless 18 t (gives tt)))))) (outcome (gives (group (groupBw bw g) (groupBh bw bh g))) (cut bw bh g kinds) (cut bw bh g hfMul)) outKinds outHfMul) .answer) ≡ 18 → ⊥
+          → numberOf ((cutBy (unless 2 p (unless 2 q (unless 1 r (unless 1 s (unless 18 t (gives tt)))))) (outcome (gives (groupOf (groupBw bw g) (groupBh bw bh g))) (cut bw bh g kinds) (cut bw bh g hfMul)) outKinds outHfMul) .answer) ≡ 18 → ⊥
       go false q r s t f z = let y : _≡_ {A = ℕ} 2 18 = z in omega arith
       go true false r s t f z = let y : _≡_ {A = ℕ} 2 18 = z in omega arith
       go true true false s t f z = let y : _≡_ {A = ℕ} 1 18 = z in omega arith
@@ -63,6 +64,6 @@ module _ (bw bh : ℕ) (kinds hfMul : List ℕ) (g : ℕ) (outKinds outHfMul : L
       go (refuses s) c = absurd (let d : refuses s ≡ gives r = ap (λ (o : Outcome). o .answer) (sym (cut-refused bw bh kinds hfMul g outKinds outHfMul s c)) ∙ e in let z : _≡_ {A = ℕ} 0 1 = cc in omega arith)
       go (gives t) c =
           let d = cut-done bw bh kinds hfMul g outKinds outHfMul c in
-          let q : gives (group (groupBw bw g) (groupBh bw bh g)) ≡ gives r = ap (λ (o : Outcome). o .answer) (sym d) ∙ e in
-          let k : group (groupBw bw g) (groupBh bw bh g) ≡ r = cc in
+          let q : gives (groupOf (groupBw bw g) (groupBh bw bh g)) ≡ gives r = ap (λ (o : Outcome). o .answer) (sym d) ∙ e in
+          let k : groupOf (groupBw bw g) (groupBh bw bh g) ≡ r = cc in
           rw (← k, d) (written (passed bw bh kinds hfMul g (length outKinds) (length outHfMul) c))

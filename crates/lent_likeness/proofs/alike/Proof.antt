@@ -3,7 +3,7 @@ use Prim.Native.Nat.{ℕ, _*_}
 use lib.ListN.{length}
 use mathlib.Core.Bool.{true, false}
 use borrow.Author.Tests.{not-true, not-false}
-use Rattle.layout.specs.Like.{lent, alikeFrom}
+use Rattle.layout.specs.Like.{lentLayout, alikeFrom}
 use Rattle.lent_sides.specs.laws.Limits.{lengths-fit}
 use Rattle.lent_check.specs.laws.Laws.{lent-cells}
 use Rattle.lent_likeness.specs.laws.LikeSteps.{like-size, like-size-2, like-length, like-length-2, like-fault, like-fault-2, like-says, unlike-wide, unlike-high, alike-cells}
@@ -18,8 +18,8 @@ in-limits-requires c κs = search needs
 returns : tie.Need-returns
 returns c =
     let a = c .before .before .before .before .before .before .args in
-    let l = lent (a .bw) (a .bh) (a .kinds .now) (a .hf-mul .now) in
-    let n = lent (a .bw2) (a .bh2) (a .kinds2 .now) (a .hf-mul2 .now) in
+    let l = lentLayout (a .bw) (a .bh) (a .kinds .now) (a .hf-mul .now) in
+    let n = lentLayout (a .bw2) (a .bh2) (a .kinds2 .now) (a .hf-mul2 .now) in
     sym (like-size l n (sym (c .before .in-limits .ensures) ∙ not-true (c .before .in-limits .result) (c .if1 .taken)))
 
 in-limits-requires-2 : tie.Need-in-limits-requires-2
@@ -28,8 +28,8 @@ in-limits-requires-2 c κs = search needs
 returns-2 : tie.Need-returns-2
 returns-2 c =
     let a = c .before .before .before .before .before .before .before .before .args in
-    let l = lent (a .bw) (a .bh) (a .kinds .now) (a .hf-mul .now) in
-    let n = lent (a .bw2) (a .bh2) (a .kinds2 .now) (a .hf-mul2 .now) in
+    let l = lentLayout (a .bw) (a .bh) (a .kinds .now) (a .hf-mul .now) in
+    let n = lentLayout (a .bw2) (a .bh2) (a .kinds2 .now) (a .hf-mul2 .now) in
     let t1 = sym (c .before .before .before .in-limits .ensures) ∙ not-false (c .before .before .before .in-limits .result) (c .before .before .if1 .left) in
     sym (like-size-2 l n t1 (sym (c .before .in-limits2 .ensures) ∙ not-true (c .before .in-limits2 .result) (c .if2 .taken)))
 
@@ -39,8 +39,8 @@ lengths-fit-requires c κs = search needs
 returns-3 : tie.Need-returns-3
 returns-3 c =
     let a = c .before .before .before .before .before .before .before .before .before .before .args in
-    let l = lent (a .bw) (a .bh) (a .kinds .now) (a .hf-mul .now) in
-    let n = lent (a .bw2) (a .bh2) (a .kinds2 .now) (a .hf-mul2 .now) in
+    let l = lentLayout (a .bw) (a .bh) (a .kinds .now) (a .hf-mul .now) in
+    let n = lentLayout (a .bw2) (a .bh2) (a .kinds2 .now) (a .hf-mul2 .now) in
     let t1 = sym (c .before .before .before .before .before .in-limits .ensures) ∙ not-false (c .before .before .before .before .before .in-limits .result) (c .before .before .before .before .if1 .left) in
     let t2 = sym (c .before .before .before .in-limits2 .ensures) ∙ not-false (c .before .before .before .in-limits2 .result) (c .before .before .if2 .left) in
     sym (like-length l n t1 t2 (sym (c .before .lengths-fit .ensures) ∙ not-true (c .before .lengths-fit .result) (c .if3 .taken)))
@@ -51,8 +51,8 @@ lengths-fit-requires-2 c κs = search needs
 returns-4 : tie.Need-returns-4
 returns-4 c =
     let a = c .before .before .before .before .before .before .before .before .before .before .before .before .args in
-    let l = lent (a .bw) (a .bh) (a .kinds .now) (a .hf-mul .now) in
-    let n = lent (a .bw2) (a .bh2) (a .kinds2 .now) (a .hf-mul2 .now) in
+    let l = lentLayout (a .bw) (a .bh) (a .kinds .now) (a .hf-mul .now) in
+    let n = lentLayout (a .bw2) (a .bh2) (a .kinds2 .now) (a .hf-mul2 .now) in
     let t1 = sym (c .before .before .before .before .before .before .before .in-limits .ensures) ∙ not-false (c .before .before .before .before .before .before .before .in-limits .result) (c .before .before .before .before .before .before .if1 .left) in
     let t2 = sym (c .before .before .before .before .before .in-limits2 .ensures) ∙ not-false (c .before .before .before .before .before .in-limits2 .result) (c .before .before .before .before .if2 .left) in
     let t3 = sym (c .before .before .before .lengths-fit .ensures) ∙ not-false (c .before .before .before .lengths-fit .result) (c .before .before .if3 .left) in
@@ -64,8 +64,8 @@ is-layout-requires c κs = search needs
 returns-5 : tie.Need-returns-5
 returns-5 c =
     let a = c .before .before .before .before .before .before .before .before .before .before .before .before .before .before .args in
-    let l = lent (a .bw) (a .bh) (a .kinds .now) (a .hf-mul .now) in
-    let n = lent (a .bw2) (a .bh2) (a .kinds2 .now) (a .hf-mul2 .now) in
+    let l = lentLayout (a .bw) (a .bh) (a .kinds .now) (a .hf-mul .now) in
+    let n = lentLayout (a .bw2) (a .bh2) (a .kinds2 .now) (a .hf-mul2 .now) in
     let t1 = sym (c .before .before .before .before .before .before .before .before .before .in-limits .ensures) ∙ not-false (c .before .before .before .before .before .before .before .before .before .in-limits .result) (c .before .before .before .before .before .before .before .before .if1 .left) in
     let t2 = sym (c .before .before .before .before .before .before .before .in-limits2 .ensures) ∙ not-false (c .before .before .before .before .before .before .before .in-limits2 .result) (c .before .before .before .before .before .before .if2 .left) in
     let t3 = sym (c .before .before .before .before .before .lengths-fit .ensures) ∙ not-false (c .before .before .before .before .before .lengths-fit .result) (c .before .before .before .before .if3 .left) in
@@ -78,8 +78,8 @@ is-layout-requires-2 c κs = search needs
 returns-6 : tie.Need-returns-6
 returns-6 c =
     let a = c .before .before .before .before .before .before .before .before .before .before .before .before .before .before .before .before .args in
-    let l = lent (a .bw) (a .bh) (a .kinds .now) (a .hf-mul .now) in
-    let n = lent (a .bw2) (a .bh2) (a .kinds2 .now) (a .hf-mul2 .now) in
+    let l = lentLayout (a .bw) (a .bh) (a .kinds .now) (a .hf-mul .now) in
+    let n = lentLayout (a .bw2) (a .bh2) (a .kinds2 .now) (a .hf-mul2 .now) in
     let t1 = sym (c .before .before .before .before .before .before .before .before .before .before .before .in-limits .ensures) ∙ not-false (c .before .before .before .before .before .before .before .before .before .before .before .in-limits .result) (c .before .before .before .before .before .before .before .before .before .before .if1 .left) in
     let t2 = sym (c .before .before .before .before .before .before .before .before .before .in-limits2 .ensures) ∙ not-false (c .before .before .before .before .before .before .before .before .before .in-limits2 .result) (c .before .before .before .before .before .before .before .before .if2 .left) in
     let t3 = sym (c .before .before .before .before .before .before .before .lengths-fit .ensures) ∙ not-false (c .before .before .before .before .before .before .before .lengths-fit .result) (c .before .before .before .before .before .before .if3 .left) in
@@ -90,8 +90,8 @@ returns-6 c =
 returns-7 : tie.Need-returns-7
 returns-7 c =
     let a = c .before .before .before .before .before .before .before .before .before .before .before .before .before .before .before .before .before .args in
-    let l = lent (a .bw) (a .bh) (a .kinds .now) (a .hf-mul .now) in
-    let n = lent (a .bw2) (a .bh2) (a .kinds2 .now) (a .hf-mul2 .now) in
+    let l = lentLayout (a .bw) (a .bh) (a .kinds .now) (a .hf-mul .now) in
+    let n = lentLayout (a .bw2) (a .bh2) (a .kinds2 .now) (a .hf-mul2 .now) in
     let t1 = sym (c .before .before .before .before .before .before .before .before .before .before .before .before .in-limits .ensures) ∙ not-false (c .before .before .before .before .before .before .before .before .before .before .before .before .in-limits .result) (c .before .before .before .before .before .before .before .before .before .before .before .if1 .left) in
     let t2 = sym (c .before .before .before .before .before .before .before .before .before .before .in-limits2 .ensures) ∙ not-false (c .before .before .before .before .before .before .before .before .before .before .in-limits2 .result) (c .before .before .before .before .before .before .before .before .before .if2 .left) in
     let t3 = sym (c .before .before .before .before .before .before .before .before .lengths-fit .ensures) ∙ not-false (c .before .before .before .before .before .before .before .before .lengths-fit .result) (c .before .before .before .before .before .before .before .if3 .left) in
@@ -103,8 +103,8 @@ returns-7 c =
 returns-8 : tie.Need-returns-8
 returns-8 c =
     let a = c .before .before .before .before .before .before .before .before .before .before .before .before .before .before .before .before .before .before .args in
-    let l = lent (a .bw) (a .bh) (a .kinds .now) (a .hf-mul .now) in
-    let n = lent (a .bw2) (a .bh2) (a .kinds2 .now) (a .hf-mul2 .now) in
+    let l = lentLayout (a .bw) (a .bh) (a .kinds .now) (a .hf-mul .now) in
+    let n = lentLayout (a .bw2) (a .bh2) (a .kinds2 .now) (a .hf-mul2 .now) in
     let t1 = sym (c .before .before .before .before .before .before .before .before .before .before .before .before .before .in-limits .ensures) ∙ not-false (c .before .before .before .before .before .before .before .before .before .before .before .before .before .in-limits .result) (c .before .before .before .before .before .before .before .before .before .before .before .before .if1 .left) in
     let t2 = sym (c .before .before .before .before .before .before .before .before .before .before .before .in-limits2 .ensures) ∙ not-false (c .before .before .before .before .before .before .before .before .before .before .before .in-limits2 .result) (c .before .before .before .before .before .before .before .before .before .before .if2 .left) in
     let t3 = sym (c .before .before .before .before .before .before .before .before .before .lengths-fit .ensures) ∙ not-false (c .before .before .before .before .before .before .before .before .before .lengths-fit .result) (c .before .before .before .before .before .before .before .before .if3 .left) in
@@ -124,8 +124,8 @@ alike-cells-requires c κs =
 returns-9 : tie.Need-returns-9
 returns-9 c =
     let a = c .before .before .before .before .before .before .before .before .before .before .before .before .before .before .before .before .before .before .before .before .args in
-    let l = lent (a .bw) (a .bh) (a .kinds .now) (a .hf-mul .now) in
-    let n = lent (a .bw2) (a .bh2) (a .kinds2 .now) (a .hf-mul2 .now) in
+    let l = lentLayout (a .bw) (a .bh) (a .kinds .now) (a .hf-mul .now) in
+    let n = lentLayout (a .bw2) (a .bh2) (a .kinds2 .now) (a .hf-mul2 .now) in
     let t1 = sym (c .before .before .before .before .before .before .before .before .before .before .before .before .before .before .before .in-limits .ensures) ∙ not-false (c .before .before .before .before .before .before .before .before .before .before .before .before .before .before .before .in-limits .result) (c .before .before .before .before .before .before .before .before .before .before .before .before .before .before .if1 .left) in
     let t2 = sym (c .before .before .before .before .before .before .before .before .before .before .before .before .before .in-limits2 .ensures) ∙ not-false (c .before .before .before .before .before .before .before .before .before .before .before .before .before .in-limits2 .result) (c .before .before .before .before .before .before .before .before .before .before .before .before .if2 .left) in
     let t3 = sym (c .before .before .before .before .before .before .before .before .before .before .before .lengths-fit .ensures) ∙ not-false (c .before .before .before .before .before .before .before .before .before .before .before .lengths-fit .result) (c .before .before .before .before .before .before .before .before .before .before .if3 .left) in
@@ -139,8 +139,8 @@ returns-9 c =
 returns-10 : tie.Need-returns-10
 returns-10 c =
     let a = c .before .before .before .before .before .before .before .before .before .before .before .before .before .before .before .before .before .before .before .before .args in
-    let l = lent (a .bw) (a .bh) (a .kinds .now) (a .hf-mul .now) in
-    let n = lent (a .bw2) (a .bh2) (a .kinds2 .now) (a .hf-mul2 .now) in
+    let l = lentLayout (a .bw) (a .bh) (a .kinds .now) (a .hf-mul .now) in
+    let n = lentLayout (a .bw2) (a .bh2) (a .kinds2 .now) (a .hf-mul2 .now) in
     let t1 = sym (c .before .before .before .before .before .before .before .before .before .before .before .before .before .before .before .in-limits .ensures) ∙ not-false (c .before .before .before .before .before .before .before .before .before .before .before .before .before .before .before .in-limits .result) (c .before .before .before .before .before .before .before .before .before .before .before .before .before .before .if1 .left) in
     let t2 = sym (c .before .before .before .before .before .before .before .before .before .before .before .before .before .in-limits2 .ensures) ∙ not-false (c .before .before .before .before .before .before .before .before .before .before .before .before .before .in-limits2 .result) (c .before .before .before .before .before .before .before .before .before .before .before .before .if2 .left) in
     let t3 = sym (c .before .before .before .before .before .before .before .before .before .before .before .lengths-fit .ensures) ∙ not-false (c .before .before .before .before .before .before .before .before .before .before .before .lengths-fit .result) (c .before .before .before .before .before .before .before .before .before .before .if3 .left) in

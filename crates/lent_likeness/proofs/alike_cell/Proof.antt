@@ -1,8 +1,8 @@
 use mathlib.Core.Path.{_≡_, _∙_, sym, ap}
 use lib.Dec.{eqb}
 use Prim.Native.Nat.{ℕ}
-use Rattle.order_sizes.specs.declared.Sides.{Sides}
-use Rattle.order_sizes.specs.BlockSizes.{sides}
+use Rattle.dct_select.specs.declared.Sides.{Sides}
+use Rattle.dct_select.specs.LookUp.{sides}
 use Rattle.layout.specs.Kinds.{wideOf, highOf}
 use Rattle.lent_likeness.specs.laws.LikeSteps.{cell-plain, cell-odd, cell-mul, cell-wide, cell-high}
 use Rattle.lent_check.specs.laws.Corners.{size-corner}

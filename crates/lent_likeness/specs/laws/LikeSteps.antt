@@ -9,10 +9,10 @@ use lib.Dec.{ltb, leb, eqb}
 use lib.ListN.{length, getD}
 use borrow.Author.Tests.{lt-ltb, le-ltb, le-leb, lt-leb, eq-eqb, ne-eqb}
 use Rattle.laws.specs.laws.Cases.{le-or-lt}
-use Rattle.refusal.specs.Said.{at}
+use Rattle.refusal.specs.Said.{saidAt}
 use Rattle.layout.specs.Kinds.{wideOf, highOf}
 use Rattle.layout.specs.laws.WalkSteps.{left-suc}
-use Rattle.layout.specs.Like.{Lent, bySort, alikeCorners, alikeCell, alikeFrom, alike}
+use Rattle.layout.specs.Like.{LentLayout, bySort, alikeCorners, alikeCell, alikeFrom, alike}
 use Rattle.refusal.specs.Answer.{gives, refuses}
 use Rattle.lent_likeness.specs.Calls.{sided, filled, holdsLayout, likeOf}
 
@@ -64,33 +64,33 @@ module _ (kinds hfMul kinds′ hfMul′ : List ℕ) where
   unfolding alikeFrom
   like-end i h = ap (λ (n : ℕ). alikeFrom kinds hfMul kinds′ hfMul′ n i) (let e : length kinds - i ≡ 0 = omega arith in e)
 
-module _ (L N : Lent) where
-  pub like-size : sided L ≡ false → likeOf L N ≡ refuses (at 2 0 0)
+module _ (L N : LentLayout) where
+  pub like-size : sided L ≡ false → likeOf L N ≡ refuses (saidAt 2 0 0)
   unfolding likeOf
   like-size a = rw a
 
   module _ (a : sided L ≡ true) where
-    pub like-size-2 : sided N ≡ false → likeOf L N ≡ refuses (at 2 0 0)
+    pub like-size-2 : sided N ≡ false → likeOf L N ≡ refuses (saidAt 2 0 0)
     unfolding likeOf
     like-size-2 b = rw (a, b)
 
     module _ (b : sided N ≡ true) where
-      pub like-length : filled L ≡ false → likeOf L N ≡ refuses (at 1 0 0)
+      pub like-length : filled L ≡ false → likeOf L N ≡ refuses (saidAt 1 0 0)
       unfolding likeOf
       like-length c = rw (a, b, c)
 
       module _ (c : filled L ≡ true) where
-        pub like-length-2 : filled N ≡ false → likeOf L N ≡ refuses (at 1 0 0)
+        pub like-length-2 : filled N ≡ false → likeOf L N ≡ refuses (saidAt 1 0 0)
         unfolding likeOf
         like-length-2 d = rw (a, b, c, d)
 
         module _ (d : filled N ≡ true) where
-          pub like-fault : holdsLayout L ≡ false → likeOf L N ≡ refuses (at 18 0 0)
+          pub like-fault : holdsLayout L ≡ false → likeOf L N ≡ refuses (saidAt 18 0 0)
           unfolding likeOf
           like-fault e = rw (a, b, c, d, e)
 
           module _ (e : holdsLayout L ≡ true) where
-            pub like-fault-2 : holdsLayout N ≡ false → likeOf L N ≡ refuses (at 18 0 0)
+            pub like-fault-2 : holdsLayout N ≡ false → likeOf L N ≡ refuses (saidAt 18 0 0)
             unfolding likeOf
             like-fault-2 f = rw (a, b, c, d, e, f)
 

@@ -6,7 +6,7 @@ use Prim.Native.Nat.{ℕ}
 use native.Mathlib.Omega.{arith}
 use lib.ListN.{length}
 use Rattle.laws.specs.laws.Cases.{and-true}
-use Rattle.layout.specs.Like.{Lent, SameRectangles, alike}
+use Rattle.layout.specs.Like.{LentLayout, SameRectangles, alike}
 use Rattle.layout.specs.laws.LikeLaws.{alike-iff, not-wider, same-itself, same-turned, same-joined}
 use Rattle.layout.specs.laws.Theorems.{layout-iff}
 use Rattle.refusal.specs.Answer.{gives}
@@ -16,12 +16,12 @@ use Rattle.lent_sides.specs.laws.Limits.{in-limits, lengths-fit, fit-lengths, l
 use Rattle.lent_likeness.specs.laws.LikeSteps.{like-says}
 use Rattle.lent_likeness.specs.Theorems.{Sound}
 
-sound : (L : Lent) → sided L ≡ true → filled L ≡ true → holdsLayout L ≡ true → Sound L
+sound : (L : LentLayout) → sided L ≡ true → filled L ≡ true → holdsLayout L ≡ true → Sound L
 sound L a b c =
     let l = lengths-fit (L .bw) (L .bh) (length (L .kinds)) (length (L .hfMul)) b in
     record { sides = in-limits 256 (L .bw) (L .bh) a; layout = layout-iff (L .bw) (L .bh) (L .kinds) (L .hfMul) (l .0) (l .1) .0 c }
 
-module _ (L N : Lent) where
+module _ (L N : LentLayout) where
   tests : (r : Bool) → likeOf L N ≡ gives r → Sound L × Sound N × (alike L N ≡ r)
   unfolding likeOf
   tests r e =
@@ -61,11 +61,11 @@ module _ (L N : Lent) where
       not-alike true e n = absurd (n (alike-iff L N .0 e .2))
       not-alike false e n = e
 
-pub like-itself : (L : Lent) → Sound L → likeOf L L ≡ gives true
+pub like-itself : (L : LentLayout) → Sound L → likeOf L L ≡ gives true
 like-itself L s = like-yes L L .1 (s, s, same-itself L)
 
-pub like-turned : (L N : Lent) → likeOf L N ≡ gives true → likeOf N L ≡ gives true
+pub like-turned : (L N : LentLayout) → likeOf L N ≡ gives true → likeOf N L ≡ gives true
 like-turned L N e = let t = like-yes L N .0 e in like-yes N L .1 (t .1, t .0, same-turned L N (t .2))
 
-pub like-joined : (L N O : Lent) → likeOf L N ≡ gives true → likeOf N O ≡ gives true → likeOf L O ≡ gives true
+pub like-joined : (L N O : LentLayout) → likeOf L N ≡ gives true → likeOf N O ≡ gives true → likeOf L O ≡ gives true
 like-joined L N O e f = let t = like-yes L N .0 e in let u = like-yes N O .0 f in like-yes L O .1 (t .0, u .1, same-joined L N O (t .2) (u .2))

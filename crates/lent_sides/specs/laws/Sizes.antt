@@ -8,8 +8,8 @@ use lib.ListN.{getD}
 use borrow.Author.Tests.{le-leb, lt-leb}
 use Rattle.laws.specs.laws.Lists.{getD-map}
 use Rattle.dct_select.specs.Transforms.{Row, row, TRANSFORMS, wide, high}
-use Rattle.order_sizes.specs.declared.Sides.{Sides}
-use Rattle.order_sizes.specs.BlockSizes.{sides}
+use Rattle.dct_select.specs.declared.Sides.{Sides}
+use Rattle.dct_select.specs.LookUp.{sides}
 
 -- the table of transforms by column
 unfoldable pub widths : List ℕ

@@ -7,7 +7,7 @@ use lib.ListN.{length}
 use borrow.Author.Tests.{le-leb, lt-leb}
 use Rattle.laws.specs.laws.Cases.{le-or-lt}
 use mathlib.Core.Logic.{_⊎_, inl, inr}
-use Rattle.layout.specs.Grid.{at}
+use Rattle.layout.specs.Grid.{blockAt}
 use Rattle.layout.specs.Varblocks.{varblocksOf}
 use Rattle.layout.specs.laws.Rest.{rest, rest-corner, rest-plain, rest-rows, rest-turn, rest-end}
 use Rattle.text.specs.Text.{Puts}
@@ -18,25 +18,25 @@ use Rattle.lister.specs.laws.Texts.{lineAt}
 module _ (bw : ℕ) (kinds hfMul : List ℕ) where
   module _ (bh : ℕ) where
     abbrev pub linesLeft : ℕ → ℕ → List ℕ
-    linesLeft x y = linesOf (rest bw bh (at kinds bw) (at hfMul bw) x y)
+    linesLeft x y = linesOf (rest bw bh (blockAt kinds bw) (blockAt hfMul bw) x y)
 
     pub lines-start : linesOf (varblocksOf bw bh kinds hfMul) ≡ linesLeft 0 0
-    lines-start = ap linesOf (rest-rows bw bh (at kinds bw) (at hfMul bw) bh 0 (omega arith))
+    lines-start = ap linesOf (rest-rows bw bh (blockAt kinds bw) (blockAt hfMul bw) bh 0 (omega arith))
 
     pub lines-next : (x y : ℕ) → x < bw → y < bh → linesLeft x y ≡ lineAt bw kinds hfMul x y ++ linesLeft (x + 1) y
     unfolding linesOf
-    lines-next x y h l = go (le-or-lt 2 (at kinds bw x y))
+    lines-next x y h l = go (le-or-lt 2 (blockAt kinds bw x y))
       where
-        go : (2 ≤ at kinds bw x y) ⊎ (at kinds bw x y < 2) → linesLeft x y ≡ lineAt bw kinds hfMul x y ++ linesLeft (x + 1) y
-        go (inl c) = ap linesOf (rest-corner bw bh (at kinds bw) (at hfMul bw) x y h l c) ∙ rw (le-leb 2 (at kinds bw x y) c)
-        go (inr c) = ap linesOf (rest-plain bw bh (at kinds bw) (at hfMul bw) x y h l c) ∙ rw (lt-leb 2 (at kinds bw x y) c)
+        go : (2 ≤ blockAt kinds bw x y) ⊎ (blockAt kinds bw x y < 2) → linesLeft x y ≡ lineAt bw kinds hfMul x y ++ linesLeft (x + 1) y
+        go (inl c) = ap linesOf (rest-corner bw bh (blockAt kinds bw) (blockAt hfMul bw) x y h l c) ∙ rw (le-leb 2 (blockAt kinds bw x y) c)
+        go (inr c) = ap linesOf (rest-plain bw bh (blockAt kinds bw) (blockAt hfMul bw) x y h l c) ∙ rw (lt-leb 2 (blockAt kinds bw x y) c)
 
     pub lines-turn : (y : ℕ) → y < bh → linesLeft bw y ≡ linesLeft 0 (y + 1)
-    lines-turn y h = ap linesOf (rest-turn bw bh (at kinds bw) (at hfMul bw) y h)
+    lines-turn y h = ap linesOf (rest-turn bw bh (blockAt kinds bw) (blockAt hfMul bw) y h)
 
     pub lines-end : linesLeft 0 bh ≡ []
     unfolding linesOf
-    lines-end = ap linesOf (rest-end bw bh (at kinds bw) (at hfMul bw))
+    lines-end = ap linesOf (rest-end bw bh (blockAt kinds bw) (blockAt hfMul bw))
 
 -- what is yet to be put makes up what was to be put in all
 pub record Continues (d : List ℕ) (i : ℕ) (s d₁ : List ℕ) (i₁ : ℕ) (t : List ℕ) : Type 0 where

@@ -12,7 +12,7 @@ use lib.Seq.{length-sets, sets-eq}
 use borrow.Author.Tests.{lt-ltb, le-ltb, le-leb, lt-leb, leb-true}
 use Rattle.laws.specs.laws.Cases.{le-or-lt, and-true}
 use Rattle.refusal.specs.declared.Said.{Said}
-use Rattle.layout.specs.Grid.{at}
+use Rattle.layout.specs.Grid.{blockAt}
 use Rattle.layout.specs.Valid.{Layout}
 use Rattle.layout.specs.Varblocks.{Varblock, varblocksOf, area, cornersRow, cornersFrom}
 use Rattle.refusal.specs.Answer.{Answer, gives, refuses}
@@ -69,27 +69,27 @@ line-most v a b c d =
     omega (arith, spaced-is (v .x), spaced-is (v .y), spaced-is (v .type), last-is (v .hfMul))
 
 module _ (bw bh : ℕ) (kinds hfMul : List ℕ) (ok : Layout bw bh kinds hfMul) (wide : bw ≤ 64) (high : bh ≤ 64) where
-  row-most : (n x y : ℕ) (l : List Varblock) → x + n ≤ bw → y < bh → length (linesOf (cornersRow (at kinds bw) (at hfMul bw) n x y l)) ≤ 20 * n + length (linesOf l)
+  row-most : (n x y : ℕ) (l : List Varblock) → x + n ≤ bw → y < bh → length (linesOf (cornersRow (blockAt kinds bw) (blockAt hfMul bw) n x y l)) ≤ 20 * n + length (linesOf l)
   unfolding cornersRow linesOf
   row-most zero x y l i j = omega arith
-  row-most (suc n) x y l i j = go (le-or-lt 2 (at kinds bw x y)) (row-most n (x + 1) y l (omega arith) j)
+  row-most (suc n) x y l i j = go (le-or-lt 2 (blockAt kinds bw x y)) (row-most n (x + 1) y l (omega arith) j)
     where
-      go : (2 ≤ at kinds bw x y) ⊎ (at kinds bw x y < 2) → length (linesOf (cornersRow (at kinds bw) (at hfMul bw) n (x + 1) y l)) ≤ 20 * n + length (linesOf l)
-          → length (linesOf (cornersRow (at kinds bw) (at hfMul bw) (suc n) x y l)) ≤ 20 * suc n + length (linesOf l)
-      go (inr c) ih = rw (lt-leb 2 (at kinds bw x y) c) (omega arith)
+      go : (2 ≤ blockAt kinds bw x y) ⊎ (blockAt kinds bw x y < 2) → length (linesOf (cornersRow (blockAt kinds bw) (blockAt hfMul bw) n (x + 1) y l)) ≤ 20 * n + length (linesOf l)
+          → length (linesOf (cornersRow (blockAt kinds bw) (blockAt hfMul bw) (suc n) x y l)) ≤ 20 * suc n + length (linesOf l)
+      go (inr c) ih = rw (lt-leb 2 (blockAt kinds bw x y) c) (omega arith)
       go (inl c) ih =
           let f = ok .valid .fits x y (omega arith) j c in
           let k = f .known in
           let s = f .signed in
-          let m = line-most (record { x = x; y = y; type = at kinds bw x y - 2; hfMul = at hfMul bw x y }) (omega arith) (omega arith) (omega arith) (omega arith) in
-          let a = length-append (lineOf (record { x = x; y = y; type = at kinds bw x y - 2; hfMul = at hfMul bw x y })) (linesOf (cornersRow (at kinds bw) (at hfMul bw) n (x + 1) y l)) in
-          rw (le-leb 2 (at kinds bw x y) c) (omega arith)
+          let m = line-most (record { x = x; y = y; type = blockAt kinds bw x y - 2; hfMul = blockAt hfMul bw x y }) (omega arith) (omega arith) (omega arith) (omega arith) in
+          let a = length-append (lineOf (record { x = x; y = y; type = blockAt kinds bw x y - 2; hfMul = blockAt hfMul bw x y })) (linesOf (cornersRow (blockAt kinds bw) (blockAt hfMul bw) n (x + 1) y l)) in
+          rw (le-leb 2 (blockAt kinds bw x y) c) (omega arith)
 
-  rows-most : (n y : ℕ) → y + n ≤ bh → length (linesOf (cornersFrom (at kinds bw) (at hfMul bw) bw n y)) ≤ 20 * (n * bw)
+  rows-most : (n y : ℕ) → y + n ≤ bh → length (linesOf (cornersFrom (blockAt kinds bw) (blockAt hfMul bw) bw n y)) ≤ 20 * (n * bw)
   unfolding cornersFrom linesOf
   rows-most zero y j = omega arith
   rows-most (suc n) y j =
-      let a = row-most bw 0 y (cornersFrom (at kinds bw) (at hfMul bw) bw n (y + 1)) (omega arith) (omega arith) in
+      let a = row-most bw 0 y (cornersFrom (blockAt kinds bw) (blockAt hfMul bw) bw n (y + 1)) (omega arith) (omega arith) in
       let b = rows-most n (y + 1) (omega arith) in
       omega (arith, suc-mul n bw)
 

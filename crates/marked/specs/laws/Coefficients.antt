@@ -23,7 +23,7 @@ use Rattle.context_call.specs.Call.{contextsOf}
 use Rattle.order_store.specs.Store.{PLACES}
 use Rattle.coeff_walk.specs.Item.{counted}
 use Rattle.refusal.specs.Answer.{gives, refuses}
-use Rattle.coeff_group.specs.Group.{Reading, going, item, read, zeroRows}
+use Rattle.coeff_group.specs.Group.{Reading, going, readItem, readItems, zeroRows}
 use Rattle.coeff_group.specs.laws.GroupLaws.{group-items}
 use Rattle.coeff_group.specs.Pass.{Pass, varblocks, itemOf, itemsOf}
 use Rattle.coeff_checks.specs.Checks.{layoutFits, sidesFit}
@@ -89,29 +89,29 @@ unfolding readBits valueOf exponentFrom
 no-bits bytes = rw (le-leb 0 (length (bitsOf bytes)) (omega arith))
 
 -- M9
-count-252 : (stretch log g0 g1 g2 : List ℕ)
-    → outcome (read 0 15 stretch (itemsOf square (varblocks square))
+count-252 : (presetMap log g0 g1 g2 : List ℕ)
+    → outcome (readItems 0 15 presetMap (itemsOf square (varblocks square))
     (going (252 ∷ (replicate 252 2 ++ (0 ∷ 0 ∷ []))) 0 log (g0 ∷ g1 ∷ g2 ∷ []) zeroRows 0)) .answer ≡ gives 255
 unfolding reading-computes
-count-252 stretch log g0 g1 g2 = rw (order-2 0 (omega arith), order-2 1 (omega arith), order-2 2 (omega arith))
+count-252 presetMap log g0 g1 g2 = rw (order-2 0 (omega arith), order-2 1 (omega arith), order-2 2 (omega arith))
 
-count-253 : (stretch us log g0 g1 g2 : List ℕ)
-    → outcome (read 0 15 stretch (itemsOf square (varblocks square)) (going (253 ∷ us) 0 log (g0 ∷ g1 ∷ g2 ∷ []) zeroRows 0)) .answer
-    ≡ refuses (refusals.at 16 1 0)
-unfolding itemsOf itemOf cornersRow cornersFrom wide high TRANSFORMS read item counted
-count-253 stretch us log g0 g1 g2 = refl
+count-253 : (presetMap us log g0 g1 g2 : List ℕ)
+    → outcome (readItems 0 15 presetMap (itemsOf square (varblocks square)) (going (253 ∷ us) 0 log (g0 ∷ g1 ∷ g2 ∷ []) zeroRows 0)) .answer
+    ≡ refuses (refusals.saidAt 16 1 0)
+unfolding itemsOf itemOf cornersRow cornersFrom wide high TRANSFORMS readItems readItem counted
+count-253 presetMap us log g0 g1 g2 = refl
 
 -- M11
 abbrev clusters : List ℕ → List ℕ
-clusters stretch =
-    let part = take 458 (drop 555 stretch) in
-    getD stretch 300 0 ∷ getD part 63 0 ∷ getD part 3 0 ∷ getD part 4 0 ∷ getD stretch 307 0 ∷ getD stretch 307 0 ∷ []
+clusters presetMap =
+    let part = take 458 (drop 555 presetMap) in
+    getD presetMap 300 0 ∷ getD part 63 0 ∷ getD part 3 0 ∷ getD part 4 0 ∷ getD presetMap 307 0 ∷ getD presetMap 307 0 ∷ []
 
-dct8-reads : (stretch log g0 g1 g2 : List ℕ)
-    → outcome (read 0 15 stretch (itemsOf block (varblocks block)) (going (2 ∷ 3 ∷ 0 ∷ 4 ∷ 0 ∷ 0 ∷ []) 0 log (g0 ∷ g1 ∷ g2 ∷ []) zeroRows 0))
-    ≡ leaves (Accepted 6) (sets log 0 (clusters stretch)) g0 (gains (gains g1 8 (2 ^ 32 - 2)) 2 2) g2
+dct8-reads : (presetMap log g0 g1 g2 : List ℕ)
+    → outcome (readItems 0 15 presetMap (itemsOf block (varblocks block)) (going (2 ∷ 3 ∷ 0 ∷ 4 ∷ 0 ∷ 0 ∷ []) 0 log (g0 ∷ g1 ∷ g2 ∷ []) zeroRows 0))
+    ≡ leaves (Accepted 6) (sets log 0 (clusters presetMap)) g0 (gains (gains g1 8 (2 ^ 32 - 2)) 2 2) g2
 unfolding reading-computes
-dct8-reads stretch log g0 g1 g2 = rw (order-0 0 (omega arith), order-0 1 (omega arith), order-0 2 (omega arith))
+dct8-reads presetMap log g0 g1 g2 = rw (order-0 0 (omega arith), order-0 1 (omega arith), order-0 2 (omega arith))
 
 part-at : (map : List ℕ) (k : ℕ) → k < 458 → getD (take 458 (drop 555 map)) k 0 ≡ getD map (555 + k) 0
 part-at map k h = getD-take 458 (drop 555 map) k 0 h ∙ getD-drop 555 map k 0
@@ -136,26 +136,26 @@ module _ (map log g0 g1 g2 : List ℕ) (room : Room 1 4 map log g0 g1 g2) where
       )
 
   dct16-call : (symbols : List ℕ) → call (dct16 map symbols log g0 g1 g2)
-      ≡ outcome (read 0 15 map (itemsOf square (varblocks square)) (going symbols 0 log (g0 ∷ g1 ∷ g2 ∷ []) zeroRows 0))
+      ≡ outcome (readItems 0 15 map (itemsOf square (varblocks square)) (going symbols 0 log (g0 ∷ g1 ∷ g2 ∷ []) zeroRows 0))
   unfolding reading contextsOf
   dct16-call symbols =
       let start : Reading = going symbols 0 log (g0 ∷ g1 ∷ g2 ∷ []) zeroRows 0 in
       let L = dct16 map symbols log g0 g1 g2 in
       call-reads L (checks-pass L (record { sides = sided .1; parameters = refl; contexts = defaults-fit; lengths = dct16-lengths symbols; layout = square-laid; places = store-fits })) 0 0 (no-bits []) (omega arith)
       ∙ ap outcome (group-items 0 15 (presetMap L 0) square (varblocks square) start
-      ∙ ap (λ (m : List ℕ). read 0 15 m (itemsOf square (varblocks square)) start) (whole 7425 map (room .entries)))
+      ∙ ap (λ (m : List ℕ). readItems 0 15 m (itemsOf square (varblocks square)) start) (whole 7425 map (room .entries)))
 
   -- count 252 passes: accepted, with as many symbols that are not 0
   pub passes-252 : call (dct16 map (252 ∷ (replicate 252 2 ++ (0 ∷ 0 ∷ []))) log g0 g1 g2) .answer ≡ gives 255
   passes-252 = ap (λ (o : Outcome). o .answer) (dct16-call (252 ∷ (replicate 252 2 ++ (0 ∷ 0 ∷ [])))) ∙ count-252 map log g0 g1 g2
 
   -- count 253 is refused, whatever follows
-  pub refuses-253 : (us : List ℕ) → call (dct16 map (253 ∷ us) log g0 g1 g2) .answer ≡ refuses (refusals.at 16 1 0)
+  pub refuses-253 : (us : List ℕ) → call (dct16 map (253 ∷ us) log g0 g1 g2) .answer ≡ refuses (refusals.saidAt 16 1 0)
   refuses-253 us = ap (λ (o : Outcome). o .answer) (dct16-call (253 ∷ us)) ∙ count-253 map us log g0 g1 g2
 
 module _ (map log g0 g1 g2 : List ℕ) (room : Room 1 1 map log g0 g1 g2) where
   dct8-call : (symbols : List ℕ) → call (dct8 1 map [] symbols log g0 g1 g2)
-      ≡ outcome (read 0 15 map (itemsOf block (varblocks block)) (going symbols 0 log (g0 ∷ g1 ∷ g2 ∷ []) zeroRows 0))
+      ≡ outcome (readItems 0 15 map (itemsOf block (varblocks block)) (going symbols 0 log (g0 ∷ g1 ∷ g2 ∷ []) zeroRows 0))
   unfolding reading contextsOf
   dct8-call symbols =
       let start : Reading = going symbols 0 log (g0 ∷ g1 ∷ g2 ∷ []) zeroRows 0 in
@@ -163,7 +163,7 @@ module _ (map log g0 g1 g2 : List ℕ) (room : Room 1 1 map log g0 g1 g2) where
       let p = dct8-passed 1 (omega arith) map [] symbols log g0 g1 g2 (room .entries) (room .bytes) (room .cells0) (room .cells1) (room .cells2) in
       call-reads L (checks-pass L p) 0 0 (no-bits []) (omega arith)
       ∙ ap outcome (group-items 0 15 (presetMap L 0) block (varblocks block) start
-      ∙ ap (λ (m : List ℕ). read 0 15 m (itemsOf block (varblocks block)) start) (whole 7425 map (room .entries)))
+      ∙ ap (λ (m : List ℕ). readItems 0 15 m (itemsOf block (varblocks block)) start) (whole 7425 map (room .entries)))
 
   -- the six symbols: what is gained, and the bytes that are logged
   pub six-symbols : call (dct8 1 map [] (2 ∷ 3 ∷ 0 ∷ 4 ∷ 0 ∷ 0 ∷ []) log g0 g1 g2)

@@ -24,9 +24,9 @@ use Rattle.lent_cut.specs.Calls.{cutCheck}
 use Rattle.context_index.specs.Contexts.{sizeOf, above, lfIndexIn, placeOf}
 use Rattle.context_call.specs.Call.{contextsOf}
 use Rattle.coeff_walk.specs.Walk.{walk, coeffContext, FREQ, NUM-NONZERO}
-use Rattle.coeff_walk.specs.Places.{placesOf}
+use Rattle.coeff_walk.specs.Places.{cellsOf}
 use Rattle.coeff_walk.specs.Item.{counted}
-use Rattle.coeff_group.specs.Group.{Grids, item, read}
+use Rattle.coeff_group.specs.Group.{Grids, readItem, readItems}
 use Rattle.coeff_group.specs.Pass.{itemOf, itemsOf}
 use Rattle.one_to_one.specs.Filling.{isLow, wanted}
 use Rattle.coeff_group.specs.Sequence.{cell, sent, theSequence}
@@ -41,11 +41,11 @@ unfolding readU32 readBits bitsOf valueOf exponentFrom
 bits-compute = true
 
 unfoldable pub items-compute : Bool
-unfolding itemsOf itemOf placesOf paired natural cornersRow cornersFrom orderOf turns wide high TRANSFORMS
+unfolding itemsOf itemOf cellsOf paired natural cornersRow cornersFrom orderOf turns wide high TRANSFORMS
 items-compute = true
 
 unfoldable pub reading-computes : Bool
-unfolding items-compute read item counted walk coeffContext FREQ NUM-NONZERO unpackSigned contextsOf sizeOf above lfIndexIn placeOf
+unfolding items-compute readItems readItem counted walk coeffContext FREQ NUM-NONZERO unpackSigned contextsOf sizeOf above lfIndexIn placeOf
 reading-computes = true
 
 unfoldable pub sequence-computes : Bool

@@ -4,7 +4,7 @@ use mathlib.Core.Logic.{_↔_}
 use mathlib.Core.List.{List, [], _∷_}
 use Prim.Native.Nat.{ℕ, _*_}
 use native.Mathlib.Omega.{arith}
-use Rattle.layout.specs.Grid.{at}
+use Rattle.layout.specs.Grid.{blockAt}
 use Rattle.layout.specs.Listed.{Among, first, later}
 use Rattle.layout.specs.laws.Corners.{Apart, corners-apart}
 use Rattle.layout.specs.laws.Rectangles.{right, bottom, covers}
@@ -57,7 +57,7 @@ module _ (L : Lent) (fixed : Fixed L) where
 
   -- the varblocks are disjoint
   pub apart : Disjoint (varblocks (L .pass))
-  apart = none-shared (varblocks (L .pass)) (λ v i. i) (corners-apart (at (L .pass .kinds) (L .pass .bw)) (at (L .pass .hfMul) (L .pass .bw)) (L .pass .bw) (L .pass .bh))
+  apart = none-shared (varblocks (L .pass)) (λ v i. i) (corners-apart (blockAt (L .pass .kinds) (L .pass .bw)) (blockAt (L .pass .hfMul) (L .pass .bw)) (L .pass .bw) (L .pass .bh))
 
   -- their areas sum to the group's blocks
   pub areas : area (varblocks (L .pass)) ≡ L .pass .bw * L .pass .bh

@@ -26,7 +26,8 @@ use Rattle.context_thresholds.specs.Thresholds.{lfValue, qfValue, readValues, r
 use Rattle.context_call.specs.Call as context
 use Rattle.coeff_call.specs.Call.{lengthsFit, readPreset}
 use Rattle.refusal.specs.Answer.{gives}
-use Rattle.lent_cut.specs.Calls.{group, outcome, cutOf}
+use Rattle.lent_check.specs.Group.{groupOf}
+use Rattle.lent_cut.specs.Calls.{outcome, cutOf}
 use Rattle.lent_cut.specs.laws.CutSteps.{cut-done}
 use Rattle.layout_accepted.specs.Outcome.{bwOf, bhOf}
 use Rattle.layout_accepted.specs.laws.Marked.{layout-computes}
@@ -35,7 +36,7 @@ use Rattle.one_to_one.specs.laws.Demand3.{one-sequence}
 use Rattle.one_to_one.specs.laws.Wanted.{wanted-filling}
 use Rattle.one_to_one.specs.laws.Chain.{fixed-by-calls}
 use Rattle.one_to_one.specs.laws.Computes.{cut-computes, bits-compute, sequence-computes, wanted-computes, below, cells-below}
-use Rattle.one_to_one.specs.FullWitness.{changed, contexts, full, kinds, lists, map, muls, pairs, start, store}
+use Rattle.one_to_one.specs.FullWitness.{changed, contexts, full, kinds, lists, map, hfMul, pairs, start, store}
 use Rattle.coeff_group.specs.Sequence.{cell, theSequence}
 
 abbrev digitSymbols : List ℕ
@@ -72,13 +73,13 @@ columns = inputs 16 16 (0 ∷ 0 ∷ 0 ∷ []) (6 ∷ 0 ∷ 0 ∷ []) (4 ∷ 0 �
 abbrev four : List ℕ
 four = replicate 4 0
 
-layout-accepted : layoutOf columns four four four ≡ record { answer = gives 3; kinds = kinds; hfMul = muls; sigma = four }
+layout-accepted : layoutOf columns four four four ≡ record { answer = gives 3; kinds = kinds; hfMul = hfMul; sigma = four }
 unfolding layout-computes
 layout-accepted = refl
 
-cut-accepted : cutOf (bwOf columns) (bhOf columns) kinds muls 0 four four ≡ outcome (gives (group 2 2)) kinds muls
+cut-accepted : cutOf (bwOf columns) (bhOf columns) kinds hfMul 0 four four ≡ outcome (gives (groupOf 2 2)) kinds hfMul
 unfolding cut-computes
-cut-accepted = cut-done (bwOf columns) (bhOf columns) kinds muls 0 four four refl
+cut-accepted = cut-done (bwOf columns) (bhOf columns) kinds hfMul 0 four four refl
 
 lengths-fit : lengthsFit full ≡ true
 unfolding context.contextsOf
@@ -99,7 +100,7 @@ given = record {
   layout = ap (λ o. o .answer) layout-accepted;
   g = 0;
   outKinds = four;
-  outMuls = four;
+  outHfMul = four;
   cutting = ap (λ o. cutOf (bwOf columns) (bhOf columns) (o .kinds) (o .hfMul) 0 four four) layout-accepted ∙ cut-accepted;
   bytes = 2 ∷ 8 ∷ 38 ∷ 160 ∷ 32 ∷ [];
   areBytes = below 256 (omega arith) (2 ∷ 8 ∷ 38 ∷ 160 ∷ 32 ∷ []) tt;

@@ -13,12 +13,12 @@ use Rattle.refusal.specs.declared.Refusal.the-variants.{Count}
 use Rattle.coeff_walk.specs.Walk.{FREQ, NUM-NONZERO, Walked, stopped, walk, coeffContext, flag, less, gain}
 use Rattle.coeff_walk.specs.laws.Kept.{length-gain}
 use Rattle.coeff_walk.specs.laws.Counts.{count-over}
-use Rattle.coeff_walk.specs.Item.{Item, predicted, countIndex, countOver, rowOf, newRow, countCluster, coeffPart, counted}
-use Rattle.coeff_group.specs.Group.{Grids, Reading, going, refused, after, item}
+use Rattle.coeff_walk.specs.Item.{Item, predicted, countIndex, countOver, rowOf, newRow, countCluster, coeffMapOf, counted, countEntry}
+use Rattle.coeff_group.specs.Group.{Grids, Reading, going, refused, after, readItem}
 use Rattle.coeff_walk.specs.laws.Walks.{End, ends, stops, walkedBy, gains, length-gains, run}
 use Rattle.coeff_group.specs.laws.Cells.{set-below, put-all, In}
 use Rattle.coeff_group.specs.laws.Symbols.{symbolsIn}
-use Rattle.one_to_one.specs.Inside.{WalkInside, countEntry, CountInside, ItemInside, ReadInside}
+use Rattle.one_to_one.specs.Inside.{WalkInside, CountInside, ItemInside, ReadInside}
 
 -- Coefficients of one channel.
 
@@ -29,14 +29,14 @@ less-most : (u n m : ℕ) → suc n ≤ m → less u n ≤ m
 less-most zero n m h = h
 less-most (suc u) n m h = omega arith
 
-module _ (shift blocks : ℕ) (part : List ℕ) (pos : 0 < blocks) (long : length part ≡ 458) where
+module _ (shift blocks : ℕ) (coeffMap : List ℕ) (pos : 0 < blocks) (long : length coeffMap ≡ 458) where
   tables : (n i : ℕ) → n < 63 * blocks → i < 63 * blocks → (n / blocks < length NUM-NONZERO) × (i / blocks < length FREQ)
   unfolding NUM-NONZERO FREQ
   tables n i a b = (below-63 blocks n pos a, below-63 blocks i pos b)
 
   walk-inside : (ps : List ℕ) (i prev n : ℕ) (us : List ℕ) (at : ℕ) (log g : List ℕ)
       → i + length ps ≤ 63 * blocks → n ≤ 63 * blocks → at + length ps ≤ length log → ((p : ℕ) → In p ps → p < length g)
-      → WalkInside shift blocks part ps i prev n us at log g
+      → WalkInside shift blocks coeffMap ps i prev n us at log g
   walk-inside [] i prev n us at log g a b c d = tt
   walk-inside (p ∷ ps) i prev zero us at log g a b c d = tt
   walk-inside (p ∷ ps) i prev (suc n) [] at log g a b c d = tables n i (omega arith) (omega arith)
@@ -46,8 +46,8 @@ module _ (shift blocks : ℕ) (part : List ℕ) (pos : 0 < blocks) (long : lengt
       omega arith,
       omega arith,
       omega (arith, d p (here refl)),
-      walk-inside ps (i + 1) (flag u) (less u n) us (at + 1) (set log at (getD part (coeffContext blocks n i prev) 0)) (gain shift g p u) (omega arith)
-          (less-most u n (63 * blocks) b) (rw (length-set log at (getD part (coeffContext blocks n i prev) 0)) (omega arith))
+      walk-inside ps (i + 1) (flag u) (less u n) us (at + 1) (set log at (getD coeffMap (coeffContext blocks n i prev) 0)) (gain shift g p u) (omega arith)
+          (less-most u n (63 * blocks) b) (rw (length-set log at (getD coeffMap (coeffContext blocks n i prev) 0)) (omega arith))
           (λ (q : ℕ). λ (j : In q ps). rw (length-gain shift g p u) (d q (there j))),
     ),
   )
@@ -87,9 +87,9 @@ pub record Sound (width cells clusters : ℕ) (it : Item) : Type 0 where
   pub some : 1 ≤ it .wide
   pub right : it .x + it .wide ≤ width
   pub blocks : 0 < it .blocks
-  pub context : it .context < clusters
-  pub size : length (it .places) ≡ 63 * it .blocks
-  pub places : (p : ℕ) → In p (it .places) → p < cells
+  pub context : it .blockContext < clusters
+  pub size : length (it .cells) ≡ 63 * it .blocks
+  pub places : (p : ℕ) → In p (it .cells) → p < cells
 
 -- a reading with three grids of so many cells, three rows so wide, and room in the log for so many more symbols
 pub record Sane (width many due at : ℕ) (log : List ℕ) (grids rows : Grids) : Type 0 where
@@ -104,15 +104,15 @@ abbrev pub Fine : ℕ → ℕ → ℕ → Reading → Type 0
 Fine width many due (refused why at log grids) = Unit
 Fine width many due (going us at log grids rows left) = Sane width many due at log grids rows
 
-module _ (shift clusters : ℕ) (stretch : List ℕ) (whole : length stretch ≡ 495 * clusters) (width cells : ℕ) where
+module _ (shift clusters : ℕ) (presetMap : List ℕ) (whole : length presetMap ≡ 495 * clusters) (width cells : ℕ) where
   module _ (it : Item) (s : Sound width cells clusters it) where
-    part-inside : it .context * 458 + 37 * clusters + 458 ≤ length stretch
+    part-inside : it .blockContext * 458 + 37 * clusters + 458 ≤ length presetMap
     part-inside = let h = s .context in omega arith
 
-    part-long : length (coeffPart clusters stretch it) ≡ 458
+    part-long : length (coeffMapOf clusters presetMap it) ≡ 458
     part-long =
-        let b = it .context * 458 + 37 * clusters in
-        length-take-le 458 (drop b stretch) (rw (length-drop b stretch) (omega (arith, part-inside)))
+        let b = it .blockContext * 458 + 37 * clusters in
+        length-take-le 458 (drop b presetMap) (rw (length-drop b presetMap) (omega (arith, part-inside)))
 
     -- counts over blocks are at most 63, so that the count's entry lies even below 36 × clusters
     entry-most : (row : List ℕ) → Small row → countEntry clusters it row < 36 * clusters
@@ -122,19 +122,19 @@ module _ (shift clusters : ℕ) (stretch : List ℕ) (whole : length stretch ≡
         let h = s .context in
         omega arith
 
-    count-inside : (row us : List ℕ) (at : ℕ) (log g : List ℕ) → Small row → length g ≡ cells → at + suc (length (it .places)) ≤ length log → CountInside shift clusters stretch it row us at log g
+    count-inside : (row us : List ℕ) (at : ℕ) (log g : List ℕ) → Small row → length g ≡ cells → at + suc (length (it .cells)) ≤ length log → CountInside shift clusters presetMap it row us at log g
     count-inside row [] at log g m e r = tt
     count-inside row (n ∷ us) at log g m e r = (
       omega (arith, entry-most row m),
       omega (arith, entry-most row m),
       omega (arith, part-inside),
       omega arith,
-      λ h. walk-inside shift (it .blocks) (coeffPart clusters stretch it) (s .blocks) part-long (it .places) 0 (cond (leb n (4 * it .blocks)) 1 0) n us (at + 1)
-          (set log at (countCluster clusters stretch it row)) g (omega (arith, s .size)) h
-          (rw (length-set log at (countCluster clusters stretch it row)) (omega arith)) (λ (p : ℕ). λ (i : In p (it .places)). rw e (s .places p i)),
+      λ h. walk-inside shift (it .blocks) (coeffMapOf clusters presetMap it) (s .blocks) part-long (it .cells) 0 (cond (leb n (4 * it .blocks)) 1 0) n us (at + 1)
+          (set log at (countCluster clusters presetMap it row)) g (omega (arith, s .size)) h
+          (rw (length-set log at (countCluster clusters presetMap it row)) (omega arith)) (λ (p : ℕ). λ (i : In p (it .cells)). rw e (s .places p i)),
     )
 
-    item-inside : (rest : ℕ) (r : Reading) → Fine width cells (suc (length (it .places)) + rest) r → ItemInside shift clusters stretch it r
+    item-inside : (rest : ℕ) (r : Reading) → Fine width cells (suc (length (it .cells)) + rest) r → ItemInside shift clusters presetMap it r
     item-inside rest (refused why at log grids) f = tt
     item-inside rest (going us at log grids rows left) f =
         let c = it .channel in
@@ -148,8 +148,8 @@ module _ (shift clusters : ℕ) (stretch : List ℕ) (whole : length stretch ≡
         )
 
     -- what the item leaves, however its walk ended, with its row rewritten
-    after-fine : (rest at : ℕ) (grids rows : Grids) (left : ℕ) (row log : List ℕ) (e : End) (at′ : ℕ) (log′ g : List ℕ) → Sane width cells (suc (length (it .places)) + rest) at log grids rows
-        → at′ ≤ at + suc (length (it .places)) → length log′ ≡ length log → length g ≡ cells → length row ≡ width → Small row
+    after-fine : (rest at : ℕ) (grids rows : Grids) (left : ℕ) (row log : List ℕ) (e : End) (at′ : ℕ) (log′ g : List ℕ) → Sane width cells (suc (length (it .cells)) + rest) at log grids rows
+        → at′ ≤ at + suc (length (it .cells)) → length log′ ≡ length log → length g ≡ cells → length row ≡ width → Small row
         → Fine width cells rest (after (it .channel) grids (set rows (it .channel) row) left (walkedBy e at′ log′ g))
     after-fine rest at grids rows left row log (stops why) at′ log′ g f a b c e m = tt
     after-fine rest at grids rows left row log (ends us n) at′ log′ g f a b c e m =
@@ -165,8 +165,8 @@ module _ (shift clusters : ℕ) (stretch : List ℕ) (whole : length stretch ≡
           room = omega arith;
         }
 
-    item-fine : (rest : ℕ) (r : Reading) → Fine width cells (suc (length (it .places)) + rest) r → Fine width cells rest (item shift clusters stretch it r)
-    unfolding item counted
+    item-fine : (rest : ℕ) (r : Reading) → Fine width cells (suc (length (it .cells)) + rest) r → Fine width cells rest (readItem shift clusters presetMap it r)
+    unfolding readItem counted
     item-fine rest (refused why at log grids) f = tt
     item-fine rest (going [] at log grids rows left) f = tt
     item-fine rest (going (n ∷ us) at log grids rows left) f = test (leb n (63 * it .blocks)) refl
@@ -181,27 +181,27 @@ module _ (shift clusters : ℕ) (stretch : List ℕ) (whole : length stretch ≡
         g = getD grids c []
 
         log₁ : List ℕ
-        log₁ = set log at (countCluster clusters stretch it row)
+        log₁ = set log at (countCluster clusters presetMap it row)
 
         flag₀ : ℕ
         flag₀ = cond (leb n (4 * it .blocks)) 1 0
 
         w : Walked
-        w = walk shift (it .blocks) (coeffPart clusters stretch it) (it .places) 0 flag₀ n us (at + 1) log₁ g
+        w = walk shift (it .blocks) (coeffMapOf clusters presetMap it) (it .cells) 0 flag₀ n us (at + 1) log₁ g
 
         test : (b : Bool) → leb n (63 * it .blocks) ≡ b → Fine width cells rest (after c grids (set rows c (newRow it row (n ∷ us))) left (cond b w (stopped Count (at + 1) log₁ g)))
         test false e = tt
         test true e =
             let v = countOver n (it .blocks) in
-            let r = run (it .blocks) (coeffPart clusters stretch it) (it .places) 0 flag₀ n us in
+            let r = run (it .blocks) (coeffMapOf clusters presetMap it) (it .cells) 0 flag₀ n us in
             let k = r .few in
             rw (r .is shift (at + 1) log₁ g)
-            (after-fine rest at grids rows left (rowOf row (it .x) (it .wide) v) log (r .end) (at + 1 + length (r .clusters)) (sets log₁ (at + 1) (r .clusters)) (gains shift g (it .places) (r .ds)) f (omega arith)
-            (length-sets log₁ (at + 1) (r .clusters) ∙ length-set log at (countCluster clusters stretch it row)) (length-gains shift g (it .places) (r .ds) ∙ f .cells c (s .channel))
+            (after-fine rest at grids rows left (rowOf row (it .x) (it .wide) v) log (r .end) (at + 1 + length (r .clusters)) (sets log₁ (at + 1) (r .clusters)) (gains shift g (it .cells) (r .ds)) f (omega arith)
+            (length-sets log₁ (at + 1) (r .clusters) ∙ length-set log at (countCluster clusters presetMap it row)) (length-gains shift g (it .cells) (r .ds) ∙ f .cells c (s .channel))
             (row-long row (it .x) (it .wide) v ∙ f .wide c (s .channel))
             (row-small row (it .x) (it .wide) v (count-over n (it .blocks) (s .blocks) (leb-true n (63 * it .blocks) e)) (f .small c (s .channel))))
 
-  pub read-inside : (its : List Item) (r : Reading) → ((it : Item) → In it its → Sound width cells clusters it) → Fine width cells (symbolsIn its) r → ReadInside shift clusters stretch its r
+  pub read-inside : (its : List Item) (r : Reading) → ((it : Item) → In it its → Sound width cells clusters it) → Fine width cells (symbolsIn its) r → ReadInside shift clusters presetMap its r
   read-inside [] r a f = tt
   read-inside (it ∷ its) r a f =
-      (item-inside it (a it (here refl)) (symbolsIn its) r f, read-inside its (item shift clusters stretch it r) (λ t i. a t (there i)) (item-fine it (a it (here refl)) (symbolsIn its) r f))
+      (item-inside it (a it (here refl)) (symbolsIn its) r f, read-inside its (readItem shift clusters presetMap it r) (λ t i. a t (there i)) (item-fine it (a it (here refl)) (symbolsIn its) r f))

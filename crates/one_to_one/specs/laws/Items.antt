@@ -9,12 +9,12 @@ use native.Mathlib.Nat.{mod-lt, div-add-mod', div-lt-iff-lt-mul}
 use native.Mathlib.Decide.{ℕ-discrete, decLt}
 use lib.Arith.{digits-lt}
 use lib.ListN.{length, getD, drop, List·getD-eq-default}
-use Rattle.dct_select.specs.Transforms.{wide, high, orderOf, turns}
+use Rattle.dct_select.specs.Transforms.{wide, high, orderOf, turns, across, down}
 use Rattle.order_sizes.specs.BlockSizes.{widthOf, heightOf}
 use Rattle.order_natural.specs.Places.{Place, paired}
 use Rattle.order_natural.specs.laws.Flat.{paired-flat}
 use Rattle.order_natural.specs.Order.{Order}
-use Rattle.layout.specs.Grid.{at}
+use Rattle.layout.specs.Grid.{blockAt}
 use Rattle.layout.specs.Valid.{Covers}
 use Rattle.layout.specs.Varblocks.{Varblock, varblock}
 use Rattle.layout.specs.Listed.{Among, first, later}
@@ -24,16 +24,15 @@ use Rattle.layout.specs.laws.Theorems.{disjoint}
 use Rattle.order_store.specs.Store.{stretch}
 use Rattle.order_call.specs.Call.{Wrote}
 use Rattle.order_call.specs.laws.Wrote.{listOf, wrote-order, wrote-stretch}
-use Rattle.coeff_walk.specs.Places.{across, down, cellOf}
 use Rattle.coeff_walk.specs.laws.PlaceLaws.{length-places}
 use Rattle.coeff_walk.specs.Item.{Item}
 use Rattle.coeff_group.specs.Group.{Grids}
-use Rattle.coeff_group.specs.Pass.{Pass, varblocks, blocksOf, placesAt, itemOf, itemsOf}
-use Rattle.coeff_group.specs.laws.Sizes.{order-lt}
+use Rattle.coeff_group.specs.Pass.{Pass, varblocks, blocksOf, cellsIn, itemOf, itemsOf}
+use Rattle.dct_select.specs.laws.Sides.{order-lt}
 use Rattle.one_to_one.specs.Filling.{many, Place as PlaceOf, LaidOut, Sized, Low, LowKept}
 use Rattle.coeff_group.specs.laws.Cells.{Distinct, distinct-both, distinct-map, Fit, In}
 use Rattle.one_to_one.specs.laws.Spread.{Spread, spread-of, place-in, in-place, cell-row, cell-column, distinct-places}
-use Rattle.coeff_group.specs.Sequence.{cell, Cell, cellsOf}
+use Rattle.coeff_group.specs.Sequence.{cell, GridCell, readCells}
 
 -- each of the 39 stretches is an order of its size
 abbrev pub Ordered : Pass → Type 0
@@ -46,25 +45,25 @@ wrote-ordered P w k c h l =
     rw (wrote-stretch (P .store) w k c h l, paired-flat l₀) (wrote-order (P .store) w k c h l)
 
 -- the cells of a channel, and of items
-in-channel : (c : ℕ) (ps : List ℕ) (x : Cell) → In x (map (λ (p : ℕ). (c, p)) ps) → (x .0 ≡ c) × In (x .1) ps
+in-channel : (c : ℕ) (ps : List ℕ) (x : GridCell) → In x (map (λ (p : ℕ). (c, p)) ps) → (x .0 ≡ c) × In (x .1) ps
 in-channel c ps x i =
-    let r = Memᴰ·of-map {B = Cell} (λ (p : ℕ). (c, p)) ps i in
-    (sym (ap (λ (y : Cell). y .0) (r .2)), Memᴰ·cast (sym (ap (λ (y : Cell). y .1) (r .2))) (r .1))
+    let r = Memᴰ·of-map {B = GridCell} (λ (p : ℕ). (c, p)) ps i in
+    (sym (ap (λ (y : GridCell). y .0) (r .2)), Memᴰ·cast (sym (ap (λ (y : GridCell). y .1) (r .2))) (r .1))
 
-in-cells : (its : List Item) (x : Cell) → In x (cellsOf its) → (it : Item) × In it its × (x .0 ≡ it .channel) × In (x .1) (it .places)
-unfolding cellsOf
+in-cells : (its : List Item) (x : GridCell) → In x (readCells its) → (it : Item) × In it its × (x .0 ≡ it .channel) × In (x .1) (it .cells)
+unfolding readCells
 in-cells [] x h = absurd (elim h [ ])
-in-cells (it ∷ its) x h = go (List·Memᴰ·append-cases (map (λ (p : ℕ). (it .channel, p)) (it .places)) h) (in-cells its x)
+in-cells (it ∷ its) x h = go (List·Memᴰ·append-cases (map (λ (p : ℕ). (it .channel, p)) (it .cells)) h) (in-cells its x)
   where
-    go : In x (map (λ (p : ℕ). (it .channel, p)) (it .places)) ⊎ In x (cellsOf its) → (In x (cellsOf its) → (t : Item) × In t its × (x .0 ≡ t .channel) × In (x .1) (t .places))
-        → (t : Item) × In t (it ∷ its) × (x .0 ≡ t .channel) × In (x .1) (t .places)
-    go (inl i) f = let r = in-channel (it .channel) (it .places) x i in (it, here refl, r .0, r .1)
+    go : In x (map (λ (p : ℕ). (it .channel, p)) (it .cells)) ⊎ In x (readCells its) → (In x (readCells its) → (t : Item) × In t its × (x .0 ≡ t .channel) × In (x .1) (t .cells))
+        → (t : Item) × In t (it ∷ its) × (x .0 ≡ t .channel) × In (x .1) (t .cells)
+    go (inl i) f = let r = in-channel (it .channel) (it .cells) x i in (it, here refl, r .0, r .1)
     go (inr i) f = let r = f i in (r .0, there (r .1), r .2, r .3)
 
-cells-in : (its : List Item) (it : Item) (p : ℕ) → In it its → In p (it .places) → In (it .channel, p) (cellsOf its)
-unfolding cellsOf
-cells-in (t ∷ its) it p (here e) i = rw e (Memᴰ·append-left (cellsOf its) (Memᴰ·map (λ (q : ℕ). (t .channel, q)) (rw e at i)))
-cells-in (t ∷ its) it p (there j) i = Memᴰ·append-right (map (λ (q : ℕ). (t .channel, q)) (t .places)) (cells-in its it p j i)
+cells-in : (its : List Item) (it : Item) (p : ℕ) → In it its → In p (it .cells) → In (it .channel, p) (readCells its)
+unfolding readCells
+cells-in (t ∷ its) it p (here e) i = rw e (Memᴰ·append-left (readCells its) (Memᴰ·map (λ (q : ℕ). (t .channel, q)) (rw e at i)))
+cells-in (t ∷ its) it p (there j) i = Memᴰ·append-right (map (λ (q : ℕ). (t .channel, q)) (t .cells)) (cells-in its it p j i)
 
 module _ (P : Pass) where
   -- what holds of each varblock's channels holds of the items
@@ -76,12 +75,12 @@ module _ (P : Pass) where
   each-item Q (v ∷ vs) f it (there (there (here e))) = subst Q (sym e) (f v (first refl) 2 2 (omega arith) (omega arith))
   each-item Q (v ∷ vs) f it (there (there (there i))) = each-item Q vs (λ u j. f u (later j)) it i
 
-  -- the varblock whose place a cell is
-  pub held : (vs : List Varblock) (c p : ℕ) → In (c, p) (cellsOf (itemsOf P vs)) → (v : Varblock) × Among v vs × (c < 3) × In p (placesAt P v c)
+  -- the varblock in which a cell is read
+  pub held : (vs : List Varblock) (c p : ℕ) → In (c, p) (readCells (itemsOf P vs)) → (v : Varblock) × Among v vs × (c < 3) × In p (cellsIn P v c)
   held vs c p h =
       let r = in-cells (itemsOf P vs) (c, p) h in
-      each-item (λ it. c ≡ it .channel → In p (it .places) → (v : Varblock) × Among v vs × (c < 3) × In p (placesAt P v c)) vs
-      (λ v j n d hn hd. unfold itemOf in λ e k. (v, j, omega (arith, e), subst (λ (b : ℕ). In p (placesAt P v b)) (sym e) k)) (r .0) (r .1) (r .2) (r .3)
+      each-item (λ it. c ≡ it .channel → In p (it .cells) → (v : Varblock) × Among v vs × (c < 3) × In p (cellsIn P v c)) vs
+      (λ v j n d hn hd. unfold itemOf in λ e k. (v, j, omega (arith, e), subst (λ (b : ℕ). In p (cellsIn P v b)) (sym e) k)) (r .0) (r .1) (r .2) (r .3)
 
   item-in : (vs : List Varblock) (v : Varblock) → Among v vs → (c : ℕ) → c < 3 → (n : ℕ) × In (itemOf P v n c) (itemsOf P vs)
   unfolding itemsOf
@@ -91,13 +90,13 @@ module _ (P : Pass) where
   item-in (u ∷ vs) v (first e) (suc (suc (suc c))) h = absurd (omega arith)
   item-in (u ∷ vs) v (later j) c h = let r = item-in vs v j c h in (r .0, there (there (there (r .1))))
 
-  pub holds : (vs : List Varblock) (v : Varblock) (c p : ℕ) → Among v vs → c < 3 → In p (placesAt P v c) → In (c, p) (cellsOf (itemsOf P vs))
+  pub holds : (vs : List Varblock) (v : Varblock) (c p : ℕ) → Among v vs → c < 3 → In p (cellsIn P v c) → In (c, p) (readCells (itemsOf P vs))
   unfolding itemOf
   holds vs v c p i h k = let r = item-in vs v i c h in cells-in (itemsOf P vs) (itemOf P v (r .0) c) p (r .1) k
 
 module _ (P : Pass) (lay : LaidOut P) (ord : Ordered P) where
   abbrev K : ℕ → ℕ → ℕ
-  K = at (P .kinds) (P .bw)
+  K = blockAt (P .kinds) (P .bw)
 
   -- one channel of a varblock
   module _ (v : Varblock) (i : Among v (varblocks P)) (c : ℕ) (hc : c < 3) where
@@ -110,23 +109,23 @@ module _ (P : Pass) (lay : LaidOut P) (ord : Ordered P) where
     pub spread : Spread turn (wide (v .type)) (high (v .type)) rest
     spread = spread-of (v .type) (known lay v i) (paired (stretch (P .store) (orderOf (v .type)) c)) (ord (orderOf (v .type)) c (order-lt (v .type) (known lay v i)) hc)
 
-    in-row : (q : Place) → In q rest → 8 * v .x + across turn q < 8 * P .bw
+    in-row : (q : Place) → In q rest → 8 * v .x + across turn (q .0) (q .1) < 8 * P .bw
     in-row q j = let a = spread .inside q j .0 in omega (arith, right lay v i)
 
-    places-size : length (placesAt P v c) ≡ 63 * blocksOf v
+    places-size : length (cellsIn P v c) ≡ 63 * blocksOf v
     places-size = length-places turn (8 * P .bw) (8 * v .x) (8 * v .y) rest ∙ spread .size
 
-    cells-distinct : Distinct (map {B = Cell} (λ (p : ℕ). (c, p)) (placesAt P v c))
-    cells-distinct = distinct-map (λ (p : ℕ). (c, p)) (placesAt P v c) (λ p q j k e. ap (λ (x : Cell). x .1) e) (distinct-places turn (8 * P .bw) (8 * v .x) (8 * v .y) rest in-row (spread .distinct))
+    cells-distinct : Distinct (map {B = GridCell} (λ (p : ℕ). (c, p)) (cellsIn P v c))
+    cells-distinct = distinct-map (λ (p : ℕ). (c, p)) (cellsIn P v c) (λ p q j k e. ap (λ (x : GridCell). x .1) e) (distinct-places turn (8 * P .bw) (8 * v .x) (8 * v .y) rest in-row (spread .distinct))
 
-    places-inside : (p : ℕ) → In p (placesAt P v c) → p < many P
+    places-inside : (p : ℕ) → In p (cellsIn P v c) → p < many P
     places-inside p j =
         let r = in-place turn (8 * P .bw) (8 * v .x) (8 * v .y) rest p j in
         let d = spread .inside (r .0) (r .1) .1 in
         rw (← (r .2)) (digits-lt (omega (arith, bottom lay v i)) (in-row (r .0) (r .1)))
 
-    -- where a place lies
-    place-at : (p : ℕ) → In p (placesAt P v c) → (q : Place) × In q rest × (p % (8 * P .bw) ≡ 8 * v .x + across turn q) × (p / (8 * P .bw) ≡ 8 * v .y + down turn q)
+    -- where a cell that is read lies
+    place-at : (p : ℕ) → In p (cellsIn P v c) → (q : Place) × In q rest × (p % (8 * P .bw) ≡ 8 * v .x + across turn (q .0) (q .1)) × (p / (8 * P .bw) ≡ 8 * v .y + down turn (q .0) (q .1))
     place-at p j =
         let r = in-place turn (8 * P .bw) (8 * v .x) (8 * v .y) rest p j in
         let h = in-row (r .0) (r .1) in (
@@ -136,8 +135,8 @@ module _ (P : Pass) (lay : LaidOut P) (ord : Ordered P) where
           ap (λ (x : ℕ). x / (8 * P .bw)) (sym (r .2)) ∙ cell-row turn (8 * P .bw) (8 * v .x) (8 * v .y) (r .0) h,
         )
 
-    -- each place lies in the varblock's rectangle
-    places-covered : (p : ℕ) → In p (placesAt P v c) → Covers K (v .x) (v .y) (p % (8 * P .bw) / 8) (p / (8 * P .bw) / 8)
+    -- each lies in the varblock's rectangle
+    places-covered : (p : ℕ) → In p (cellsIn P v c) → Covers K (v .x) (v .y) (p % (8 * P .bw) / 8) (p / (8 * P .bw) / 8)
     places-covered p j =
         let r = place-at p j in
         let x = r .2 in let y = r .3 in
@@ -163,18 +162,18 @@ module _ (P : Pass) (lay : LaidOut P) (ord : Ordered P) where
       let k = in-block p h in
       disjoint (P .bw) (P .bh) (P .kinds) (P .hfMul) lay (u .x) (u .y) (v .x) (v .y) (p % (8 * P .bw) / 8) (p / (8 * P .bw) / 8) (k .0) (k .1) a b
 
-  pub item-size : (it : Item) → In it (itemsOf P (varblocks P)) → (it .blocks ≤ 1024) × (length (it .places) ≡ 63 * it .blocks)
-  item-size = each-item P (λ it. (it .blocks ≤ 1024) × (length (it .places) ≡ 63 * it .blocks)) (varblocks P) (λ v j n c hn hc. unfold itemOf in (few lay v j, places-size v j c hc))
+  pub item-size : (it : Item) → In it (itemsOf P (varblocks P)) → (it .blocks ≤ 1024) × (length (it .cells) ≡ 63 * it .blocks)
+  item-size = each-item P (λ it. (it .blocks ≤ 1024) × (length (it .cells) ≡ 63 * it .blocks)) (varblocks P) (λ v j n c hn hc. unfold itemOf in (few lay v j, places-size v j c hc))
 
-  pub cells-fit : (G : Grids) → Sized P G → ((c p : ℕ) → cell G c p < 2 ^ 32) → Fit G (cellsOf (itemsOf P (varblocks P)))
+  pub cells-fit : (G : Grids) → Sized P G → ((c p : ℕ) → cell G c p < 2 ^ 32) → Fit G (readCells (itemsOf P (varblocks P)))
   cells-fit G sz small = record {
     channel = λ x j. let r = held P (varblocks P) (x .0) (x .1) j in omega (arith, sz .three, r .2);
     place = λ x j. let r = held P (varblocks P) (x .0) (x .1) j in rw (sz .cells (x .0) (r .2)) (places-inside (r .0) (r .1) (x .0) (r .2) (x .1) (r .3));
     small = λ x j. small (x .0) (x .1);
   }
 
-  distinct-from : (vs : List Varblock) → ((v : Varblock) → Among v vs → Among v (varblocks P)) → Apart vs → Distinct (cellsOf (itemsOf P vs))
-  unfolding itemsOf itemOf cellsOf
+  distinct-from : (vs : List Varblock) → ((v : Varblock) → Among v vs → Among v (varblocks P)) → Apart vs → Distinct (readCells (itemsOf P vs))
+  unfolding itemsOf itemOf readCells
   distinct-from [] f a = tt
   distinct-from (v ∷ vs) f a =
       distinct-both (cells 1) (cells 0 ++ (cells 2 ++ rest-cells)) (own 1 (omega arith))
@@ -183,38 +182,38 @@ module _ (P : Pass) (lay : LaidOut P) (ord : Ordered P) where
       (past 0 2 (λ e. omega arith) rest-cells (cross 0 (omega arith))))
       (past 1 0 (λ e. omega arith) (cells 2 ++ rest-cells) (past 1 2 (λ e. omega arith) rest-cells (cross 1 (omega arith))))
     where
-      cells : ℕ → List Cell
-      cells c = map (λ (p : ℕ). (c, p)) (placesAt P v c)
+      cells : ℕ → List GridCell
+      cells c = map (λ (p : ℕ). (c, p)) (cellsIn P v c)
 
-      rest-cells : List Cell
-      rest-cells = cellsOf (itemsOf P vs)
+      rest-cells : List GridCell
+      rest-cells = readCells (itemsOf P vs)
 
       own : (c : ℕ) → c < 3 → Distinct (cells c)
       own c hc = cells-distinct v (f v (first refl)) c hc
 
-      past : (c d : ℕ) → (c ≡ d → ⊥) → (ys : List Cell) → ((x : Cell) → In x (cells c) → In x ys → ⊥) → (x : Cell) → In x (cells c) → In x (cells d ++ ys) → ⊥
+      past : (c d : ℕ) → (c ≡ d → ⊥) → (ys : List GridCell) → ((x : GridCell) → In x (cells c) → In x ys → ⊥) → (x : GridCell) → In x (cells c) → In x (cells d ++ ys) → ⊥
       past c d n ys g x j k =
-          elim (List·Memᴰ·append-cases (cells d) k) [ inl l ↦ n (sym (in-channel c (placesAt P v c) x j .0) ∙ in-channel d (placesAt P v d) x l .0) | inr l ↦ g x j l ]
+          elim (List·Memᴰ·append-cases (cells d) k) [ inl l ↦ n (sym (in-channel c (cellsIn P v c) x j .0) ∙ in-channel d (cellsIn P v d) x l .0) | inr l ↦ g x j l ]
 
-      cross : (c : ℕ) → c < 3 → (x : Cell) → In x (cells c) → In x rest-cells → ⊥
+      cross : (c : ℕ) → c < 3 → (x : GridCell) → In x (cells c) → In x rest-cells → ⊥
       cross c hc x j k =
-          let r = in-channel c (placesAt P v c) x j in
+          let r = in-channel c (cellsIn P v c) x j in
           let s = held P vs (x .0) (x .1) k in
           let i = f v (first refl) in
           let o = one-corner (s .0) v (x .1) (places-inside v i c hc (x .1) (r .1)) (places-covered (s .0) (f (s .0) (later (s .1))) (x .0) (s .2) (x .1) (s .3)) (places-covered v i c hc (x .1) (r .1)) in
           a .0 (s .0) (s .1) (o .0) (o .1)
 
-  pub cells-apart : Distinct (cellsOf (itemsOf P (varblocks P)))
-  cells-apart = distinct-from (varblocks P) (λ v i. i) (corners-apart K (at (P .hfMul) (P .bw)) (P .bw) (P .bh))
+  pub cells-apart : Distinct (readCells (itemsOf P (varblocks P)))
+  cells-apart = distinct-from (varblocks P) (λ v i. i) (corners-apart K (blockAt (P .hfMul) (P .bw)) (P .bw) (P .bh))
 
-  -- every cell is low-frequency or a place
+  -- every cell is low-frequency or read
   pub low-or-held : (c p : ℕ) → c < 3 → p < many P → Low P p ⊎ PlaceOf P c p
   low-or-held c p hc h =
       let b = in-block p h in
       let o = lay .valid .owned (p % (8 * P .bw) / 8) (p / (8 * P .bw) / 8) (b .0) (b .1) in
       let w = o .covers in
       let x = w .fromX in let y = w .fromY in let bx = b .0 in let bY = b .1 in
-      in-it (varblock (o .ox) (o .oy) (K (o .ox) (o .oy) - 2) (at (P .hfMul) (P .bw) (o .ox) (o .oy))) (at-corner lay (o .ox) (o .oy) (omega arith) (omega arith) (w .corner)) (w .fromX) (w .toX) (w .fromY) (w .toY)
+      in-it (varblock (o .ox) (o .oy) (K (o .ox) (o .oy) - 2) (blockAt (P .hfMul) (P .bw) (o .ox) (o .oy))) (at-corner lay (o .ox) (o .oy) (omega arith) (omega arith) (w .corner)) (w .fromX) (w .toX) (w .fromY) (w .toY)
     where
       in-it : (v : Varblock) → Among v (varblocks P) → v .x ≤ p % (8 * P .bw) / 8 → p % (8 * P .bw) / 8 < v .x + wide (v .type)
           → v .y ≤ p / (8 * P .bw) / 8 → p / (8 * P .bw) / 8 < v .y + high (v .type) → Low P p ⊎ PlaceOf P c p
@@ -231,8 +230,8 @@ module _ (P : Pass) (lay : LaidOut P) (ord : Ordered P) where
               let t = turns (v .type) in
               let s = spread v i c hc .whole dx dy (omega arith) (omega arith) n in
               let sx = s .2 in let sy = s .3 in
-              let ex : 8 * v .x + across t (s .0) ≡ p % (8 * P .bw) = omega arith in
-              let ey : 8 * v .y + down t (s .0) ≡ p / (8 * P .bw) = omega arith in
+              let ex : 8 * v .x + across t (s .0 .0) (s .0 .1) ≡ p % (8 * P .bw) = omega arith in
+              let ey : 8 * v .y + down t (s .0 .0) (s .0 .1) ≡ p / (8 * P .bw) = omega arith in
               holds P (varblocks P) v c p i hc
               (Memᴰ·cast (sym (ap₂ (λ (a b : ℕ). a * (8 * P .bw) + b) ey ex ∙ div-add-mod' p (8 * P .bw))) (place-in t (8 * P .bw) (8 * v .x) (8 * v .y) (rest v i c hc) (s .0) (s .1)))
 
@@ -255,7 +254,7 @@ module _ (P : Pass) (lay : LaidOut P) (ord : Ordered P) where
       let w : wide (u .type) ≡ wide (v .type) = ap wide t in let g : high (u .type) ≡ high (v .type) = ap high t in
       spread v i c (s .2) .upper (r .0) (r .1) (omega arith) (omega arith)
 
-  -- so, of grids that agree in the low-frequency cells, each cell is a place or the same in both
+  -- so, of grids that agree in the low-frequency cells, each cell is read or the same in both
   pub place-or-same : (G W : Grids) → Sized P G → Sized P W → LowKept P G W → (c p : ℕ) → PlaceOf P c p ⊎ ((PlaceOf P c p → ⊥) × (cell W c p ≡ cell G c p))
   place-or-same G W sg sw kept c p = channel (decLt c 3)
     where

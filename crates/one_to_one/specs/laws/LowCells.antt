@@ -18,7 +18,7 @@ use Rattle.coeff_group.specs.laws.Reads.{joined}
 use Rattle.one_to_one.specs.laws.Items.{wrote-ordered, Ordered, low-or-held, low-not-held}
 use Rattle.one_to_one.specs.laws.Ways.{Way, before, work, way, did, outcome-by}
 use Rattle.order_call.specs.Call.{Wrote}
-use Rattle.coeff_group.specs.Sequence.{cell, cellsOf}
+use Rattle.coeff_group.specs.Sequence.{cell, readCells}
 
 -- Whatever is lent, with orders as an accepted order call wrote them: no call, accepted or refused and of whatever shift, changes a
 -- low-frequency cell.
@@ -30,9 +30,9 @@ module _ (L : Lent) (orders : Wrote (L .pass .store)) where
       let k = lengths-fit L (passed .lengths) in
       let lay : LaidOut P = layout-iff (P .bw) (P .bh) (P .kinds) (P .hfMul) (k .kinds) (k .hfMul) .0 (passed .layout) in
       let d = did L preset in
-      let G = adds (L .shift) (L .grids) (cellsOf (itemsOf P (varblocks P))) (joined (d .dss)) in
+      let G = adds (L .shift) (L .grids) (readCells (itemsOf P (varblocks P))) (joined (d .dss)) in
       ap (λ (o : Outcome). cell (o .grids) c p) (e (L .symbols) (L .log) refl ∙ ap outcome (d .is (L .log)) ∙ outcome-by (d .end) (length (d .clusters)) (sets (L .log) 0 (d .clusters)) G)
-      ∙ adds-off (L .shift) (L .grids) (cellsOf (itemsOf P (varblocks P))) (joined (d .dss)) (c, p) (low-not-held P lay (wrote-ordered P orders) c p l)
+      ∙ adds-off (L .shift) (L .grids) (readCells (itemsOf P (varblocks P))) (joined (d .dss)) (c, p) (low-not-held P lay (wrote-ordered P orders) c p l)
 
   pub low-kept : LowKept (L .pass) (L .grids) (call L .grids)
   low-kept = by-way (way L)

@@ -1,7 +1,7 @@
 -- No reading of the coefficient call reads or writes outside a list (document 01, Coefficients): whatever passes the checks before work,
 -- stores that no order call wrote included, and whatever the symbols. So the definitions' numbers for places outside are never met.
 use mathlib.Core.Path.{_≡_, refl}
-use mathlib.Core.Bool.{Bool, true}
+use mathlib.Core.Bool.{true}
 use mathlib.Core.List.{List, [], _∷_, _++_, List·Memᴰ·head as here, List·Memᴰ·tail as there}
 use Prim.Native.Nat.{ℕ, zero, suc, _+_, _*_, _<_, _≤_}
 use native.Mathlib.Omega.{arith}
@@ -10,28 +10,26 @@ use lib.Arith.{digits-lt}
 use lib.ListN.{length, getD, drop, replicate, length-drop}
 use lib.Seq.{length-take-le}
 use Rattle.order_sizes.specs.BlockSizes.{widthOf, heightOf}
-use Rattle.dct_select.specs.Transforms.{wide, high, orderOf, turns}
+use Rattle.dct_select.specs.Transforms.{wide, high, orderOf, turns, across, down}
 use Rattle.order_natural.specs.Places.{Place, paired}
 use Rattle.dct_select.specs.laws.Sides.{wide-some, inside}
-use Rattle.layout.specs.Grid.{at}
+use Rattle.layout.specs.Grid.{blockAt}
 use Rattle.layout.specs.laws.Grid.{place-lt}
 use Rattle.layout.specs.Varblocks.{Varblock}
 use Rattle.layout.specs.Listed.{Among, first, later}
 use Rattle.layout.specs.laws.Rectangles.{has, known, right, bottom}
 use Rattle.layout.specs.laws.Theorems.{layout-iff}
-use Rattle.context_record.specs.Record.{fit}
-use Rattle.context_record.specs.laws.Bounds.{is-fit}
+use Rattle.context_record.specs.Record.{bsizeOf, fit}
 use Rattle.context_index.specs.Lists.{used}
 use Rattle.context_index.specs.laws.Bounds.{block-index-lt, context-lt, used-size-le}
 use Rattle.order_store.specs.Store.{PLACES, stretch, placesFit}
 use Rattle.order_places.specs.Places.{Inside}
 use Rattle.order_places.specs.laws.Places.{fits-at}
-use Rattle.coeff_walk.specs.Places.{across, down}
-use Rattle.coeff_walk.specs.Item.{Item, countCluster}
-use Rattle.coeff_group.specs.Group.{Grids, Reading, going, item, read, zeroRows}
-use Rattle.coeff_group.specs.Pass.{Pass, varblocks, blocksOf, contextOf, placesAt, itemOf, channels, itemsOf}
+use Rattle.coeff_walk.specs.Item.{Item}
+use Rattle.coeff_group.specs.Group.{Grids, Reading, going, readItem, readItems, zeroRows}
+use Rattle.coeff_group.specs.Pass.{Pass, varblocks, blocksOf, contextEntry, cellsIn, itemOf, channels, itemsOf}
 use Rattle.coeff_group.specs.Work.{clustersOf}
-use Rattle.coeff_group.specs.laws.Sizes.{order-lt}
+use Rattle.dct_select.specs.laws.Sides.{order-lt}
 use Rattle.coeff_group.specs.laws.Stored.{stretch-long}
 use Rattle.coeff_checks.specs.Checks.{blocks}
 use Rattle.coeff_checks.specs.laws.ChecksLaws.{sides-fit}
@@ -41,16 +39,9 @@ use Rattle.one_to_one.specs.Filling.{LaidOut}
 use Rattle.one_to_one.specs.laws.Spread.{in-place}
 use Rattle.one_to_one.specs.laws.Items.{each-item}
 use Rattle.coeff_group.specs.laws.Symbols.{symbolsIn, places-many, some-blocks, most-symbols}
-use Rattle.one_to_one.specs.Inside.{countEntry, ReadInside, contextPlace, CornerInside, GroupInside, ReadingInside}
+use Rattle.one_to_one.specs.Inside.{ReadInside, CornerInside, GroupInside, ReadingInside}
 use Rattle.one_to_one.specs.laws.InsideLaws.{Sound, Small, Sane, read-inside}
 use Rattle.coeff_group.specs.laws.Cells.{In}
-
--- The entries that Inside names are those that the definitions read.
-pub entry-read : (clusters : ℕ) (stretch₀ : List ℕ) (it : Item) (row : List ℕ) → countCluster clusters stretch₀ it row ≡ getD stretch₀ (countEntry clusters it row) 0
-entry-read clusters stretch₀ it row = refl
-
-pub place-read : (P : Pass) (v : Varblock) (n : ℕ) → contextOf P v n ≡ getD (used (P .contexts) .map) (contextPlace P v n) 0
-place-read P v n = refl
 
 -- Places of a stored list, by number and in the list.
 rest-in : (k : ℕ) (q : Place) (l : List Place) → In q (drop k l) → In q l
@@ -70,7 +61,7 @@ pair-inside w h (suc n) (x ∷ y ∷ r) e f q (there i) =
 module _ (P : Pass) (lay : LaidOut P) (narrow : P .bw ≤ 32) (contexts : fit (P .contexts) ≡ true) (whole : length (P .store) ≡ 2 * PLACES) (places : placesFit (P .store) ≡ true) where
   module _ (v : Varblock) (i : Among v (varblocks P)) (c : ℕ) (hc : c < 3) where
     -- each place of any store that passes 13 is a cell of the grid
-    cell-inside : (p : ℕ) → In p (placesAt P v c) → p < 64 * blocks P
+    cell-inside : (p : ℕ) → In p (cellsIn P v c) → p < 64 * blocks P
     cell-inside p j =
         let t = v .type in
         let k = orderOf t in
@@ -79,7 +70,7 @@ module _ (P : Pass) (lay : LaidOut P) (narrow : P .bw ≤ 32) (contexts : fit (P
         let r = in-place (turns t) (8 * P .bw) (8 * v .x) (8 * v .y) (drop (blocksOf v) (paired s)) p j in
         let q = r .0 in
         let b = pair-inside (widthOf k) (heightOf k) (widthOf k * heightOf k) s (stretch-long (P .store) whole k c o hc) (fits-at (P .store) whole places k c o hc) q (rest-in (blocksOf v) q (paired s) (r .1)) in
-        let d : (across (turns t) q < 8 * wide t) × (down (turns t) q < 8 * high t) = inside t (known lay v i) (q .0) (q .1) (b .0) (b .1) in
+        let d : (across (turns t) (q .0) (q .1) < 8 * wide t) × (down (turns t) (q .0) (q .1) < 8 * high t) = inside t (known lay v i) (q .0) (q .1) (b .0) (b .1) in
         let d₀ = d .0 in let d₁ = d .1 in
         let x = right lay v i in let y = bottom lay v i in
         let m : 8 * P .bh * (8 * P .bw) ≡ 64 * blocks P = mul-mul-mul-comm 8 (P .bh) 8 (P .bw) in
@@ -100,27 +91,27 @@ module _ (P : Pass) (lay : LaidOut P) (narrow : P .bw ≤ 32) (contexts : fit (P
   all-sound : (it : Item) → In it (itemsOf P (varblocks P)) → Sound 32 (64 * blocks P) (clustersOf P) it
   all-sound = each-item P (Sound 32 (64 * blocks P) (clustersOf P)) (varblocks P) (λ v i n c hn hc. sound v i c hc n hn)
 
--- Places in the context map: a fit record's four lists, as far as they are used, have a product of at most 64.
-place-inside : (P : Pass) → fit (P .contexts) ≡ true → (v : Varblock) → orderOf (v .type) < 13 → (n : ℕ) → n < 3 → contextPlace P v n < 2496
-place-inside P e v o n h =
-    let a = block-index-lt (used (P .contexts)) n (orderOf (v .type)) (v .hfMul) (P .lfThere) (at (P .lf0) (P .bw) (v .x) (v .y)) (at (P .lf1) (P .bw) (v .x) (v .y)) (at (P .lf2) (P .bw) (v .x) (v .y)) h o in
-    omega (arith, used-size-le (P .contexts), is-fit (P .contexts) e .size)
+-- Entries of the map of block contexts: the lists as far as they are used are no longer than the record says.
+entry-inside : (P : Pass) (v : Varblock) → orderOf (v .type) < 13 → (n : ℕ) → n < 3 → contextEntry P v n < 39 * bsizeOf (P .contexts .lengths)
+entry-inside P v o n h =
+    let a = block-index-lt (used (P .contexts)) n (orderOf (v .type)) (v .hfMul) (P .lfThere) (blockAt (P .lf0) (P .bw) (v .x) (v .y)) (blockAt (P .lf1) (P .bw) (v .x) (v .y)) (blockAt (P .lf2) (P .bw) (v .x) (v .y)) h o in
+    omega (arith, used-size-le (P .contexts))
 
 -- From items to the group.
-module _ (shift clusters : ℕ) (stretch₀ : List ℕ) where
-  parts : (xs ys : List Item) (r : Reading) → ReadInside shift clusters stretch₀ (xs ++ ys) r
-      → ReadInside shift clusters stretch₀ xs r × ReadInside shift clusters stretch₀ ys (read shift clusters stretch₀ xs r)
-  unfolding read
+module _ (shift clusters : ℕ) (presetMap₀ : List ℕ) where
+  parts : (xs ys : List Item) (r : Reading) → ReadInside shift clusters presetMap₀ (xs ++ ys) r
+      → ReadInside shift clusters presetMap₀ xs r × ReadInside shift clusters presetMap₀ ys (readItems shift clusters presetMap₀ xs r)
+  unfolding readItems
   parts [] ys r h = (tt, h)
-  parts (x ∷ xs) ys r h = let k = parts xs ys (item shift clusters stretch₀ x r) (h .1) in ((h .0, k .0), k .1)
+  parts (x ∷ xs) ys r h = let k = parts xs ys (readItem shift clusters presetMap₀ x r) (h .1) in ((h .0, k .0), k .1)
 
   by-group : (P : Pass) (vs : List Varblock) (r : Reading) → ((v : Varblock) → Among v vs → CornerInside P v)
-      → ReadInside shift clusters stretch₀ (itemsOf P vs) r → GroupInside shift clusters stretch₀ P vs r
+      → ReadInside shift clusters presetMap₀ (itemsOf P vs) r → GroupInside shift clusters presetMap₀ P vs r
   unfolding itemsOf
   by-group P [] r f h = tt
   by-group P (v ∷ vs) r f h =
       let k = parts (channels P v) (itemsOf P vs) r h in
-      (f v (first refl), k .0, by-group P vs (read shift clusters stretch₀ (channels P v) r) (λ u j. f u (later j)) (k .1))
+      (f v (first refl), k .0, by-group P vs (readItems shift clusters presetMap₀ (channels P v) r) (λ u j. f u (later j)) (k .1))
 
 -- The reading of a call.
 zeros-small : (n i : ℕ) → getD {A = ℕ} (replicate n 0) i 0 < 64
@@ -141,16 +132,16 @@ module _ (L : Lent) (passed : Passed L) (preset : ℕ) (below : preset < L .pres
   lay : LaidOut P
   lay = let k = lengths-fit L (passed .lengths) in layout-iff (P .bw) (P .bh) (P .kinds) (P .hfMul) (k .kinds) (k .hfMul) .0 (passed .layout)
 
-  stretch-inside : 495 * clustersOf P * preset + 495 * clustersOf P ≤ length (L .clusterMap)
-  stretch-inside =
+  preset-inside : 495 * clustersOf P * preset + 495 * clustersOf P ≤ length (L .clusterMap)
+  preset-inside =
       let n = 495 * clustersOf P in
       let a : n * preset + n ≤ n * L .presets = rw (← mul-suc n preset) (mul-le-mul (le-refl n) below) in
       omega (arith, lengths-fit L (passed .lengths) .map)
 
-  stretch-whole : length (presetMap L preset) ≡ 495 * clustersOf P
-  stretch-whole =
+  preset-whole : length (presetMap L preset) ≡ 495 * clustersOf P
+  preset-whole =
       let n = 495 * clustersOf P in
-      length-take-le n (drop (n * preset) (L .clusterMap)) (rw (length-drop (n * preset) (L .clusterMap)) (omega (arith, stretch-inside)))
+      length-take-le n (drop (n * preset) (L .clusterMap)) (rw (length-drop (n * preset) (L .clusterMap)) (omega (arith, preset-inside)))
 
   corner-inside : (v : Varblock) → Among v (varblocks P) → CornerInside P v
   corner-inside v i =
@@ -161,7 +152,7 @@ module _ (L : Lent) (passed : Passed L) (preset : ℕ) (below : preset < L .pres
         lf0 = λ there. omega (arith, k .lf there .0);
         lf1 = λ there. omega (arith, k .lf there .1);
         lf2 = λ there. omega (arith, k .lf there .2);
-        context = λ n hn. place-inside P (passed .contexts) v (order-lt (v .type) (known lay v i)) n hn;
+        context = λ n hn. entry-inside P v (order-lt (v .type) (known lay v i)) n hn;
         orders = λ c h. places-many P (k .store) v (known lay v i) c h;
       }
 
@@ -196,10 +187,10 @@ module _ (L : Lent) (passed : Passed L) (preset : ℕ) (below : preset < L .pres
   -- whatever passed the checks before work, with a valid preset, whatever the symbols: nothing is read or written outside a list
   pub never-outside : ReadingInside L preset
   never-outside = (
-    stretch-inside,
+    preset-inside,
     let k = lengths-fit L (passed .lengths) in
         by-group (L .shift) (clustersOf P) (presetMap L preset) P (varblocks P) (going (L .symbols) 0 (L .log) (L .grids) zeroRows 0)
         corner-inside
-        (read-inside (L .shift) (clustersOf P) (presetMap L preset) stretch-whole 32 (64 * blocks P) (itemsOf P (varblocks P)) (going (L .symbols) 0 (L .log) (L .grids) zeroRows 0)
+        (read-inside (L .shift) (clustersOf P) (presetMap L preset) preset-whole 32 (64 * blocks P) (itemsOf P (varblocks P)) (going (L .symbols) 0 (L .log) (L .grids) zeroRows 0)
         (all-sound P lay (sides-fit P (passed .sides) .wide) (passed .contexts) (k .store) (passed .places)) start),
   )

@@ -4,20 +4,20 @@ use mathlib.Core.Logic.{_↔_, _⊎_, inl, inr}
 use mathlib.Core.List.{List, [], _∷_, _++_, map, append-nil, map-append, map-map, List·Memᴰ·head as here, List·Memᴰ·tail as there}
 use Prim.Native.Nat.{ℕ, zero, suc, _+_, _^_, _<_}
 use native.Mathlib.Omega.{arith}
-use lib.ListN.{length, getD, take, drop, length-map, length-append}
+use lib.ListN.{length, take, drop, length-map, length-append}
 use lib.Seq.{sets, take-at, drop-at}
 use Rattle.coded_numbers.specs.laws.Signed.{symbol-lt}
 use Rattle.coded_numbers.specs.Signed.{symbol}
 use Rattle.coeff_walk.specs.Walk.{less}
 use Rattle.coeff_walk.specs.Item.{Item}
 use Rattle.refusal.specs.Answer.{gives}
-use Rattle.coeff_group.specs.Group.{leftOf, Grids, Reading, going, refused, read}
+use Rattle.coeff_group.specs.Group.{leftOf, Grids, Reading, going, refused, readItems}
 use Rattle.coeff_call.specs.Call.{outcome}
 use Rattle.coeff_walk.specs.laws.Walks.{nonZeros-le}
 use Rattle.coeff_group.specs.laws.Cells.{Distinct, Shape, same-shape, adds, adds-shape, adds-off, Fit, change, only-symbols, symbols-turn, In}
 use Rattle.coeff_group.specs.laws.Reads as run
 use Rattle.coeff_group.specs.laws.Reads.{joined, Long, Sized, words-both}
-use Rattle.coeff_group.specs.Sequence.{cell, sent, changes, Cell, cellsOf}
+use Rattle.coeff_group.specs.Sequence.{cell, sent, changes, GridCell, readCells}
 use Rattle.coeff_walk.specs.Sent.{Words, nonZeros, upTo}
 
 -- accepted, read to the last symbol, every count used up, these grids
@@ -28,29 +28,29 @@ pub record Filled (r : Reading) (s : List ℕ) (W : Grids) : Type 0 where
 
 -- what is held fixed, and a filling: each cell is read at, or kept
 pub record Group (its : List Item) (G W : Grids) : Type 0 where
-  pub few : (it : Item) → In it its → length (it .places) < 2 ^ 32
+  pub few : (it : Item) → In it its → length (it .cells) < 2 ^ 32
   pub sized : Sized its
-  pub distinct : Distinct (cellsOf its)
-  pub fit : Fit G (cellsOf its)
+  pub distinct : Distinct (readCells its)
+  pub fit : Fit G (readCells its)
   pub wanted : (c p : ℕ) → cell W c p < 2 ^ 32
   pub shape : Shape W G
-  pub kept : (c p : ℕ) → In (c, p) (cellsOf its) ⊎ ((In (c, p) (cellsOf its) → ⊥) × (cell W c p ≡ cell G c p))
+  pub kept : (c p : ℕ) → In (c, p) (readCells its) ⊎ ((In (c, p) (readCells its) → ⊥) × (cell W c p ≡ cell G c p))
 
 abbrev pub reading : ℕ → List ℕ → List Item → List ℕ → List ℕ → Grids → Grids → Reading
-reading clusters stretch its s log G rows = read 0 clusters stretch its (going s 0 log G rows 0)
+reading clusters presetMap its s log G rows = readItems 0 clusters presetMap its (going s 0 log G rows 0)
 
 -- symbols item by item, and cell by cell
 module _ (G W : Grids) where
   changes-long : (its : List Item) → Long its (map (changes G W) its)
   changes-long [] = tt
-  changes-long (it ∷ its) = (length-map (it .places) _, changes-long its)
+  changes-long (it ∷ its) = (length-map (it .cells) _, changes-long its)
 
-  changes-joined : (its : List Item) → joined (map (changes G W) its) ≡ map (change G W) (cellsOf its)
-  unfolding cellsOf
+  changes-joined : (its : List Item) → joined (map (changes G W) its) ≡ map (change G W) (readCells its)
+  unfolding readCells
   changes-joined [] = refl
   changes-joined (it ∷ its) =
-      ap₂ (λ (a b : List ℕ). a ++ b) (sym (map-map (change G W) (λ (p : ℕ). (it .channel, p)) (it .places))) (changes-joined its)
-      ∙ sym (map-append (change G W) (map (λ (p : ℕ). (it .channel, p)) (it .places)) (cellsOf its))
+      ap₂ (λ (a b : List ℕ). a ++ b) (sym (map-map (change G W) (λ (p : ℕ). (it .channel, p)) (it .cells))) (changes-joined its)
+      ∙ sym (map-append (change G W) (map (λ (p : ℕ). (it .channel, p)) (it .cells)) (readCells its))
 
 joined-only : (its : List Item) (dss ess : List (List ℕ)) → Long its dss → Long its ess → joined dss ≡ joined ess → dss ≡ ess
 joined-only [] [] [] a b e = refl
@@ -59,20 +59,20 @@ joined-only [] (ds ∷ dss) ess a b e = absurd a
 joined-only (it ∷ its) [] ess a b e = absurd a
 joined-only (it ∷ its) (ds ∷ dss) [] a b e = absurd b
 joined-only (it ∷ its) (ds ∷ dss) (es ∷ ess) a b e =
-    let n = length (it .places) in
+    let n = length (it .cells) in
     ap₂ (λ (l : List ℕ) (ls : List (List ℕ)). l ∷ ls)
     (sym (take-at ds (joined dss) n (a .0)) ∙ ap (take n) e ∙ take-at es (joined ess) n (b .0))
     (joined-only its dss ess (a .1) (b .1) (sym (drop-at ds (joined dss) n (a .0)) ∙ ap (drop n) e ∙ drop-at es (joined ess) n (b .0)))
 
-long-joined : (its : List Item) (dss : List (List ℕ)) → Long its dss → length (joined dss) ≡ length (cellsOf its)
-unfolding cellsOf
+long-joined : (its : List Item) (dss : List (List ℕ)) → Long its dss → length (joined dss) ≡ length (readCells its)
+unfolding readCells
 long-joined [] [] l = refl
 long-joined [] (ds ∷ dss) l = absurd l
 long-joined (it ∷ its) [] l = absurd l
 long-joined (it ∷ its) (ds ∷ dss) l =
-    let ms = map {B = Cell} (λ (p : ℕ). (it .channel, p)) (it .places) in
-    let e : length ms ≡ length (it .places) = length-map (it .places) (λ (p : ℕ). (it .channel, p)) in
-    omega (arith, length-append ds (joined dss), length-append ms (cellsOf its), long-joined its dss (l .1), l .0)
+    let ms = map {B = GridCell} (λ (p : ℕ). (it .channel, p)) (it .cells) in
+    let e : length ms ≡ length (it .cells) = length-map (it .cells) (λ (p : ℕ). (it .channel, p)) in
+    omega (arith, length-append ds (joined dss), length-append ms (readCells its), long-joined its dss (l .1), l .0)
 
 -- the sequence is one of 32-bit symbols
 map-words : (f : ℕ → ℕ) → ((p : ℕ) → f p < 2 ^ 32) → (ps : List ℕ) → Words (map f ps)
@@ -85,36 +85,36 @@ upTo-words n [] w = tt
 upTo-words zero (d ∷ ds) w = tt
 upTo-words (suc n) (d ∷ ds) w = (w .0, upTo-words (less d n) ds (w .1))
 
-pub sequence-words : (its : List Item) (G W : Grids) → ((it : Item) → In it its → length (it .places) < 2 ^ 32) → Words (sent (map (changes G W) its))
+pub sequence-words : (its : List Item) (G W : Grids) → ((it : Item) → In it its → length (it .cells) < 2 ^ 32) → Words (sent (map (changes G W) its))
 unfolding sent
 sequence-words [] G W f = tt
 sequence-words (it ∷ its) G W f =
     let ds = changes G W it in
-    let w = map-words (λ (p : ℕ). symbol (cell W (it .channel) p) (cell G (it .channel) p)) (λ p. symbol-lt (cell W (it .channel) p) (cell G (it .channel) p)) (it .places) in
-    (omega (arith, nonZeros-le ds, length-map (it .places) (λ (p : ℕ). symbol (cell W (it .channel) p) (cell G (it .channel) p)), f it (here refl)), words-both (upTo (nonZeros ds) ds) (sent (map (changes G W) its)) (upTo-words (nonZeros ds) ds w) (sequence-words its G W (λ t i. f t (there i))))
+    let w = map-words (λ (p : ℕ). symbol (cell W (it .channel) p) (cell G (it .channel) p)) (λ p. symbol-lt (cell W (it .channel) p) (cell G (it .channel) p)) (it .cells) in
+    (omega (arith, nonZeros-le ds, length-map (it .cells) (λ (p : ℕ). symbol (cell W (it .channel) p) (cell G (it .channel) p)), f it (here refl)), words-both (upTo (nonZeros ds) ds) (sent (map (changes G W) its)) (upTo-words (nonZeros ds) ds w) (sequence-words its G W (λ t i. f t (there i))))
 
 none : (l : List ℕ) → length l ≡ 0 → l ≡ []
 none [] e = refl
 none (x ∷ l) e = absurd (omega arith)
 
-module _ (clusters : ℕ) (stretch : List ℕ) (its : List Item) (G W : Grids) (group : Group its G W) (log : List ℕ) (rows : Grids) where
+module _ (clusters : ℕ) (presetMap : List ℕ) (its : List Item) (G W : Grids) (group : Group its G W) (log : List ℕ) (rows : Grids) where
   abbrev dss : List (List ℕ)
   dss = map (changes G W) its
 
-  reached : adds 0 G (cellsOf its) (joined dss) ≡ W
+  reached : adds 0 G (readCells its) (joined dss) ≡ W
   reached =
-      let a = adds-shape 0 G (cellsOf its) (joined dss) in
-      same-shape (adds 0 G (cellsOf its) (joined dss)) W (record { count = a .count ∙ sym (group .shape .count); sizes = λ c. a .sizes c ∙ sym (group .shape .sizes c) }) (λ c p. go c p (group .kept c p))
+      let a = adds-shape 0 G (readCells its) (joined dss) in
+      same-shape (adds 0 G (readCells its) (joined dss)) W (record { count = a .count ∙ sym (group .shape .count); sizes = λ c. a .sizes c ∙ sym (group .shape .sizes c) }) (λ c p. go c p (group .kept c p))
     where
-      go : (c p : ℕ) → In (c, p) (cellsOf its) ⊎ ((In (c, p) (cellsOf its) → ⊥) × (cell W c p ≡ cell G c p)) → cell (adds 0 G (cellsOf its) (joined dss)) c p ≡ cell W c p
-      go c p (inl i) = rw (changes-joined G W its) (symbols-turn G W (cellsOf its) (group .distinct) (group .fit) (λ x j. group .wanted (x .0) (x .1)) (c, p) i)
-      go c p (inr n) = adds-off 0 G (cellsOf its) (joined dss) (c, p) (n .0) ∙ sym (n .1)
+      go : (c p : ℕ) → In (c, p) (readCells its) ⊎ ((In (c, p) (readCells its) → ⊥) × (cell W c p ≡ cell G c p)) → cell (adds 0 G (readCells its) (joined dss)) c p ≡ cell W c p
+      go c p (inl i) = rw (changes-joined G W its) (symbols-turn G W (readCells its) (group .distinct) (group .fit) (λ x j. group .wanted (x .0) (x .1)) (c, p) i)
+      go c p (inr n) = adds-off 0 G (readCells its) (joined dss) (c, p) (n .0) ∙ sym (n .1)
 
   -- a reading to the last symbol reads as many as there are
-  to-last : (s : List ℕ) (at : ℕ) (log′ : List ℕ) (F rows′ : Grids) (left : ℕ) → reading clusters stretch its s log G rows ≡ going [] at log′ F rows′ left → at ≡ length s
-  to-last s at log′ F rows′ left e = let q = run.reads clusters stretch its s rows 0 in go (length (q .clusters)) (sets log 0 (q .clusters)) (adds 0 G (cellsOf its) (joined (q .dss))) (q .dss) (q .end) (q .is 0 0 log G) (q .tells)
+  to-last : (s : List ℕ) (at : ℕ) (log′ : List ℕ) (F rows′ : Grids) (left : ℕ) → reading clusters presetMap its s log G rows ≡ going [] at log′ F rows′ left → at ≡ length s
+  to-last s at log′ F rows′ left e = let q = run.reads clusters presetMap its s rows 0 in go (length (q .clusters)) (sets log 0 (q .clusters)) (adds 0 G (readCells its) (joined (q .dss))) (q .dss) (q .end) (q .is 0 0 log G) (q .tells)
     where
-      go : (k : ℕ) (l : List ℕ) (H : Grids) (ess : List (List ℕ)) (e₁ : run.End) → reading clusters stretch its s log G rows ≡ run.readBy e₁ (0 + k) l H → run.Tells s 0 k ess e₁ → at ≡ length s
+      go : (k : ℕ) (l : List ℕ) (H : Grids) (ess : List (List ℕ)) (e₁ : run.End) → reading clusters presetMap its s log G rows ≡ run.readBy e₁ (0 + k) l H → run.Tells s 0 k ess e₁ → at ≡ length s
       go k l H ess (run.ends us rows₁ left₁) f t =
           let g : going [] at log′ F rows′ left ≡ going us (0 + k) l H rows₁ left₁ = sym e ∙ f in
           let a : at ≡ 0 + k = cc in let b : _≡_ {A = List ℕ} [] us = cc in
@@ -123,32 +123,32 @@ module _ (clusters : ℕ) (stretch : List ℕ) (its : List Item) (G W : Grids) (
           let g : going [] at log′ F rows′ left ≡ refused why (0 + k) l H = sym e ∙ f in
           let z : _≡_ {A = ℕ} 0 1 = cc in absurd (omega arith)
 
-  pub exists : Filled (reading clusters stretch its (sent dss) log G rows) (sent dss) W
+  pub exists : Filled (reading clusters presetMap its (sent dss) log G rows) (sent dss) W
   exists =
-      let r = run.read-sent clusters stretch its dss (changes-long G W its) (group .sized) 0 0 log G rows 0 in
+      let r = run.read-sent clusters presetMap its dss (changes-long G W its) (group .sized) 0 0 log G rows 0 in
       record {
-        accepted = ap (λ (x : Reading). outcome x .answer) (r .is) ∙ ap gives (to-last (sent dss) (r .at′) (r .log′) (adds 0 G (cellsOf its) (joined dss)) (r .rows′) 0 (r .is));
+        accepted = ap (λ (x : Reading). outcome x .answer) (r .is) ∙ ap gives (to-last (sent dss) (r .at′) (r .log′) (adds 0 G (readCells its) (joined dss)) (r .rows′) 0 (r .is));
         used = ap leftOf (r .is);
         grids = ap (λ (x : Reading). outcome x .grids) (r .is) ∙ reached;
       }
 
-  pub unique : (s : List ℕ) → Words s → Filled (reading clusters stretch its s log G rows) s W → s ≡ sent dss
-  unique s h f = let q = run.reads clusters stretch its s rows 0 in go (length (q .clusters)) (sets log 0 (q .clusters)) (q .dss) (q .end) (q .all) (q .is 0 0 log G) (q .tells)
+  pub unique : (s : List ℕ) → Words s → Filled (reading clusters presetMap its s log G rows) s W → s ≡ sent dss
+  unique s h f = let q = run.reads clusters presetMap its s rows 0 in go (length (q .clusters)) (sets log 0 (q .clusters)) (q .dss) (q .end) (q .all) (q .is 0 0 log G) (q .tells)
     where
-      go : (k : ℕ) (l : List ℕ) (ess : List (List ℕ)) (e : run.End) → Long its ess → reading clusters stretch its s log G rows ≡ run.readBy e (0 + k) l (adds 0 G (cellsOf its) (joined ess))
+      go : (k : ℕ) (l : List ℕ) (ess : List (List ℕ)) (e : run.End) → Long its ess → reading clusters presetMap its s log G rows ≡ run.readBy e (0 + k) l (adds 0 G (readCells its) (joined ess))
           → run.Tells s 0 k ess e → s ≡ sent dss
       go k l ess (run.ends us rows₁ left) long e t =
           let a : gives (0 + k) ≡ gives (length s) = sym (ap (λ (x : Reading). outcome x .answer) e) ∙ f .accepted in
           let b : 0 + k ≡ length s = cc in
-          let g : adds 0 G (cellsOf its) (joined ess) ≡ W = sym (ap (λ (x : Reading). outcome x .grids) e) ∙ f .grids in
+          let g : adds 0 G (readCells its) (joined ess) ≡ W = sym (ap (λ (x : Reading). outcome x .grids) e) ∙ f .grids in
           let d : ess ≡ dss =
           joined-only its ess dss long (changes-long G W its)
-          (only-symbols G (cellsOf its) (joined ess) (group .distinct) (group .fit) (t .words h) (long-joined its ess long)
-          ∙ ap (λ (X : Grids). map (change G X) (cellsOf its)) g ∙ sym (changes-joined G W its)) in
+          (only-symbols G (readCells its) (joined ess) (group .distinct) (group .fit) (t .words h) (long-joined its ess long)
+          ∙ ap (λ (X : Grids). map (change G X) (readCells its)) g ∙ sym (changes-joined G W its)) in
           t .used (sym (ap leftOf e) ∙ f .used) ∙ rw (none us (omega (arith, t .read)), d) (append-nil (sent dss))
       go k l ess (run.stops why) long e t =
           let a = sym (ap (λ (x : Reading). outcome x .answer) e) ∙ f .accepted in
           let z : _≡_ {A = ℕ} 0 1 = cc in absurd (omega arith)
 
-  pub one-to-one : (s : List ℕ) → Words s → Filled (reading clusters stretch its s log G rows) s W ↔ (s ≡ sent dss)
+  pub one-to-one : (s : List ℕ) → Words s → Filled (reading clusters presetMap its s log G rows) s W ↔ (s ≡ sent dss)
   one-to-one s h = (unique s h, λ (e : s ≡ sent dss). rw e exists)

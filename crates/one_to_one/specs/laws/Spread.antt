@@ -1,4 +1,4 @@
--- An order behind its first places: each cell that is not low-frequency once, and no other.
+-- A list behind its first places: each cell that is not low-frequency once, and no other.
 use mathlib.Core.Path.{_≡_, refl, ap, sym, _∙_}
 use mathlib.Core.Bool.{Bool, true, false, _&&_}
 use mathlib.Core.Logic.{inl, inr}
@@ -10,7 +10,7 @@ use native.Mathlib.Decide.{decLt}
 use lib.Arith.{digits-div, digits-mod}
 use lib.Dec.{ltb}
 use lib.ListN.{length, drop, length-drop}
-use Rattle.dct_select.specs.Transforms.{wide, high, orderOf, turns}
+use Rattle.dct_select.specs.Transforms.{wide, high, orderOf, turns, across, down}
 use Rattle.order_sizes.specs.BlockSizes.{widthOf, heightOf}
 use Rattle.order_natural.specs.Places.{Place, is, tally, count}
 use Rattle.order_natural.specs.laws.Bools.{tally-one}
@@ -20,8 +20,8 @@ use Rattle.order_natural.specs.laws.Counts.{is-hit}
 use Rattle.order_natural.specs.laws.Listing.{hit-of, listing-length, self, inside-of}
 use Rattle.order_natural.specs.laws.Order.{skip-by}
 use Rattle.order_natural.specs.laws.Beyond.{beyond-count, corner-none, other-once}
-use Rattle.coeff_walk.specs.Places.{across, down, cellOf, placesOf}
-use Rattle.coeff_group.specs.laws.Sizes.{order-lt, Sides, swapped, straight, sides-of}
+use Rattle.coeff_walk.specs.Places.{cellOf, cellsOf}
+use Rattle.dct_select.specs.laws.Sides.{order-lt, OrderSides, swapped, straight, sides-of}
 use Rattle.coeff_group.specs.laws.Cells.{Distinct, distinct-map, In}
 
 in-count : (q : Place) (l : List Place) → In q l → 0 < count (q .0) (q .1) l
@@ -46,10 +46,10 @@ count-distinct (p ∷ l) h = (
 -- the places qs of a varblock of w × h blocks: each cell of its rectangle but for the low-frequency ones, once
 pub record Spread (turn : Bool) (w h : ℕ) (qs : List Place) : Type 0 where
   pub size : length qs ≡ 63 * (w * h)
-  pub inside : (q : Place) → In q qs → (across turn q < 8 * w) × (down turn q < 8 * h)
-  pub upper : (q : Place) → In q qs → across turn q < w → down turn q < h → ⊥
+  pub inside : (q : Place) → In q qs → (across turn (q .0) (q .1) < 8 * w) × (down turn (q .0) (q .1) < 8 * h)
+  pub upper : (q : Place) → In q qs → across turn (q .0) (q .1) < w → down turn (q .0) (q .1) < h → ⊥
   pub distinct : Distinct qs
-  pub whole : (dx dy : ℕ) → dx < 8 * w → dy < 8 * h → (dx < w → dy < h → ⊥) → (q : Place) × In q qs × (across turn q ≡ dx) × (down turn q ≡ dy)
+  pub whole : (dx dy : ℕ) → dx < 8 * w → dy < 8 * h → (dx < w → dy < h → ⊥) → (q : Place) × In q qs × (across turn (q .0) (q .1) ≡ dx) × (down turn (q .0) (q .1) ≡ dy)
 
 module _ (bw bh : ℕ) (z : Size bw bh) (l : List Place) (o : Order bw bh l) where
   abbrev rest : List Place
@@ -99,7 +99,7 @@ turned w h qs s = record {
   whole = λ dx dy a b n. let r = s .whole dy dx b a (λ (y : dy < w). λ (x : dx < h). n x y) in (r .0, r .1, r .3, r .2);
 }
 
-spread-by : (turn : Bool) (w h bw bh : ℕ) (l : List Place) → Sides turn w h bw bh → bw * bh / 64 ≡ bw / 8 * (bh / 8)
+spread-by : (turn : Bool) (w h bw bh : ℕ) (l : List Place) → OrderSides turn w h bw bh → bw * bh / 64 ≡ bw / 8 * (bh / 8)
     → Spread false (bw / 8) (bh / 8) (drop (bw * bh / 64) l) → Spread turn w h (drop (w * h) l)
 spread-by turn w h bw bh l (swapped e a b) f s =
     let x : w ≡ bh / 8 = omega arith in
@@ -119,30 +119,30 @@ spread-of t h l o =
     spread-by (turns t) (wide t) (high t) (widthOf k) (heightOf k) l (sides-of t h) (skip-by (widthOf k) (heightOf k) z) (spread-straight (widthOf k) (heightOf k) z l o)
 
 -- Places as cells of a grid.
-module _ (t : Bool) (row X Y : ℕ) where
-  places-map : (qs : List Place) → placesOf t row X Y qs ≡ map (cellOf t row X Y) qs
-  unfolding placesOf
+module _ (t : Bool) (width X Y : ℕ) where
+  places-map : (qs : List Place) → cellsOf t width X Y qs ≡ map (cellOf t width X Y) qs
+  unfolding cellsOf
   places-map [] = refl
-  places-map (q ∷ qs) = ap (λ (l : List ℕ). cellOf t row X Y q ∷ l) (places-map qs)
+  places-map (q ∷ qs) = ap (λ (l : List ℕ). cellOf t width X Y q ∷ l) (places-map qs)
 
-  pub place-in : (qs : List Place) (q : Place) → In q qs → In (cellOf t row X Y q) (placesOf t row X Y qs)
-  place-in qs q i = rw (places-map qs) (Memᴰ·map (cellOf t row X Y) i)
+  pub place-in : (qs : List Place) (q : Place) → In q qs → In (cellOf t width X Y q) (cellsOf t width X Y qs)
+  place-in qs q i = rw (places-map qs) (Memᴰ·map (cellOf t width X Y) i)
 
-  pub in-place : (qs : List Place) (p : ℕ) → In p (placesOf t row X Y qs) → (q : Place) × In q qs × (cellOf t row X Y q ≡ p)
-  in-place qs p i = Memᴰ·of-map (cellOf t row X Y) qs (rw (places-map qs) at i)
+  pub in-place : (qs : List Place) (p : ℕ) → In p (cellsOf t width X Y qs) → (q : Place) × In q qs × (cellOf t width X Y q ≡ p)
+  in-place qs p i = Memᴰ·of-map (cellOf t width X Y) qs (rw (places-map qs) at i)
 
-  pub cell-row : (q : Place) → X + across t q < row → cellOf t row X Y q / row ≡ Y + down t q
-  cell-row q h = digits-div (Y + down t q) h
+  pub cell-row : (q : Place) → X + across t (q .0) (q .1) < width → cellOf t width X Y q / width ≡ Y + down t (q .0) (q .1)
+  cell-row q h = digits-div (Y + down t (q .0) (q .1)) h
 
-  pub cell-column : (q : Place) → X + across t q < row → cellOf t row X Y q % row ≡ X + across t q
-  cell-column q h = digits-mod (Y + down t q) h
+  pub cell-column : (q : Place) → X + across t (q .0) (q .1) < width → cellOf t width X Y q % width ≡ X + across t (q .0) (q .1)
+  cell-column q h = digits-mod (Y + down t (q .0) (q .1)) h
 
-  pub distinct-places : (qs : List Place) → ((q : Place) → In q qs → X + across t q < row) → Distinct qs → Distinct (placesOf t row X Y qs)
-  distinct-places qs h d = rw (places-map qs) (distinct-map (cellOf t row X Y) qs (λ q r i j e.
-      let a : X + across t q ≡ X + across t r = sym (cell-column q (h q i)) ∙ ap (λ (x : ℕ). x % row) e ∙ cell-column r (h r j) in
-      let b : Y + down t q ≡ Y + down t r = sym (cell-row q (h q i)) ∙ ap (λ (x : ℕ). x / row) e ∙ cell-row r (h r j) in
+  pub distinct-places : (qs : List Place) → ((q : Place) → In q qs → X + across t (q .0) (q .1) < width) → Distinct qs → Distinct (cellsOf t width X Y qs)
+  distinct-places qs h d = rw (places-map qs) (distinct-map (cellOf t width X Y) qs (λ q r i j e.
+      let a : X + across t (q .0) (q .1) ≡ X + across t (r .0) (r .1) = sym (cell-column q (h q i)) ∙ ap (λ (x : ℕ). x % width) e ∙ cell-column r (h r j) in
+      let b : Y + down t (q .0) (q .1) ≡ Y + down t (r .0) (r .1) = sym (cell-row q (h q i)) ∙ ap (λ (x : ℕ). x / width) e ∙ cell-row r (h r j) in
       both t q r (omega arith) (omega arith)) d)
     where
-      both : (t : Bool) (q r : Place) → across t q ≡ across t r → down t q ≡ down t r → q ≡ r
+      both : (t : Bool) (q r : Place) → across t (q .0) (q .1) ≡ across t (r .0) (r .1) → down t (q .0) (q .1) ≡ down t (r .0) (r .1) → q ≡ r
       both true q r a b = λ i. (b i, a i)
       both false q r a b = λ i. (a i, b i)

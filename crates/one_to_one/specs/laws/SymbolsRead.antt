@@ -22,7 +22,7 @@ use Rattle.coeff_walk.specs.laws.Walks.{symbolsEnd, count, tooManyZeros}
 use Rattle.coeff_group.specs.laws.Cells.{adds}
 use Rattle.coeff_group.specs.laws.Reads.{End, ends, stops, Tells, joined}
 use Rattle.one_to_one.specs.laws.Ways.{Way, before, work, way, did, answerBy, outcome-by}
-use Rattle.coeff_group.specs.Sequence.{cellsOf}
+use Rattle.coeff_group.specs.Sequence.{readCells}
 
 -- What holds of every call, whatever the log held before.
 pub record Tied (L : Lent) : Type 0 where
@@ -31,7 +31,7 @@ pub record Tied (L : Lent) : Type 0 where
   pub most : length clusters ≤ 192 * blocks (L .pass)
   pub there : length clusters ≤ length (L .symbols)
   pub room : length clusters ≤ length (L .log)
-  pub none : (n : ℕ) → call L .answer ≡ refuses (refusals.at 15 n 0) → n ≡ length (L .symbols)
+  pub none : (n : ℕ) → call L .answer ≡ refuses (refusals.saidAt 15 n 0) → n ≡ length (L .symbols)
   pub logs : (log : List ℕ) → length log ≡ length (L .log)
       → call (withLog L log) ≡ record { answer = call L .answer; log = clusters ++ drop (length clusters) log; grids = call L .grids }
 
@@ -48,7 +48,7 @@ by-refusal L s t n e =
       most = omega arith;
       there = omega arith;
       room = omega arith;
-      none = λ m f. absurd (n (number-of s (refusals.at 15 m 0) (sym (ap (λ (o : Outcome). o .answer) c) ∙ f)));
+      none = λ m f. absurd (n (number-of s (refusals.saidAt 15 m 0) (sym (ap (λ (o : Outcome). o .answer) c) ∙ f)));
       logs = λ log l. e (L .symbols) log l ∙ ap (λ (o : Outcome). record { answer = o .answer; log = log; grids = o .grids }) (sym c);
     }
 
@@ -65,20 +65,20 @@ there-by (stops why) us k dss (symbolsEnd w e) = omega arith
 there-by (stops why) us k dss (count w h) = h
 there-by (stops why) us k dss (tooManyZeros w h) = h
 
-last-by : (e : End) (us : List ℕ) (k : ℕ) (dss : List (List ℕ)) → Tells us 0 k dss e → (n : ℕ) → answerBy e k ≡ refuses (refusals.at 15 n 0) → n ≡ length us
+last-by : (e : End) (us : List ℕ) (k : ℕ) (dss : List (List ℕ)) → Tells us 0 k dss e → (n : ℕ) → answerBy e k ≡ refuses (refusals.saidAt 15 n 0) → n ≡ length us
 last-by (ends us′ rows left) us k dss t n e = absurd (let z : _≡_ {A = ℕ} 0 1 = cc in omega arith)
 last-by (stops why) us k dss (symbolsEnd w f) n e =
-    let a : said (why k) ≡ refusals.at 15 n 0 = cc in
-    let b : said (SymbolsEnd k) ≡ refusals.at 15 n 0 = rw w at a in
+    let a : said (why k) ≡ refusals.saidAt 15 n 0 = cc in
+    let b : said (SymbolsEnd k) ≡ refusals.saidAt 15 n 0 = rw w at a in
     let c : k ≡ n = ap (λ (s : Said). s .x) b in
     omega arith
 last-by (stops why) us k dss (count w h) n e =
-    let a : refuses (said (Count k)) ≡ refuses (refusals.at 15 n 0) = rw w at e in
-    let z : _≡_ {A = ℕ} 16 15 = number-of (said (Count k)) (refusals.at 15 n 0) a in
+    let a : refuses (said (Count k)) ≡ refuses (refusals.saidAt 15 n 0) = rw w at e in
+    let z : _≡_ {A = ℕ} 16 15 = number-of (said (Count k)) (refusals.saidAt 15 n 0) a in
     absurd (omega arith)
 last-by (stops why) us k dss (tooManyZeros w h) n e =
-    let a : refuses (said (TooManyZeros k)) ≡ refuses (refusals.at 15 n 0) = rw w at e in
-    let z : _≡_ {A = ℕ} 17 15 = number-of (said (TooManyZeros k)) (refusals.at 15 n 0) a in
+    let a : refuses (said (TooManyZeros k)) ≡ refuses (refusals.saidAt 15 n 0) = rw w at e in
+    let z : _≡_ {A = ℕ} 17 15 = number-of (said (TooManyZeros k)) (refusals.saidAt 15 n 0) a in
     absurd (omega arith)
 
 by-reading : (L : Lent) → Passed L → (preset : ℕ) → ((symbols log : List ℕ) → length log ≡ length (L .log) → call (relent L symbols log) ≡ outcome (reading (relent L symbols log) preset)) → Tied L
@@ -87,7 +87,7 @@ by-reading L passed preset e =
     let l = lengths-fit L (passed .lengths) in
     let d = did L preset in
     let ks = d .clusters in
-    let G = adds (L .shift) (L .grids) (cellsOf (itemsOf P (varblocks P))) (joined (d .dss)) in
+    let G = adds (L .shift) (L .grids) (readCells (itemsOf P (varblocks P))) (joined (d .dss)) in
     let most : length ks ≤ 192 * blocks P =
     omega (arith, d .few, most-symbols P (l .store) (layout-iff (P .bw) (P .bh) (P .kinds) (P .hfMul) (l .kinds) (l .hfMul) .0 (passed .layout))) in
     let room : length ks ≤ length (L .log) = omega (arith, l .room) in
@@ -125,7 +125,7 @@ module _ (L : Lent) where
   never-more = let t = tied in let e = t .each in let m = t .there in omega arith
 
   -- "symbols end" is said only with no symbol unread
-  pub symbols-ended : (k : ℕ) → call L .answer ≡ refuses (refusals.at 15 k 0) → k ≡ length (L .symbols)
+  pub symbols-ended : (k : ℕ) → call L .answer ≡ refuses (refusals.saidAt 15 k 0) → k ≡ length (L .symbols)
   symbols-ended k e = tied .none k e
 
   -- the log is as long as before

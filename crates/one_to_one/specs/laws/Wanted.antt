@@ -10,7 +10,6 @@ use lib.ListN.{length, getD, List·getD-eq-default}
 use borrow.Author.Tests.{lt-ltb, le-leb, ltb-true, leb-true}
 use Rattle.laws.specs.laws.Cases.{and-true}
 use Rattle.dct_select.specs.Transforms.{wide, high}
-use Rattle.layout.specs.Grid.{at}
 use Rattle.layout.specs.laws.Grid.{grid-length, grid-at, Cell, cell-at}
 use Rattle.layout.specs.Varblocks.{Varblock}
 use Rattle.layout.specs.Listed.{Among, first, later}

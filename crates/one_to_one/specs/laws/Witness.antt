@@ -15,13 +15,14 @@ use Rattle.order_store.specs.Store.{PLACES}
 use Rattle.context_call.specs.Call.{contextsOf}
 use Rattle.layout.specs.laws.Theorems.{layout-check}
 use Rattle.refusal.specs.Answer.{gives}
-use Rattle.coeff_group.specs.Group.{Grids, Reading, going, leftOf, read, zeroRows}
+use Rattle.coeff_group.specs.Group.{Grids, Reading, going, leftOf, readItems, zeroRows}
 use Rattle.coeff_group.specs.laws.GroupLaws.{group-items}
 use Rattle.coeff_group.specs.Pass.{varblocks, itemsOf}
 use Rattle.coeff_call.specs.Call.{Lent, Outcome, lengthsFit, readPreset, presetMap, reading, outcome as outcomeOf, leftoverAt, leftover, call}
 use Rattle.coeff_call.specs.laws.CallLaws.{checks-pass, call-reads}
 use Rattle.order_call.specs.laws.Wrote.{wrote-fits}
-use Rattle.lent_cut.specs.Calls.{group, outcome, cutOf}
+use Rattle.lent_check.specs.Group.{groupOf}
+use Rattle.lent_cut.specs.Calls.{outcome, cutOf}
 use Rattle.lent_cut.specs.laws.CutSteps.{cut-done}
 use Rattle.layout_accepted.specs.Outcome.{bwOf, bhOf}
 use Rattle.layout_accepted.specs.laws.Marked.{layout-computes}
@@ -48,7 +49,7 @@ unfolding contextsOf
 lengths-fit = rw (eq-eqb (length store) (2 * PLACES) store-long)
 
 -- the cut call writes the one group there is
-cut-accepted : cutOf (bwOf columns) (bhOf columns) (2 ∷ []) (1 ∷ []) 0 (0 ∷ []) (0 ∷ []) ≡ outcome (gives (group 1 1)) (2 ∷ []) (1 ∷ [])
+cut-accepted : cutOf (bwOf columns) (bhOf columns) (2 ∷ []) (1 ∷ []) 0 (0 ∷ []) (0 ∷ []) ≡ outcome (gives (groupOf 1 1)) (2 ∷ []) (1 ∷ [])
 unfolding cut-computes
 cut-accepted = cut-done (bwOf columns) (bhOf columns) (2 ∷ []) (1 ∷ []) 0 (0 ∷ []) (0 ∷ []) refl
 
@@ -67,7 +68,7 @@ given = record {
   layout = ap (λ o. o .answer) layout-accepted;
   g = 0;
   outKinds = 0 ∷ [];
-  outMuls = 0 ∷ [];
+  outHfMul = 0 ∷ [];
   cutting = ap (λ o. cutOf (bwOf columns) (bhOf columns) (o .kinds) (o .hfMul) 0 (0 ∷ []) (0 ∷ [])) layout-accepted ∙ cut-accepted;
   bytes = 1 ∷ [];
   areBytes = below 256 (omega arith) (1 ∷ []) tt;
@@ -113,9 +114,9 @@ filled = let o = one-sequence one fixed wanted filling in o .1 (2 ∷ 3 ∷ 0 �
 -- A count left over is accepted, `leftover` tells it, and by demand 3 it fills nothing.
 
 -- reading the group's items, whatever the stretch
-module _ (stretch : List ℕ) where
+module _ (presetMap : List ℕ) where
   abbrev end : Reading
-  end = read 0 15 stretch (itemsOf (one .pass) (varblocks (one .pass))) (going leaving 0 (one .log) (one .grids) zeroRows 0)
+  end = readItems 0 15 presetMap (itemsOf (one .pass) (varblocks (one .pass))) (going leaving 0 (one .log) (one .grids) zeroRows 0)
 
   end-is : (leftOf end ≡ 1) × (outcomeOf end .answer ≡ gives 66)
   unfolding reading-computes

@@ -35,7 +35,7 @@ returns c =
     let t = c .before .before .before .before .before .block-size in
     let u = c .before .before .before .before .is-used in
     let r = c .before .before .read-list in
-    let e = a .start + 2 * (t .result .wide * t .result .high) in
+    let e = a .start + 2 * (t .result .width * t .result .height) in
     after-list (a .used) (a .symbols .now) (a .store .now) (a .i) (a .at) (c .before .before .before .before .before .before .before .before .pre .0) (c .before .before .before .before .before .before .before .before .pre .2) (t .result) (t .ensures) (a .start) (c .before .before .before .before .before .before .before .before .pre .1) (u .result) (r .result) (r .last .0) (putMid (a .start) (e - a .start) (a .store .now) (r .last .0)) (u .ensures) (r .ensures) refl
 
 pub read-at-spec : {M : Type 1} → statement M

@@ -6,7 +6,7 @@ use native.Mathlib.Omega.{arith}
 use lib.ListN.{length}
 use borrow.Author.Tests.{eq-eqb, ne-eqb}
 use Rattle.refusal.specs.declared.Refusal.the-variants as refusal
-use Rattle.bits.specs.declared.Place.{Place}
+use Rattle.bits.specs.declared.BitPlace.{BitPlace}
 use Rattle.bits.specs.declared.Got.{Got}
 use Rattle.bits.specs.declared.Got.the-variants as got
 use Rattle.bits.specs.Bits.{Read}
@@ -35,7 +35,7 @@ module _ (bytes symbols store : List ℕ) where
           let t : taken ≡ w .at = w .taken ∙ omega arith in
           ap (λ (k : ℕ). outcome (answer.Refused (refusal.BitsEnd k)) store) t ∙ sym (read-on ∙ ap (λ (r : Read ℕ). read r symbols store) (w .is))
 
-      pub lists-read : (used : ℕ) (q : Place) (o : Outcome) → g ≡ got.Value used q → o ≡ outcomeOf (orders used symbols) → o ≡ parsed bytes symbols store
+      pub lists-read : (used : ℕ) (q : BitPlace) (o : Outcome) → g ≡ got.Value used q → o ≡ outcomeOf (orders used symbols) → o ≡ parsed bytes symbols store
       lists-read used q o e f =
           let w = was-value 0 (usedOrders bytes) used q (sym eg ∙ e) in
           f ∙ sym (read-on ∙ ap (λ (r : Read ℕ). read r symbols store) (w .is))

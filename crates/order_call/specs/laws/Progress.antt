@@ -9,7 +9,7 @@ use native.Mathlib.Omega.{arith}
 use lib.ListN.{length, getD, take, drop, replicate, length-append, length-drop, drop-of-length-le}
 use lib.Seq.{drop-cons, drop-drop, take-at, drop-at, take-all, length-take-le}
 use Rattle.refusal.specs.declared.Refusal.{Refusal}
-use Rattle.order_sizes.specs.declared.Sides.{Sides}
+use Rattle.order_sizes.specs.declared.OrderSize.{OrderSize}
 use Rattle.order_sizes.specs.BlockSizes.{BLOCK-SIZES, widthOf, heightOf}
 use Rattle.order_sizes.specs.laws.BlockSizes.{blockSize}
 use Rattle.order_natural.specs.Places.{Place, flat}
@@ -168,18 +168,18 @@ module _ (used : ℕ) (symbols store : List ℕ) (i e : ℕ) where
   after-refused (answer.Refused why) zeros n a r z m = let m' : n ≡ 2 * PLACES = m ∙ sym places-by in rw (a, z, m')
 
 -- a list in the code's numbers
-module _ (used : ℕ) (symbols store : List ℕ) (i at : ℕ) (p : Progress used symbols store i at) (h : i < 39) (s : Sides) (e : s ≡ blockSize (i / 3)) (start : ℕ) (b : start ≡ from i) where
+module _ (used : ℕ) (symbols store : List ℕ) (i at : ℕ) (p : Progress used symbols store i at) (h : i < 39) (s : OrderSize) (e : s ≡ blockSize (i / 3)) (start : ℕ) (b : start ≡ from i) where
   pub record ListAt : Type 0 where
-    pub next : start + 2 * (s .wide * s .high) ≡ from (i + 1)
-    pub room : start + 2 * (s .wide * s .high) ≤ 787968
+    pub next : start + 2 * (s .width * s .height) ≡ from (i + 1)
+    pub room : start + 2 * (s .width * s .height) ≤ 787968
     pub sides : Sided (i / 3) s
-    pub part : take (start + 2 * (s .wide * s .high) - start) (drop start store) ≡ flat (natural (s .wide) (s .high))
+    pub part : take (start + 2 * (s .width * s .height) - start) (drop start store) ≡ flat (natural (s .width) (s .height))
 
   pub list-at : ListAt
   list-at =
       let w = widthOf (i / 3) in
       let v = heightOf (i / 3) in
-      let n : start + 2 * (s .wide * s .high) ≡ from (i + 1) = rw (e, b) (sym (from-step i h)) in
+      let n : start + 2 * (s .width * s .height) ≡ from (i + 1) = rw (e, b) (sym (from-step i h)) in
       let z : start + 2 * (w * v) - start ≡ 2 * (w * v) = omega arith in
       let q : take (2 * (w * v)) (drop (from i) store) ≡ flat (natural w v) =
       ap (take (2 * (w * v))) (p .ahead ∙ ap stored (natural-at i h)) ∙ take-at (flat (natural w v)) (stored (drop (i + 1) (naturals BLOCK-SIZES))) (2 * (w * v)) (natural-numbers w v (size-of (i / 3) (omega arith))) in
@@ -195,7 +195,7 @@ module _ (used : ℕ) (symbols store : List ℕ) (i at : ℕ) (p : Progress used
 
   -- list i as the code reads it
   abbrev Reads : OrdersAnswer → List ℕ → Type 0
-  Reads t part = Listed (entryList (isUsed used (i / 3)) (s .wide) (s .high) (drop at symbols) at) t part
+  Reads t part = Listed (entryList (isUsed used (i / 3)) (s .width) (s .height) (drop at symbols) at) t part
 
   progress-stop : (why : Refusal) (part : List ℕ) → Reads (answer.Refused why) part → orders used symbols ≡ Refused why
   unfolding widthOf heightOf
@@ -205,7 +205,7 @@ module _ (used : ℕ) (symbols store : List ℕ) (i at : ℕ) (p : Progress used
       (refused-of (listOf used symbols i at) why part o')
 
   progress-turn : (n : ℕ) (part next : List ℕ) → Reads (answer.Accepted n) part
-      → next ≡ take start store ++ (part ++ drop (start + 2 * (s .wide * s .high) - start) (drop start store)) → Progress used symbols next (i + 1) n
+      → next ≡ take start store ++ (part ++ drop (start + 2 * (s .width * s .height) - start) (drop start store)) → Progress used symbols next (i + 1) n
   unfolding widthOf heightOf
   progress-turn n part next o w =
       let k = i / 3 in
@@ -243,8 +243,8 @@ module _ (used : ℕ) (symbols store : List ℕ) (i at : ℕ) (p : Progress used
       }
 
   -- list i is read, or refused
-  pub after-list : (u : Bool) (t : OrdersAnswer) (part next : List ℕ) → u ≡ isUsed used (i / 3) → Listed (entryList u (s .wide) (s .high) (drop at symbols) at) t part
-      → next ≡ take start store ++ (part ++ drop (start + 2 * (s .wide * s .high) - start) (drop start store)) → AfterList used symbols next i (start + 2 * (s .wide * s .high)) t
+  pub after-list : (u : Bool) (t : OrdersAnswer) (part next : List ℕ) → u ≡ isUsed used (i / 3) → Listed (entryList u (s .width) (s .height) (drop at symbols) at) t part
+      → next ≡ take start store ++ (part ++ drop (start + 2 * (s .width * s .height) - start) (drop start store)) → AfterList used symbols next i (start + 2 * (s .width * s .height)) t
   after-list u (answer.Accepted n) part next eu o w = (progress-turn n part next (rw eu at o) w, list-at .next)
   after-list u (answer.Refused why) part next eu o w = progress-stop why part (rw eu at o)
 

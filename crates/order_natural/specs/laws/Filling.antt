@@ -5,7 +5,7 @@ use mathlib.Core.List.{List}
 use Prim.Native.Nat.{ℕ, _*_, _<_, _≤_}
 use lib.ListN.{length}
 use borrow.Author.Tests.{lt-ltb, le-ltb, eq-eqb, ne-eqb}
-use Rattle.order_sizes.specs.declared.Sides.{Sides}
+use Rattle.order_sizes.specs.declared.OrderSize.{OrderSize}
 use Rattle.order_sizes.specs.BlockSizes.{widthOf, heightOf}
 use Rattle.order_sizes.specs.laws.BlockSizes.{blockSize}
 use Rattle.order_natural.specs.Places.{flat}
@@ -22,30 +22,30 @@ unfoldable pub filled : List ℕ → ℕ → List ℕ
 filled list order = cond (roomFor list order) (flat (natural (widthOf order) (heightOf order))) list
 
 -- what the code knows of an order's sides
-pub record Sided (order : ℕ) (s : Sides) : Type 0 where
-  pub wide : s .wide ≡ widthOf order
-  pub high : s .high ≡ heightOf order
-  pub size : Size (s .wide) (s .high)
-  pub narrow : s .wide ≤ 256
-  pub small : s .wide * s .high ≤ 65536
+pub record Sided (order : ℕ) (s : OrderSize) : Type 0 where
+  pub width : s .width ≡ widthOf order
+  pub height : s .height ≡ heightOf order
+  pub size : Size (s .width) (s .height)
+  pub narrow : s .width ≤ 256
+  pub small : s .width * s .height ≤ 65536
 
-pub sided : (order : ℕ) (s : Sides) → s ≡ blockSize order → order < 13 → Sided order s
+pub sided : (order : ℕ) (s : OrderSize) → s ≡ blockSize order → order < 13 → Sided order s
 sided order s e h =
-    record { wide = rw e; high = rw e; size = rw e (size-of order h); narrow = rw e (width-most order h); small = rw e (area-most order h) }
+    record { width = rw e; height = rw e; size = rw e (size-of order h); narrow = rw e (width-most order h); small = rw e (area-most order h) }
 
 module _ (list : List ℕ) (order : ℕ) where
   pub no-order : 13 ≤ order → (false ≡ roomFor list order) × (list ≡ filled list order)
   unfolding roomFor filled
   no-order h = (rw (le-ltb order 13 h), rw (le-ltb order 13 h))
 
-  module _ (s : Sides) (e : s ≡ blockSize order) (h : order < 13) where
-    pub no-room : (length list ≡ 2 * (s .wide * s .high) → ⊥) → (false ≡ roomFor list order) × (list ≡ filled list order)
+  module _ (s : OrderSize) (e : s ≡ blockSize order) (h : order < 13) where
+    pub no-room : (length list ≡ 2 * (s .width * s .height) → ⊥) → (false ≡ roomFor list order) × (list ≡ filled list order)
     unfolding roomFor filled
     no-room n =
         let n' : length list ≡ 2 * (widthOf order * heightOf order) → ⊥ = rw e at n in
         (rw (lt-ltb order 13 h, ne-eqb (length list) (2 * (widthOf order * heightOf order)) n'), rw (lt-ltb order 13 h, ne-eqb (length list) (2 * (widthOf order * heightOf order)) n'))
 
-    pub room : (m : List ℕ) → length list ≡ 2 * (s .wide * s .high) → m ≡ flat (natural (s .wide) (s .high)) → (true ≡ roomFor list order) × (m ≡ filled list order)
+    pub room : (m : List ℕ) → length list ≡ 2 * (s .width * s .height) → m ≡ flat (natural (s .width) (s .height)) → (true ≡ roomFor list order) × (m ≡ filled list order)
     unfolding roomFor filled
     room m n f =
         let n' : length list ≡ 2 * (widthOf order * heightOf order) = rw e at n in

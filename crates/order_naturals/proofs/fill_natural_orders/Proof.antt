@@ -31,7 +31,7 @@ loop-holds : tie.Need-loop-holds Inv-loop μ-loop
 loop-holds c = (omega arith, c .if1 .left, c .if1 .left, sym from-start, rw order-start)
 
 -- the three lists of an order end inside the store
-room : (c : tie.After-block-size Inv-loop μ-loop) → let s = c .block-size .result in (c .before .before .loop .start + 3 * (2 * (s .wide * s .high)) ≤ 787968) × (length (c .before .before .loop .store) ≡ 787968)
+room : (c : tie.After-block-size Inv-loop μ-loop) → let s = c .block-size .result in (c .before .before .loop .start + 3 * (2 * (s .width * s .height)) ≤ 787968) × (length (c .before .before .loop .store) ≡ 787968)
 room c = let l = c .before .before .loop in (order-at (l .k) (omega arith) (c .block-size .result) (c .block-size .ensures) (l .start) (l .inv .3) .room, l .inv .1)
 
 fill-order-requires : tie.Need-fill-order-requires Inv-loop μ-loop
@@ -39,7 +39,7 @@ fill-order-requires c κs =
     let l = c .before .before .before .loop in
     let t = c .before .block-size in
     let o = order-at (l .k) (omega arith) (t .result) (t .ensures) (l .start) (l .inv .3) in
-    (omega arith, o .size, part-length (l .store) (l .start) (3 * (2 * (t .result .wide * t .result .high))) (omega (arith, o .room, l .inv .1)))
+    (omega arith, o .size, part-length (l .store) (l .start) (3 * (2 * (t .result .width * t .result .height))) (omega (arith, o .room, l .inv .1)))
 
 loop-again : tie.Need-loop-again Inv-loop μ-loop
 loop-again c =
@@ -47,7 +47,7 @@ loop-again c =
     let t = c .before .before .before .before .block-size in
     let o = order-at (l .k) (omega arith) (t .result) (t .ensures) (l .start) (l .inv .3) in
     let f = c .before .before .fill-order in
-    let e = l .start + 3 * (2 * (t .result .wide * t .result .high)) in
+    let e = l .start + 3 * (2 * (t .result .width * t .result .height)) in
     (omega arith, search needs, l .inv .2, o .next, order-laid (l .k) (omega arith) (t .result) (t .ensures) (l .start) (l .inv .3) (l .store) (putMid (l .start) (e - l .start) (l .store) (f .last .0)) (f .last .0) (l .inv .1) (f .ensures) refl ∙ l .inv .4)
 
 returns-2 : tie.Need-returns-2 Inv-loop μ-loop

@@ -11,7 +11,7 @@ use lib.ListN.{length, getD, take, drop, set, length-append, length-drop, drop-o
 use lib.Seq.{drop-cons, paste, take-at, drop-at, drop-drop, sets, sets-eq, length-take-le, getD-take, paste-suc, paste-zero}
 use borrow.Author.Tests.{eq-eqb, ne-eqb}
 use Rattle.laws.specs.Tables.{every}
-use Rattle.order_sizes.specs.declared.Sides.{Sides}
+use Rattle.order_sizes.specs.declared.OrderSize.{OrderSize}
 use Rattle.order_sizes.specs.BlockSizes.{BLOCK-SIZES, widthOf, heightOf}
 use Rattle.order_sizes.specs.laws.BlockSizes.{blockSize}
 use Rattle.order_natural.specs.Places.{Place, flat}
@@ -100,15 +100,15 @@ order-end : (k : ℕ) → 13 ≤ k → fromOrder k ≡ []
 unfolding fromOrder
 order-end k h = let n : length BLOCK-SIZES ≤ k = omega (arith, sizes-13) in rw (drop-of-length-le BLOCK-SIZES n)
 
-module _ (k : ℕ) (h : k < 13) (s : Sides) (e : s ≡ blockSize k) (start : ℕ) (b : start ≡ from (3 * k)) where
+module _ (k : ℕ) (h : k < 13) (s : OrderSize) (e : s ≡ blockSize k) (start : ℕ) (b : start ≡ from (3 * k)) where
   pub record OrderAt : Type 0 where
-    pub next : start + 3 * (2 * (s .wide * s .high)) ≡ from (3 * (k + 1))
-    pub room : start + 3 * (2 * (s .wide * s .high)) ≤ 787968
-    pub size : 2 * (s .wide * s .high) ≡ 2 * (widthOf k * heightOf k)
+    pub next : start + 3 * (2 * (s .width * s .height)) ≡ from (3 * (k + 1))
+    pub room : start + 3 * (2 * (s .width * s .height)) ≤ 787968
+    pub size : 2 * (s .width * s .height) ≡ 2 * (widthOf k * heightOf k)
 
   pub order-at : OrderAt
   order-at =
-      let a : s .wide * s .high ≡ widthOf k * heightOf k = rw e in
+      let a : s .width * s .height ≡ widthOf k * heightOf k = rw e in
       let d : (3 * k + 2) / 3 ≡ k = omega arith in
       let f = rw d at (from-step (3 * k + 2) (omega arith)) in
       let c = from-channel k 2 h (omega arith) in
@@ -118,10 +118,10 @@ module _ (k : ℕ) (h : k < 13) (s : Sides) (e : s ≡ blockSize k) (start : ℕ
 
   -- the three lists lie in the store, the rest is still to come
   pub order-laid : (st st' : List ℕ) (part : List ℕ) → length st ≡ 787968 → part ≡ threeOf k
-      → st' ≡ take start st ++ (part ++ drop (start + 3 * (2 * (s .wide * s .high)) - start) (drop start st))
-      → sets st' (start + 3 * (2 * (s .wide * s .high))) (fromOrder (k + 1)) ≡ sets st start (fromOrder k)
+      → st' ≡ take start st ++ (part ++ drop (start + 3 * (2 * (s .width * s .height)) - start) (drop start st))
+      → sets st' (start + 3 * (2 * (s .width * s .height))) (fromOrder (k + 1)) ≡ sets st start (fromOrder k)
   order-laid st st' part n p w =
-      let m = 3 * (2 * (s .wide * s .high)) in
+      let m = 3 * (2 * (s .width * s .height)) in
       let o = order-at in
       let lp : length part ≡ m = ap length p ∙ three-long k h ∙ omega (arith, o .size) in
       let z : start + m - start ≡ m = omega arith in

@@ -22,7 +22,7 @@ loop-holds : tie.Need-loop-holds Inv-loop μ-loop
 loop-holds c = (omega arith, sym from-start, fit-start (c .before .before .args .store .now) (c .if1 .left))
 
 -- a list ends inside the store
-room : (c : tie.After-block-size Inv-loop μ-loop) → let s = c .block-size .result in c .before .before .loop .start + 2 * (s .wide * s .high) ≤ 787968
+room : (c : tie.After-block-size Inv-loop μ-loop) → let s = c .block-size .result in c .before .before .loop .start + 2 * (s .width * s .height) ≤ 787968
 room c =
     let l = c .before .before .loop in
     list-at (c .before .before .before .before .before .args .store .now) (l .i) (omega arith) (c .block-size .result) (c .block-size .ensures) (l .start) (l .inv .1) .room
@@ -32,7 +32,7 @@ all-inside-requires c κs =
     let a = c .before .before .before .before .before .before .args in
     let l = c .before .before .before .loop in
     let t = c .before .block-size in
-    let s = list-at (a .store .now) (l .i) (omega arith) (t .result) (t .ensures) (l .start) (l .inv .1) in (s .wide, s .high)
+    let s = list-at (a .store .now) (l .i) (omega arith) (t .result) (t .ensures) (l .start) (l .inv .1) in (s .width, s .height)
 
 returns-2 : tie.Need-returns-2 Inv-loop μ-loop
 returns-2 c =

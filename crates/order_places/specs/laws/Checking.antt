@@ -8,7 +8,7 @@ use native.Mathlib.Omega.{arith}
 use lib.ListN.{length, getD, take, drop, drop-of-length-le}
 use lib.Seq.{drop-cons, drop-drop}
 use borrow.Author.Tests.{eq-eqb, ne-eqb}
-use Rattle.order_sizes.specs.declared.Sides.{Sides}
+use Rattle.order_sizes.specs.declared.OrderSize.{OrderSize}
 use Rattle.order_sizes.specs.BlockSizes.{BLOCK-SIZES, widthOf, heightOf}
 use Rattle.order_sizes.specs.laws.BlockSizes.{blockSize}
 use Rattle.order_store.specs.Store.{PLACES, thrice, insideAll, listsFit, placesFit, from}
@@ -41,26 +41,26 @@ fit-next store i h =
     let q : drop (from (i + 1)) store ≡ drop m (drop (from i) store) = rw (from-step i h) (sym (drop-drop m (from i) store)) in
     rw (p, q, add-one i)
 
-module _ (store : List ℕ) (i : ℕ) (h : i < 39) (s : Sides) (e : s ≡ blockSize (i / 3)) (start : ℕ) (b : start ≡ from i) where
+module _ (store : List ℕ) (i : ℕ) (h : i < 39) (s : OrderSize) (e : s ≡ blockSize (i / 3)) (start : ℕ) (b : start ≡ from i) where
   -- what the code knows of list i
   pub record ListAt : Type 0 where
-    pub next : start + 2 * (s .wide * s .high) ≡ from (i + 1)
-    pub room : start + 2 * (s .wide * s .high) ≤ 787968
-    pub wide : Power (s .wide)
-    pub high : Power (s .high)
+    pub next : start + 2 * (s .width * s .height) ≡ from (i + 1)
+    pub room : start + 2 * (s .width * s .height) ≤ 787968
+    pub width : Power (s .width)
+    pub height : Power (s .height)
 
   pub list-at : ListAt
   list-at =
-      let n : start + 2 * (s .wide * s .high) ≡ from (i + 1) = rw (e, b) (sym (from-step i h)) in
-      record { next = n; room = omega (arith, from-most (i + 1) (omega arith)); wide = rw e (width-power (i / 3) (omega arith)); high = rw e (height-power (i / 3) (omega arith)) }
+      let n : start + 2 * (s .width * s .height) ≡ from (i + 1) = rw (e, b) (sym (from-step i h)) in
+      record { next = n; room = omega (arith, from-most (i + 1) (omega arith)); width = rw e (width-power (i / 3) (omega arith)); height = rw e (height-power (i / 3) (omega arith)) }
 
   abbrev pub part : List ℕ
-  part = take (start + 2 * (s .wide * s .high) - start) (drop start store)
+  part = take (start + 2 * (s .width * s .height) - start) (drop start store)
 
-  pub fit-turn : fitFrom store i ≡ (insideAll (s .wide) (s .high) part && fitFrom store (i + 1))
+  pub fit-turn : fitFrom store i ≡ (insideAll (s .width) (s .height) part && fitFrom store (i + 1))
   fit-turn =
-      let z : start + 2 * (s .wide * s .high) - start ≡ 2 * (s .wide * s .high) = omega arith in
+      let z : start + 2 * (s .width * s .height) - start ≡ 2 * (s .width * s .height) = omega arith in
       rw (z, b, e) (fit-next store i h)
 
-  pub fit-stop : insideAll (s .wide) (s .high) part ≡ false → fitFrom store i ≡ false
+  pub fit-stop : insideAll (s .width) (s .height) part ≡ false → fitFrom store i ≡ false
   fit-stop f = fit-turn ∙ rw f

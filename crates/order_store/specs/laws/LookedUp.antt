@@ -15,13 +15,13 @@ use Rattle.order_store.specs.laws.Offsets.{from-step, from-most, from-ch
 use Rattle.order_store.specs.LookedUp.{stretchAt, stretchFrom}
 
 -- the stretch is that part of the store
-pub stretch-at : (store : List ℕ) (k c : ℕ) → stretch store k c ≡ take (stretchAt (length store) k c .count) (drop (stretchAt (length store) k c .first) store)
+pub stretch-at : (store : List ℕ) (k c : ℕ) → stretch store k c ≡ take (stretchAt (length store) k c .len) (drop (stretchAt (length store) k c .first) store)
 unfolding stretch stretchAt from
 stretch-at store k c = go (ltb k 13 && (ltb c 3 && eqb (length store) (2 * PLACES)))
   where
     go : (b : Bool)
         → cond b (take (2 * (widthOf k * heightOf k)) (drop (2 * before (thrice BLOCK-SIZES) (3 * k + c)) store)) []
-        ≡ take (cond b (stretchFrom (2 * before (thrice BLOCK-SIZES) (3 * k + c)) (2 * (widthOf k * heightOf k))) (stretchFrom 0 0) .count) (drop (cond b (stretchFrom (2 * before (thrice BLOCK-SIZES) (3 * k + c)) (2 * (widthOf k * heightOf k))) (stretchFrom 0 0) .first) store)
+        ≡ take (cond b (stretchFrom (2 * before (thrice BLOCK-SIZES) (3 * k + c)) (2 * (widthOf k * heightOf k))) (stretchFrom 0 0) .len) (drop (cond b (stretchFrom (2 * before (thrice BLOCK-SIZES) (3 * k + c)) (2 * (widthOf k * heightOf k))) (stretchFrom 0 0) .first) store)
     go true = refl
     go false = refl
 
@@ -56,12 +56,12 @@ module _ (k c : ℕ) (h : k < 13) (l : c < 3) (n : ℕ) (e : n ≡ 2 * (widthOf 
   found numbers m = rw (spot .place, e, lt-ltb k 13 h, lt-ltb c 3 l, eq-eqb numbers (2 * PLACES) (m ∙ sym places-by))
 
 -- a stretch ends inside its store
-pub stretch-inside : (numbers k c : ℕ) → stretchAt numbers k c .first + stretchAt numbers k c .count ≤ numbers
+pub stretch-inside : (numbers k c : ℕ) → stretchAt numbers k c .first + stretchAt numbers k c .len ≤ numbers
 unfolding stretchAt
 stretch-inside numbers k c = go (ltb k 13) refl (ltb c 3) refl (eqb numbers (2 * PLACES)) refl
   where
     go : (p : Bool) → ltb k 13 ≡ p → (q : Bool) → ltb c 3 ≡ q → (r : Bool) → eqb numbers (2 * PLACES) ≡ r
-        → cond (p && (q && r)) (stretchFrom (from (3 * k + c)) (2 * (widthOf k * heightOf k))) (stretchFrom 0 0) .first + cond (p && (q && r)) (stretchFrom (from (3 * k + c)) (2 * (widthOf k * heightOf k))) (stretchFrom 0 0) .count ≤ numbers
+        → cond (p && (q && r)) (stretchFrom (from (3 * k + c)) (2 * (widthOf k * heightOf k))) (stretchFrom 0 0) .first + cond (p && (q && r)) (stretchFrom (from (3 * k + c)) (2 * (widthOf k * heightOf k))) (stretchFrom 0 0) .len ≤ numbers
     go true a true b true d =
         let i = ltb-true k 13 a in
         let j = ltb-true c 3 b in
@@ -75,8 +75,8 @@ stretch-inside numbers k c = go (ltb k 13) refl (ltb c 3) refl (eqb numbers (2 *
 
 -- what the code hands back
 module _ (store : List ℕ) (k c : ℕ) (s : Stretch) (e : s ≡ stretchAt (length store) k c) where
-  pub ends-inside : s .first + s .count ≤ length store
+  pub ends-inside : s .first + s .len ≤ length store
   ends-inside = rw e (stretch-inside (length store) k c)
 
-  pub handed-back : take (s .first + s .count - s .first) (drop (s .first) store) ≡ stretch store k c
-  handed-back = let z : s .first + s .count - s .first ≡ s .count = omega arith in rw z (rw e (sym (stretch-at store k c)))
+  pub handed-back : take (s .first + s .len - s .first) (drop (s .first) store) ≡ stretch store k c
+  handed-back = let z : s .first + s .len - s .first ≡ s .len = omega arith in rw z (rw e (sym (stretch-at store k c)))

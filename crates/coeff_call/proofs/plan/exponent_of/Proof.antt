@@ -1,5 +1,4 @@
-use Rattle.coeff_group.specs.laws.Plans.{exponent-none}
-use Rattle.coeff_group.specs.laws.Sizes.{exponentOf, EXPONENTS}
+use Rattle.dct_select.specs.laws.Exponents.{exponentOf, EXPONENTS, exponent-none}
 use borrow.Author.Needs.{needs}
 use native.Mathlib.Omega.{arith}
 use mathlib.Core.Path.{_≡_, sym}

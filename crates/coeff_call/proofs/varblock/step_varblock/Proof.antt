@@ -29,7 +29,7 @@ returns c =
     let a = c .before .before .before .before .before .before .before .before .before .before .before .before .before .before .before .before .before .before .before .before .before .before .before .args in
     let w = c .before .before .before .before .before .before .before .before .before .before .read-varblock in
     let z = w .last .1 .1 .1 .1 .1 .1 .1 .1 in
-    (c .before .before .before .before .before .before .before .before .before .before .before .before .before .before .before .before .before .before .before .before .before .before .before .pre .3, step-stops (a .plan) (a .group) (a .clusters) (a .preset-map .now) (a .store .now) (a .rows .now) (a .symbols .now) (a .at) (a .shift) (a .log .now) (a .g0 .now ∷ a .g1 .now ∷ a .g2 .now ∷ []) (c .before .before .before .before .before .before .before .before .before .before .before .before .before .before .before .before .before .before .before .before .before .before .before .pre .0) (c .before .before .before .before .before .before .before .before .before .before .before .before .before .before .before .before .before .before .before .before .before .before .before .pre .1) (c .before .before .before .before .before .before .before .before .before .before .before .before .before .before .before .before .before .before .before .before .before .before .before .pre .3) (w .result .walk) (w .result .counts) (z .1 .0) (z .1 .1 .0 ∷ z .1 .1 .1 .0 ∷ z .1 .1 .1 .1 .0 ∷ []) (w .ensures) (sym (c .before .is-stopped .ensures) ∙ c .if1 .taken))
+    (c .before .before .before .before .before .before .before .before .before .before .before .before .before .before .before .before .before .before .before .before .before .before .before .pre .3, step-stops (a .plan) (a .group) (a .clusters) (a .preset-map .now) (a .store .now) (a .rows .now) (a .symbols .now) (a .at) (a .shift) (a .log .now) (a .g0 .now ∷ a .g1 .now ∷ a .g2 .now ∷ []) (c .before .before .before .before .before .before .before .before .before .before .before .before .before .before .before .before .before .before .before .before .before .before .before .pre .0) (c .before .before .before .before .before .before .before .before .before .before .before .before .before .before .before .before .before .before .before .before .before .before .before .pre .1) (c .before .before .before .before .before .before .before .before .before .before .before .before .before .before .before .before .before .before .before .before .before .before .before .pre .3) (w .result .walk) (w .result .«counts_over») (z .1 .0) (z .1 .1 .0 ∷ z .1 .1 .1 .0 ∷ z .1 .1 .1 .1 .0 ∷ []) (w .ensures) (sym (c .before .is-stopped .ensures) ∙ c .if1 .taken))
 
 index-1-rewrite : tie.Need-index-1-rewrite
 index-1-rewrite c = search needs
@@ -75,7 +75,7 @@ returns-2 c =
     let a = c .before .before .before .before .before .before .before .before .before .before .before .before .before .before .before .before .before .before .before .before .before .before .before .before .before .before .before .before .before .before .before .before .args in
     let w = c .before .before .before .before .before .before .before .before .before .before .before .before .before .before .before .before .before .before .before .read-varblock in
     let z = w .last .1 .1 .1 .1 .1 .1 .1 .1 in
-    step-goes (a .plan) (a .group) (a .clusters) (a .preset-map .now) (a .store .now) (a .rows .now) (a .symbols .now) (a .at) (a .shift) (a .log .now) (a .g0 .now ∷ a .g1 .now ∷ a .g2 .now ∷ []) (c .before .before .before .before .before .before .before .before .before .before .before .before .before .before .before .before .before .before .before .before .before .before .before .before .before .before .before .before .before .before .before .before .pre .0) (c .before .before .before .before .before .before .before .before .before .before .before .before .before .before .before .before .before .before .before .before .before .before .before .before .before .before .before .before .before .before .before .before .pre .1) (c .before .before .before .before .before .before .before .before .before .before .before .before .before .before .before .before .before .before .before .before .before .before .before .before .before .before .before .before .before .before .before .before .pre .3) (w .result .walk) (w .result .counts) (z .1 .0) (z .1 .1 .0 ∷ z .1 .1 .1 .0 ∷ z .1 .1 .1 .1 .0 ∷ []) (w .ensures) _ (rows-are (a .plan) (w .result .counts) (a .rows .now) (c .before .before .before .before .before .before .before .before .before .before .before .before .before .before .before .before .before .before .before .before .before .before .before .before .before .before .before .before .before .before .before .before .pre .3) _ _ _ (c .before .before .before .before .before .before .rewrite .ensures) (c .before .before .before .rewrite2 .ensures) (c .rewrite3 .ensures))
+    step-goes (a .plan) (a .group) (a .clusters) (a .preset-map .now) (a .store .now) (a .rows .now) (a .symbols .now) (a .at) (a .shift) (a .log .now) (a .g0 .now ∷ a .g1 .now ∷ a .g2 .now ∷ []) (c .before .before .before .before .before .before .before .before .before .before .before .before .before .before .before .before .before .before .before .before .before .before .before .before .before .before .before .before .before .before .before .before .pre .0) (c .before .before .before .before .before .before .before .before .before .before .before .before .before .before .before .before .before .before .before .before .before .before .before .before .before .before .before .before .before .before .before .before .pre .1) (c .before .before .before .before .before .before .before .before .before .before .before .before .before .before .before .before .before .before .before .before .before .before .before .before .before .before .before .before .before .before .before .before .pre .3) (w .result .walk) (w .result .«counts_over») (z .1 .0) (z .1 .1 .0 ∷ z .1 .1 .1 .0 ∷ z .1 .1 .1 .1 .0 ∷ []) (w .ensures) _ (rows-are (a .plan) (w .result .«counts_over») (a .rows .now) (c .before .before .before .before .before .before .before .before .before .before .before .before .before .before .before .before .before .before .before .before .before .before .before .before .before .before .before .before .before .before .before .before .pre .3) _ _ _ (c .before .before .before .before .before .before .rewrite .ensures) (c .before .before .before .rewrite2 .ensures) (c .rewrite3 .ensures))
 
 pub step-varblock-spec : {M : Type 1} → statement M
 step-varblock-spec =

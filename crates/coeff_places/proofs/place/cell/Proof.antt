@@ -37,7 +37,7 @@ mul-result c =
     let a = c .before .before .before .before .before .before .before .before .args in
     let v = c .before .before .before .before .before .to-usize in
     let w = c .before .before .before .to-usize2 in
-    omega (arith, cell-fits (a .spot .y) (v .result) (a .spot .row) (a .spot .x) (w .result) (omega arith) (v .ensures .1) (omega arith) (omega arith) (w .ensures .1))
+    omega (arith, cell-fits (a .spot .y) (v .result) (a .spot .width) (a .spot .x) (w .result) (omega arith) (v .ensures .1) (omega arith) (omega arith) (w .ensures .1))
 
 add-result-2 : tie.Need-add-result-2
 add-result-2 c = search needs
@@ -47,12 +47,12 @@ add-result-3 c =
     let a = c .before .before .before .before .before .before .before .before .before .args in
     let v = c .before .before .before .before .before .before .to-usize in
     let w = c .before .before .before .before .to-usize2 in
-    omega (arith, cell-fits (a .spot .y) (v .result) (a .spot .row) (a .spot .x) (w .result) (omega arith) (v .ensures .1) (omega arith) (omega arith) (w .ensures .1))
+    omega (arith, cell-fits (a .spot .y) (v .result) (a .spot .width) (a .spot .x) (w .result) (omega arith) (v .ensures .1) (omega arith) (omega arith) (w .ensures .1))
 
 returns : tie.Need-returns
 returns c =
     let a = c .before .before .before .before .before .before .before .before .before .args in
-    rw (c .before .before .before .if1 .taken, c .before .before .before .before .before .before .to-usize .ensures .0, c .before .before .before .before .to-usize2 .ensures .0) (sym (place-turned (a .spot .row) (a .spot .x) (a .spot .y) (a .order .now) (a .k) (omega arith)))
+    rw (c .before .before .before .if1 .taken, c .before .before .before .before .before .before .to-usize .ensures .0, c .before .before .before .before .to-usize2 .ensures .0) (sym (place-turned (a .spot .width) (a .spot .x) (a .spot .y) (a .list .now) (a .k) (omega arith)))
 
 add-result-4 : tie.Need-add-result-4
 add-result-4 c = search needs
@@ -62,7 +62,7 @@ mul-result-2 c =
     let a = c .before .before .before .before .before .before .before .before .args in
     let v = c .before .before .before .before .before .to-usize in
     let w = c .before .before .before .to-usize2 in
-    omega (arith, cell-fits (a .spot .y) (w .result) (a .spot .row) (a .spot .x) (v .result) (omega arith) (w .ensures .1) (omega arith) (omega arith) (v .ensures .1))
+    omega (arith, cell-fits (a .spot .y) (w .result) (a .spot .width) (a .spot .x) (v .result) (omega arith) (w .ensures .1) (omega arith) (omega arith) (v .ensures .1))
 
 add-result-5 : tie.Need-add-result-5
 add-result-5 c = search needs
@@ -72,12 +72,12 @@ add-result-6 c =
     let a = c .before .before .before .before .before .before .before .before .before .args in
     let v = c .before .before .before .before .before .before .to-usize in
     let w = c .before .before .before .before .to-usize2 in
-    omega (arith, cell-fits (a .spot .y) (w .result) (a .spot .row) (a .spot .x) (v .result) (omega arith) (w .ensures .1) (omega arith) (omega arith) (v .ensures .1))
+    omega (arith, cell-fits (a .spot .y) (w .result) (a .spot .width) (a .spot .x) (v .result) (omega arith) (w .ensures .1) (omega arith) (omega arith) (v .ensures .1))
 
 returns-2 : tie.Need-returns-2
 returns-2 c =
     let a = c .before .before .before .before .before .before .before .before .before .args in
-    rw (c .before .before .before .if1 .left, c .before .before .before .before .before .before .to-usize .ensures .0, c .before .before .before .before .to-usize2 .ensures .0) (sym (place-straight (a .spot .row) (a .spot .x) (a .spot .y) (a .order .now) (a .k) (omega arith)))
+    rw (c .before .before .before .if1 .left, c .before .before .before .before .before .before .to-usize .ensures .0, c .before .before .before .before .to-usize2 .ensures .0) (sym (place-straight (a .spot .width) (a .spot .x) (a .spot .y) (a .list .now) (a .k) (omega arith)))
 
 pub cell-spec : {M : Type 1} → statement M
 cell-spec =

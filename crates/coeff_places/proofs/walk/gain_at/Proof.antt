@@ -1,4 +1,4 @@
-use Rattle.coeff_walk.specs.laws.Outcome.{spotPlaces, gain-out}
+use Rattle.coeff_walk.specs.laws.Outcome.{spotCells, gain-out}
 use Rattle.coeff_walk.specs.laws.Runs.{gain-sum}
 use native.Mathlib.Omega.{arith}
 use mathlib.Core.Path.{sym}
@@ -11,7 +11,7 @@ cell-requires : tie.Need-cell-requires
 cell-requires c κs = search needs
 
 returns : tie.Need-returns
-returns c = let a = c .before .before .before .before .args in sym (gain-out (a .shift) (a .grid .now) (getD (spotPlaces (a .spot) (a .order .now)) (a .k) 0) (a .u) (omega (arith, c .before .cell .ensures)))
+returns c = let a = c .before .before .before .before .args in sym (gain-out (a .shift) (a .grid .now) (getD (spotCells (a .spot) (a .list .now)) (a .k) 0) (a .u) (omega (arith, c .before .cell .ensures)))
 
 mul-sum : tie.Need-mul-sum
 mul-sum c = search needs
@@ -41,7 +41,7 @@ returns-2 : tie.Need-returns-2
 returns-2 c =
     let a = c .before .before .before .before .before .before .before .before .args in
     rw (c .before .before .before .before .before .cell .ensures)
-    (gain-sum (a .shift) (a .grid .now) (getD (spotPlaces (a .spot) (a .order .now)) (a .k) 0) (a .u) _
+    (gain-sum (a .shift) (a .grid .now) (getD (spotCells (a .spot) (a .list .now)) (a .k) 0) (a .u) _
     (rw (sym (c .before .before .before .before .before .cell .ensures), sym (c .before .before .unpack-signed .ensures), sym (c .before .shifted .ensures)) (c .sum .ensures .0))
     (rw (sym (c .before .before .before .before .before .cell .ensures), sym (c .before .before .unpack-signed .ensures), sym (c .before .shifted .ensures)) (c .sum .ensures .1)))
 

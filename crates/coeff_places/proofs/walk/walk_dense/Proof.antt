@@ -5,27 +5,27 @@ use Rattle.coeff_walk.specs.Walk.{walk}
 use Rattle.coeff_walk.specs.laws.PlaceLaws.{places-count}
 use native.Mathlib.Omega.{arith}
 use lib.ListN.{length, drop, length-set}
-use Rattle.coeff_walk.specs.laws.Outcome.{spotPlaces, walk-used, walk-done, walk-17, walk-15, walk-step, ends}
+use Rattle.coeff_walk.specs.laws.Outcome.{spotCells, walk-used, walk-done, walk-17, walk-15, walk-step, ends}
 use Rattle.coeff_places.proofs.walk.walk_dense.Statement.{statement}
 use Rattle.coeff_places.proofs.walk.walk_dense.Tie as tie
 
 abbrev Inv-loop : tie.InvT-loop
-Inv-loop nonzeros frequencies order spot symbols start count first part shift log₀ grid₀ at₀ left₀ prev₀ k₀ end log grid at left prev k =
+Inv-loop nonzeros frequencies list spot symbols start count first-prev coeff-map shift log₀ grid₀ at₀ left₀ prev₀ k₀ end log grid at left prev k =
     (at ≡ start + k)
     × (left ≤ 63 * 2 ^ (spot .exponent))
     × (prev ≤ 1)
     × (length log ≡ length log₀)
     × (length grid ≡ length grid₀)
-    × (end ≡ length (spotPlaces spot order))
-    × (walk shift (2 ^ (spot .exponent)) part (drop k (spotPlaces spot order)) k prev left (drop at symbols) at log grid
-    ≡ walk shift (2 ^ (spot .exponent)) part (drop k₀ (spotPlaces spot order)) k₀ prev₀ left₀ (drop at₀ symbols) at₀ log₀ grid₀)
+    × (end ≡ length (spotCells spot list))
+    × (walk shift (2 ^ (spot .exponent)) coeff-map (drop k (spotCells spot list)) k prev left (drop at symbols) at log grid
+    ≡ walk shift (2 ^ (spot .exponent)) coeff-map (drop k₀ (spotCells spot list)) k₀ prev₀ left₀ (drop at₀ symbols) at₀ log₀ grid₀)
 
 abbrev μ-loop : tie.MeasureT-loop
-μ-loop nonzeros frequencies order spot symbols start count first part shift log₀ grid₀ at₀ left₀ prev₀ k₀ end log grid at left prev k =
+μ-loop nonzeros frequencies list spot symbols start count first-prev coeff-map shift log₀ grid₀ at₀ left₀ prev₀ k₀ end log grid at left prev k =
     end - k
 
 loop-holds : tie.Need-loop-holds Inv-loop μ-loop
-loop-holds c = let a = c .before .before .before .before .before .args in (omega arith, omega arith, omega arith, refl, refl, sym (places-count (a .spot .turn) (a .spot .row) (a .spot .x) (a .spot .y) (a .order .now)), refl)
+loop-holds c = let a = c .before .before .before .before .before .args in (omega arith, omega arith, omega arith, refl, refl, sym (places-count (a .spot .turn) (a .spot .width) (a .spot .x) (a .spot .y) (a .list .now)), refl)
 
 same-length : tie.Need-same-length Inv-loop μ-loop
 same-length c = search needs
@@ -37,7 +37,7 @@ returns : tie.Need-returns Inv-loop μ-loop
 returns c =
     let l = c .before .before .loop in
     let a = c .before .before .before .before .before .before .before .before .args in
-    ends _ _ _ (walk-used (a .shift) (2 ^ (a .spot .exponent)) (a .part .now) (spotPlaces (a .spot) (a .order .now)) (a .symbols .now) (l .k) (l .prev) (l .left) (l .at) (l .log) (l .grid) (c .if1 .taken)) (l .inv .6)
+    ends _ _ _ (walk-used (a .shift) (2 ^ (a .spot .exponent)) (a .coeff-map .now) (spotCells (a .spot) (a .list .now)) (a .symbols .now) (l .k) (l .prev) (l .left) (l .at) (l .log) (l .grid) (c .if1 .taken)) (l .inv .6)
 
 sub-coeff-context : tie.Need-sub-coeff-context Inv-loop μ-loop
 sub-coeff-context c = search needs
@@ -55,7 +55,7 @@ returns-2 : tie.Need-returns-2 Inv-loop μ-loop
 returns-2 c =
     let l = c .before .before .before .before .loop in
     let a = c .before .before .before .before .before .before .before .before .before .before .args in
-    ends _ _ _ (walk-17 (a .shift) (2 ^ (a .spot .exponent)) (a .part .now) (spotPlaces (a .spot) (a .order .now)) (a .symbols .now) (l .k) (l .prev) (l .left) (l .at) (l .log) (l .grid) (omega arith) (omega arith) (omega arith)) (l .inv .6)
+    ends _ _ _ (walk-17 (a .shift) (2 ^ (a .spot .exponent)) (a .coeff-map .now) (spotCells (a .spot) (a .list .now)) (a .symbols .now) (l .k) (l .prev) (l .left) (l .at) (l .log) (l .grid) (omega arith) (omega arith) (omega arith)) (l .inv .6)
 
 same-length-5 : tie.Need-same-length-5 Inv-loop μ-loop
 same-length-5 c = search needs
@@ -67,7 +67,7 @@ returns-3 : tie.Need-returns-3 Inv-loop μ-loop
 returns-3 c =
     let l = c .before .before .before .before .before .loop in
     let a = c .before .before .before .before .before .before .before .before .before .before .before .args in
-    ends _ _ _ (walk-15 (a .shift) (2 ^ (a .spot .exponent)) (a .part .now) (spotPlaces (a .spot) (a .order .now)) (a .symbols .now) (l .k) (l .prev) (l .left) (l .at) (l .log) (l .grid) (omega arith) (omega arith) (omega arith) (omega arith)) (l .inv .6)
+    ends _ _ _ (walk-15 (a .shift) (2 ^ (a .spot .exponent)) (a .coeff-map .now) (spotCells (a .spot) (a .list .now)) (a .symbols .now) (l .k) (l .prev) (l .left) (l .at) (l .log) (l .grid) (omega arith) (omega arith) (omega arith) (omega arith)) (l .inv .6)
 
 mul-u : tie.Need-mul-u Inv-loop μ-loop
 mul-u c = search needs
@@ -84,7 +84,7 @@ slice-write-log c = search needs
 gain-at-requires : tie.Need-gain-at-requires Inv-loop μ-loop
 gain-at-requires c κs =
     let r = c .before .before .before .before .before .before .before .before .before .before .before .before .before .before .pre .2 in
-    (omega arith, r .row, r .left, r .top, r .shifts)
+    (omega arith, r .width, r .left, r .top, r .shifts)
 
 flag-of-requires : tie.Need-flag-of-requires Inv-loop μ-loop
 flag-of-requires c κs = search needs
@@ -112,7 +112,7 @@ loop-again c =
       omega arith,
       l .inv .5,
       rw (c .flag-of .ensures .0, c .before .before .before .gain-at .ensures, c .before .before .before .before .before .before .before .before .before .coeff-context .ensures)
-          (sym (walk-step (a .shift) (2 ^ (a .spot .exponent)) (a .part .now) (spotPlaces (a .spot) (a .order .now)) (a .symbols .now) (l .k) (l .prev) (l .left) (l .at) (l .log) (l .grid) (omega arith) (omega arith) (omega arith) (omega arith)) ∙ l .inv .6),
+          (sym (walk-step (a .shift) (2 ^ (a .spot .exponent)) (a .coeff-map .now) (spotCells (a .spot) (a .list .now)) (a .symbols .now) (l .k) (l .prev) (l .left) (l .at) (l .log) (l .grid) (omega arith) (omega arith) (omega arith) (omega arith)) ∙ l .inv .6),
     )
 
 same-length-7 : tie.Need-same-length-7 Inv-loop μ-loop
@@ -125,7 +125,7 @@ returns-4 : tie.Need-returns-4 Inv-loop μ-loop
 returns-4 c =
     let l = c .before .loop in
     let a = c .before .before .before .before .before .before .before .args in
-    ends _ _ _ (walk-done (a .shift) (2 ^ (a .spot .exponent)) (a .part .now) (spotPlaces (a .spot) (a .order .now)) (a .symbols .now) (l .k) (l .prev) (l .left) (l .at) (l .log) (l .grid) (omega arith)) (l .inv .6)
+    ends _ _ _ (walk-done (a .shift) (2 ^ (a .spot .exponent)) (a .coeff-map .now) (spotCells (a .spot) (a .list .now)) (a .symbols .now) (l .k) (l .prev) (l .left) (l .at) (l .log) (l .grid) (omega arith)) (l .inv .6)
 
 pub walk-dense-spec : {M : Type 1} → statement M
 walk-dense-spec =

@@ -5,27 +5,27 @@ use Rattle.coeff_walk.specs.Walk.{walk}
 use Rattle.coeff_walk.specs.laws.PlaceLaws.{places-count}
 use native.Mathlib.Omega.{arith}
 use lib.ListN.{length, drop, length-set}
-use Rattle.coeff_walk.specs.laws.Outcome.{spotPlaces, walk-used, walk-done, walk-15, walk-zero, walk-more, ends}
+use Rattle.coeff_walk.specs.laws.Outcome.{spotCells, walk-used, walk-done, walk-15, walk-zero, walk-more, ends}
 use Rattle.coeff_walk.specs.laws.Runs.{entry-at, entries-lent, entries-room, context-fits}
 use Rattle.coeff_places.proofs.walk.walk_sparse.Statement.{statement}
 use Rattle.coeff_places.proofs.walk.walk_sparse.Tie as tie
 
 abbrev Inv-loop : tie.InvT-loop
-Inv-loop nonzeros frequencies order spot symbols start count first part shift log₀ grid₀ left₀ prev₀ k₀ end stop log grid left prev k =
+Inv-loop nonzeros frequencies list spot symbols start count first-prev coeff-map shift log₀ grid₀ left₀ prev₀ k₀ end stop log grid left prev k =
     (k ≤ stop)
     × (left ≤ 32 * 2 ^ (spot .exponent))
     × (prev ≤ 1)
     × (length log ≡ length log₀)
     × (length grid ≡ length grid₀)
-    × (end ≡ length (spotPlaces spot order))
+    × (end ≡ length (spotCells spot list))
     × (stop ≤ end)
     × (stop ≤ length symbols - start)
     × (stop < end → stop ≡ length symbols - start)
-    × (walk shift (2 ^ (spot .exponent)) part (drop k (spotPlaces spot order)) k prev left (drop (start + k) symbols) (start + k) log grid
-    ≡ walk shift (2 ^ (spot .exponent)) part (drop k₀ (spotPlaces spot order)) k₀ prev₀ left₀ (drop start symbols) start log₀ grid₀)
+    × (walk shift (2 ^ (spot .exponent)) coeff-map (drop k (spotCells spot list)) k prev left (drop (start + k) symbols) (start + k) log grid
+    ≡ walk shift (2 ^ (spot .exponent)) coeff-map (drop k₀ (spotCells spot list)) k₀ prev₀ left₀ (drop start symbols) start log₀ grid₀)
 
 abbrev μ-loop : tie.MeasureT-loop
-μ-loop nonzeros frequencies order spot symbols start count first part shift log₀ grid₀ left₀ prev₀ k₀ end stop log grid left prev k =
+μ-loop nonzeros frequencies list spot symbols start count first-prev coeff-map shift log₀ grid₀ left₀ prev₀ k₀ end stop log grid left prev k =
     stop - k
 
 behind-requires : tie.Need-behind-requires Inv-loop μ-loop
@@ -44,7 +44,7 @@ loop-holds c =
       omega arith,
       refl,
       refl,
-      sym (places-count (a .spot .turn) (a .spot .row) (a .spot .x) (a .spot .y) (a .order .now)),
+      sym (places-count (a .spot .turn) (a .spot .width) (a .spot .x) (a .spot .y) (a .list .now)),
       m .0,
       omega (arith, m .1, c .before .behind .ensures),
       λ h. m .2 h ∙ c .before .behind .ensures,
@@ -64,7 +64,7 @@ returns : tie.Need-returns Inv-loop μ-loop
 returns c =
     let l = c .before .before .loop in
     let a = c .before .before .before .before .before .before .before .before .before .before .args in
-    ends _ _ _ (walk-used (a .shift) (2 ^ (a .spot .exponent)) (a .part .now) (spotPlaces (a .spot) (a .order .now)) (a .symbols .now) (l .k) (l .prev) (l .left) (a .start + l .k) (l .log) (l .grid) (c .if1 .taken)) (l .inv .9)
+    ends _ _ _ (walk-used (a .shift) (2 ^ (a .spot .exponent)) (a .coeff-map .now) (spotCells (a .spot) (a .list .now)) (a .symbols .now) (l .k) (l .prev) (l .left) (a .start + l .k) (l .log) (l .grid) (c .if1 .taken)) (l .inv .9)
 
 add-at : tie.Need-add-at Inv-loop μ-loop
 add-at c = search needs
@@ -129,7 +129,7 @@ zeros-from-requires c κs =
         places = omega (arith, r .fits);
         lent = omega (arith, l .inv .7);
         room = simp length-set (omega (arith, r .room));
-        enough = entries-room (a .spot .exponent) (a .part .now) (l .left) (2 * c .before .before .count-entry .result) (ap (λ (n : ℕ). 2 * n) (c .before .before .count-entry .ensures .0)) (omega arith) (r .entries);
+        enough = entries-room (a .spot .exponent) (a .coeff-map .now) (l .left) (2 * c .before .before .count-entry .result) (ap (λ (n : ℕ). 2 * n) (c .before .before .count-entry .ensures .0)) (omega arith) (r .entries);
       },
     )
 
@@ -151,14 +151,14 @@ loop-again c =
       l .inv .6,
       l .inv .7,
       l .inv .8,
-      rw (e, c .before .before .before .before .before .before .before .before .before .coeff-context .ensures) at (z .passed (a .shift) (a .part .now) (spotPlaces (a .spot) (a .order .now)) (l .left) (l .grid) (omega arith) (l .inv .1) (entries-lent (a .spot .exponent) (a .part .now) (l .left) (2 * c .before .before .before .before .before .count-entry .result) (ap (λ (n : ℕ). 2 * n) (c .before .before .before .before .before .count-entry .ensures .0))) (omega arith))
-          ∙ sym (walk-zero (a .shift) (2 ^ (a .spot .exponent)) (a .part .now) (spotPlaces (a .spot) (a .order .now)) (a .symbols .now) (l .k) (l .prev) (l .left) (a .start + l .k) (l .log) (l .grid) (omega arith) (omega arith) (context-fits (a .spot .exponent) (l .left - 1) (l .k) (l .prev) (omega arith) (omega (arith, c .before .before .before .before .before .before .before .before .before .before .before .before .before .before .before .before .before .before .before .before .pre .2 .fits, c .before .before .before .before .before .before .before .before .before .before .before .loop-test .taken)) (l .inv .2)) (omega arith) (c .before .before .before .before .before .before .if2 .taken)) ∙ l .inv .9,
+      rw (e, c .before .before .before .before .before .before .before .before .before .coeff-context .ensures) at (z .passed (a .shift) (a .coeff-map .now) (spotCells (a .spot) (a .list .now)) (l .left) (l .grid) (omega arith) (l .inv .1) (entries-lent (a .spot .exponent) (a .coeff-map .now) (l .left) (2 * c .before .before .before .before .before .count-entry .result) (ap (λ (n : ℕ). 2 * n) (c .before .before .before .before .before .count-entry .ensures .0))) (omega arith))
+          ∙ sym (walk-zero (a .shift) (2 ^ (a .spot .exponent)) (a .coeff-map .now) (spotCells (a .spot) (a .list .now)) (a .symbols .now) (l .k) (l .prev) (l .left) (a .start + l .k) (l .log) (l .grid) (omega arith) (omega arith) (context-fits (a .spot .exponent) (l .left - 1) (l .k) (l .prev) (omega arith) (omega (arith, c .before .before .before .before .before .before .before .before .before .before .before .before .before .before .before .before .before .before .before .before .pre .2 .fits, c .before .before .before .before .before .before .before .before .before .before .before .loop-test .taken)) (l .inv .2)) (omega arith) (c .before .before .before .before .before .before .if2 .taken)) ∙ l .inv .9,
     )
 
 gain-at-requires : tie.Need-gain-at-requires Inv-loop μ-loop
 gain-at-requires c κs =
     let r = c .before .before .before .before .before .before .before .before .before .before .before .before .before .before .before .pre .2 in
-    (omega arith, r .row, r .left, r .top, r .shifts)
+    (omega arith, r .width, r .left, r .top, r .shifts)
 
 sub-left : tie.Need-sub-left Inv-loop μ-loop
 sub-left c = search needs
@@ -184,7 +184,7 @@ loop-again-2 c =
       l .inv .7,
       l .inv .8,
       rw (e, c .before .before .gain-at .ensures, c .before .before .before .before .before .before .before .coeff-context .ensures)
-          (sym (walk-more (a .shift) (2 ^ (a .spot .exponent)) (a .part .now) (spotPlaces (a .spot) (a .order .now)) (a .symbols .now) (l .k) (l .prev) (l .left) (a .start + l .k) (l .log) (l .grid) (omega arith) (omega arith) (context-fits (a .spot .exponent) (l .left - 1) (l .k) (l .prev) (omega arith) (omega arith) (l .inv .2)) (omega arith) (c .before .before .before .before .if2 .left)) ∙ l .inv .9),
+          (sym (walk-more (a .shift) (2 ^ (a .spot .exponent)) (a .coeff-map .now) (spotCells (a .spot) (a .list .now)) (a .symbols .now) (l .k) (l .prev) (l .left) (a .start + l .k) (l .log) (l .grid) (omega arith) (omega arith) (context-fits (a .spot .exponent) (l .left - 1) (l .k) (l .prev) (omega arith) (omega arith) (l .inv .2)) (omega arith) (c .before .before .before .before .if2 .left)) ∙ l .inv .9),
     )
 
 add-t43 : tie.Need-add-t43 Inv-loop μ-loop
@@ -200,7 +200,7 @@ returns-2 : tie.Need-returns-2 Inv-loop μ-loop
 returns-2 c =
     let l = c .before .before .loop in
     let a = c .before .before .before .before .before .before .before .before .before .before .args in
-    ends _ _ _ (walk-done (a .shift) (2 ^ (a .spot .exponent)) (a .part .now) (spotPlaces (a .spot) (a .order .now)) (a .symbols .now) (l .k) (l .prev) (l .left) (a .start + l .k) (l .log) (l .grid) (omega arith)) (l .inv .9)
+    ends _ _ _ (walk-done (a .shift) (2 ^ (a .spot .exponent)) (a .coeff-map .now) (spotCells (a .spot) (a .list .now)) (a .symbols .now) (l .k) (l .prev) (l .left) (a .start + l .k) (l .log) (l .grid) (omega arith)) (l .inv .9)
 
 add-t44 : tie.Need-add-t44 Inv-loop μ-loop
 add-t44 c = search needs
@@ -215,7 +215,7 @@ returns-3 : tie.Need-returns-3 Inv-loop μ-loop
 returns-3 c =
     let l = c .before .before .before .loop in
     let a = c .before .before .before .before .before .before .before .before .before .before .before .args in
-    ends _ _ _ (walk-used (a .shift) (2 ^ (a .spot .exponent)) (a .part .now) (spotPlaces (a .spot) (a .order .now)) (a .symbols .now) (l .k) (l .prev) (l .left) (a .start + l .k) (l .log) (l .grid) (c .if4 .taken)) (l .inv .9)
+    ends _ _ _ (walk-used (a .shift) (2 ^ (a .spot .exponent)) (a .coeff-map .now) (spotCells (a .spot) (a .list .now)) (a .symbols .now) (l .k) (l .prev) (l .left) (a .start + l .k) (l .log) (l .grid) (c .if4 .taken)) (l .inv .9)
 
 add-t22 : tie.Need-add-t22 Inv-loop μ-loop
 add-t22 c = search needs
@@ -230,7 +230,7 @@ returns-4 : tie.Need-returns-4 Inv-loop μ-loop
 returns-4 c =
     let l = c .before .before .before .loop in
     let a = c .before .before .before .before .before .before .before .before .before .before .before .args in
-    ends _ _ _ (walk-15 (a .shift) (2 ^ (a .spot .exponent)) (a .part .now) (spotPlaces (a .spot) (a .order .now)) (a .symbols .now) (l .k) (l .prev) (l .left) (a .start + l .k) (l .log) (l .grid) (omega arith) (omega arith) (context-fits (a .spot .exponent) (l .left - 1) (l .k) (l .prev) (omega arith) (omega arith) (l .inv .2)) (omega (arith, l .inv .8 (omega arith)))) (l .inv .9)
+    ends _ _ _ (walk-15 (a .shift) (2 ^ (a .spot .exponent)) (a .coeff-map .now) (spotCells (a .spot) (a .list .now)) (a .symbols .now) (l .k) (l .prev) (l .left) (a .start + l .k) (l .log) (l .grid) (omega arith) (omega arith) (context-fits (a .spot .exponent) (l .left - 1) (l .k) (l .prev) (omega arith) (omega arith) (l .inv .2)) (omega (arith, l .inv .8 (omega arith)))) (l .inv .9)
 
 pub walk-sparse-spec : {M : Type 1} → statement M
 walk-sparse-spec =

@@ -33,7 +33,7 @@ returns : tie.Need-returns
 returns c =
     let a = c .before .before .before .before .args in
     let e : c .before .count-index .result ≡ countIndex (predicted (a .row .now) (a .x) (a .y)) = c .before .count-index .ensures ∙ ap countIndex (c .before .before .predict .ensures .0) in
-    sym (List·getD-eq-default (a .preset-map .now) 0 {n = a .context + countIndex (predicted (a .row .now) (a .x) (a .y)) * a .clusters} (rw (← e) (c .if1 .taken)))
+    sym (List·getD-eq-default (a .preset-map .now) 0 {n = a .block-context + countIndex (predicted (a .row .now) (a .x) (a .y)) * a .clusters} (rw (← e) (c .if1 .taken)))
 
 shared-slice-read-result : tie.Need-shared-slice-read-result
 shared-slice-read-result c = search needs
@@ -42,7 +42,7 @@ returns-2 : tie.Need-returns-2
 returns-2 c =
     let a = c .before .before .before .before .before .args in
     let e : c .before .before .count-index .result ≡ countIndex (predicted (a .row .now) (a .x) (a .y)) = c .before .before .count-index .ensures ∙ ap countIndex (c .before .before .before .predict .ensures .0) in
-    ap (λ (i : ℕ). getD (a .preset-map .now) (a .context + i * a .clusters) 0) e
+    ap (λ (i : ℕ). getD (a .preset-map .now) (a .block-context + i * a .clusters) 0) e
 
 pub count-cluster-spec : {M : Type 1} → statement M
 count-cluster-spec =

@@ -3,7 +3,8 @@ use mathlib.Core.Path.{ap}
 use mathlib.Core.List.{List}
 use Prim.Native.Nat.{ℕ}
 use lib.ListN.{replicate}
-use Rattle.context_call.specs.Call.{recordOf, accepted, contextsOf}
+use Rattle.context_record.specs.Record.{recordOf}
+use Rattle.context_call.specs.Call.{accepted, contextsOf}
 use Rattle.context_call.proofs.judge.default_contexts.Statement.{statement}
 use Rattle.context_call.proofs.judge.default_contexts.Tie as tie
 

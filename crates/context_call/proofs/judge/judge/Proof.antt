@@ -2,7 +2,8 @@ use mathlib.Core.List.{List}
 use Rattle.refusal.specs.Answer.{Answer, answeredBy}
 use Rattle.refusal.specs.laws.Answer.{checked}
 use Rattle.context_thresholds.specs.Thresholds.{pad}
-use Rattle.context_call.specs.Call.{recordOf, accepted, refused}
+use Rattle.context_record.specs.Record.{recordOf}
+use Rattle.context_call.specs.Call.{accepted, refused}
 use Rattle.context_call.specs.laws.Parts.{kept-same}
 use Rattle.context_call.specs.laws.CallLaws.{judged-passed}
 use borrow.Author.Needs.{needs}

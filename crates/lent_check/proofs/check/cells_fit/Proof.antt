@@ -8,7 +8,7 @@ use native.Mathlib.Omega.{arith}
 use borrow.Author.Needs.{needs}
 use Rattle.dct_select.specs.Transforms.{TRANSFORMS}
 use Rattle.layout.specs.Walk.{cells}
-use Rattle.layout.specs.Grid.{at}
+use Rattle.layout.specs.Grid.{blockAt}
 use Rattle.layout.specs.Check.{Fault, Until, isLayout}
 use Rattle.lent_sides.specs.laws.Sizes.{widths, heights}
 use Rattle.lent_check.specs.laws.Flaws.{isSound, sound-kinds, sound-cells, unsound}
@@ -55,7 +55,7 @@ returns-2 c =
     let p = c .before .before .before .before .before .before .before .before .before .before .before .pre in
     let l = c .before .before .before .before .before .before .loop in
     let v = c .before .place-row in
-    let k = at (a .kinds .now) (a .bw) in
+    let k = blockAt (a .kinds .now) (a .bw) in
     let e = told-bad (v .result) (v .last .0) (cells (place (a .bw) (a .bh) k) (a .bw) 0 (l .y) (Until (l .depth))) (v .ensures) (not-true (v .result) (c .if2 .taken)) in
     sym (l .inv .2 ∙ row-stop (a .kinds .now) (a .hf-mul .now) (a .bw) (a .bh) (sound-cells (a .bw) (a .bh) (a .kinds .now) (a .hf-mul .now) (p .2) (p .3) (sound (c .before .before .before .before .before .before .before))) (l .y) (l .depth) (omega arith) (l .inv .1) (sym (close-fault (a .bw) (a .bh) k (l .y) (a .bw) 0) ∙ ap (cells (close k) (a .bw) 0 (l .y)) e))
 
@@ -76,7 +76,7 @@ returns-3 c =
     let l = c .before .before .before .before .before .before .before .before .before .loop in
     let v = c .before .before .before .before .place-row in
     let w = c .before .close-row in
-    let k = at (a .kinds .now) (a .bw) in
+    let k = blockAt (a .kinds .now) (a .bw) in
     let e = told-good (v .result) (v .last .0) (cells (place (a .bw) (a .bh) k) (a .bw) 0 (l .y) (Until (l .depth))) (v .ensures) (not-false (v .result) (c .before .before .before .if2 .left)) in
     let f = told-bad (w .result) (w .last .0) (cells (close k) (a .bw) 0 (l .y) (Until (v .last .0))) (w .ensures) (not-true (w .result) (c .if3 .taken)) in
     sym (l .inv .2 ∙ row-stop (a .kinds .now) (a .hf-mul .now) (a .bw) (a .bh) (sound-cells (a .bw) (a .bh) (a .kinds .now) (a .hf-mul .now) (p .2) (p .3) (sound (c .before .before .before .before .before .before .before .before .before .before))) (l .y) (l .depth) (omega arith) (l .inv .1) (f ∙ ap (cells (close k) (a .bw) 0 (l .y)) e))
@@ -94,7 +94,7 @@ loop-again c =
     let l = c .before .before .before .before .before .before .before .before .before .loop in
     let v = c .before .before .before .before .place-row in
     let w = c .before .close-row in
-    let k = at (a .kinds .now) (a .bw) in
+    let k = blockAt (a .kinds .now) (a .bw) in
     let e = told-good (v .result) (v .last .0) (cells (place (a .bw) (a .bh) k) (a .bw) 0 (l .y) (Until (l .depth))) (v .ensures) (not-false (v .result) (c .before .before .before .if2 .left)) in
     let f = told-good (w .result) (w .last .0) (cells (close k) (a .bw) 0 (l .y) (Until (v .last .0))) (w .ensures) (not-false (w .result) (c .if3 .left)) in
     let n = row-next (a .kinds .now) (a .hf-mul .now) (a .bw) (a .bh) (sound-cells (a .bw) (a .bh) (a .kinds .now) (a .hf-mul .now) (p .2) (p .3) (sound (c .before .before .before .before .before .before .before .before .before .before))) (l .y) (l .depth) (omega arith) (l .inv .1) (w .last .0) (f ∙ ap (cells (close k) (a .bw) 0 (l .y)) e) in

@@ -6,7 +6,7 @@ use lib.ListN.{getD, set}
 use native.Mathlib.Omega.{arith}
 use borrow.Author.Needs.{needs}
 use Rattle.layout.specs.Walk.{cells}
-use Rattle.layout.specs.Grid.{at}
+use Rattle.layout.specs.Grid.{blockAt}
 use Rattle.layout.specs.Check.{Covering, Until}
 use Rattle.lent_check.specs.laws.Steps.{gapOf, close}
 use Rattle.lent_check.specs.laws.Closing.{closing, close-start, close-next, close-end}
@@ -14,7 +14,7 @@ use Rattle.lent_check.proofs.rows.close_row.Statement.{statement}
 use Rattle.lent_check.proofs.rows.close_row.Tie as tie
 
 abbrev Inv-loop : tie.InvT-loop
-Inv-loop depth₀ bw kinds y start gaps₀ x₀ depth gaps x = (x ≤ bw) × (cells (close (at kinds bw)) bw 0 y (Until depth₀) ≡ closing bw (at kinds bw) y gaps x depth)
+Inv-loop depth₀ bw kinds y start gaps₀ x₀ depth gaps x = (x ≤ bw) × (cells (close (blockAt kinds bw)) bw 0 y (Until depth₀) ≡ closing bw (blockAt kinds bw) y gaps x depth)
 
 abbrev μ-loop : tie.MeasureT-loop
 μ-loop depth₀ bw kinds y start gaps₀ x₀ depth gaps x = bw - x
@@ -28,7 +28,7 @@ mul-start c =
     omega arith
 
 loop-holds : tie.Need-loop-holds Inv-loop μ-loop
-loop-holds c = let a = c .before .args in (omega arith, close-start (a .bw) (at (a .kinds .now) (a .bw)) (a .y) (a .depth .now))
+loop-holds c = let a = c .before .args in (omega arith, close-start (a .bw) (blockAt (a .kinds .now) (a .bw)) (a .y) (a .depth .now))
 
 element-copy-out-v : tie.Need-element-copy-out-v Inv-loop μ-loop
 element-copy-out-v c = search needs
@@ -67,7 +67,7 @@ loop-again : tie.Need-loop-again Inv-loop μ-loop
 loop-again c =
     let a = c .before .before .before .before .before .before .before .before .args in
     let l = c .before .before .before .before .before .before .loop in
-    let k = at (a .kinds .now) (a .bw) in
+    let k = blockAt (a .kinds .now) (a .bw) in
     let v = getD (l .depth) (l .x) 0 in
     let e : max (l .gaps) (gapOf (k (l .x) (a .y)) v) ≡ c .before .most .result = sym (c .before .most .ensures ∙ ap (λ (g : ℕ). max (l .gaps) g) (c .before .before .gap .ensures)) in (
       omega arith,
@@ -80,7 +80,7 @@ returns : tie.Need-returns Inv-loop μ-loop
 returns c =
     let a = c .before .before .before .args in
     let l = c .before .loop in
-    sym (l .inv .1 ∙ close-end (a .bw) (at (a .kinds .now) (a .bw)) (a .y) (l .gaps) (l .x) (l .depth) (omega arith))
+    sym (l .inv .1 ∙ close-end (a .bw) (blockAt (a .kinds .now) (a .bw)) (a .y) (l .gaps) (l .x) (l .depth) (omega arith))
 
 pub close-row-spec : {M : Type 1} → statement M
 close-row-spec =

@@ -5,13 +5,13 @@ use lib.Arith.{digits-lt}
 use lib.ListN.{length, length-set}
 use native.Mathlib.Omega.{arith}
 use borrow.Author.Needs.{needs}
-use Rattle.layout.specs.Grid.{at}
+use Rattle.layout.specs.Grid.{blockAt}
 use Rattle.lent_check.specs.laws.Listing.{Flagged, flagged-next}
 use Rattle.lent_check.proofs.rows.flag_row.Statement.{statement}
 use Rattle.lent_check.proofs.rows.flag_row.Tie as tie
 
 abbrev Inv-loop : tie.InvT-loop
-Inv-loop flags₀ bw kinds y start x₀ flags x = (x ≤ bw) × (length flags ≡ 256) × Flagged (at kinds bw) y x flags
+Inv-loop flags₀ bw kinds y start x₀ flags x = (x ≤ bw) × (length flags ≡ 256) × Flagged (blockAt kinds bw) y x flags
 
 abbrev μ-loop : tie.MeasureT-loop
 μ-loop flags₀ bw kinds y start x₀ flags x = bw - x
@@ -55,7 +55,7 @@ loop-again : tie.Need-loop-again Inv-loop μ-loop
 loop-again c =
     let a = c .before .before .before .before .before .args in
     let l = c .before .before .before .loop in
-    (omega arith, length-set (l .flags) (l .x) (c .larger .result) ∙ l .inv .1, flagged-next (at (a .kinds .now) (a .bw)) (a .y) (l .x) (c .larger .result) (l .flags) (omega (arith, l .inv .1)) (c .larger .ensures) (l .inv .2))
+    (omega arith, length-set (l .flags) (l .x) (c .larger .result) ∙ l .inv .1, flagged-next (blockAt (a .kinds .now) (a .bw)) (a .y) (l .x) (c .larger .result) (l .flags) (omega (arith, l .inv .1)) (c .larger .ensures) (l .inv .2))
 
 returns : tie.Need-returns Inv-loop μ-loop
 returns c = λ i h. c .before .loop .inv .2 i (omega arith)

@@ -3,8 +3,8 @@ use Prim.Native.Nat.{ℕ, _+_, _≤_}
 use borrow.Author.Tests.{not-true, not-false}
 use native.Mathlib.Omega.{arith}
 use borrow.Author.Needs.{needs}
-use Rattle.order_sizes.specs.declared.Sides.{Sides}
-use Rattle.order_sizes.specs.BlockSizes.{sides}
+use Rattle.dct_select.specs.declared.Sides.{Sides}
+use Rattle.dct_select.specs.LookUp.{sides}
 use Rattle.layout.specs.Kinds.{wideOf, highOf}
 use Rattle.layout.specs.Valid.{Fits}
 use Rattle.layout.specs.laws.CheckLaws.{fitting-fits}

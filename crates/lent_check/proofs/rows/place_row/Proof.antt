@@ -7,7 +7,7 @@ use borrow.Author.Tests.{not-true, not-false}
 use native.Mathlib.Omega.{arith}
 use borrow.Author.Needs.{needs}
 use Rattle.layout.specs.Walk.{cells}
-use Rattle.layout.specs.Grid.{at}
+use Rattle.layout.specs.Grid.{blockAt}
 use Rattle.layout.specs.Check.{Until}
 use Rattle.lent_check.specs.laws.Steps.{placeCell, place}
 use Rattle.lent_check.specs.laws.Listing.{flagAt, flagged-flags, listed-row, Listed, placeAll, looked, column-below, place-start, place-next, place-stop, place-end}
@@ -17,7 +17,7 @@ use Rattle.lent_check.proofs.rows.place_row.Tie as tie
 
 abbrev Inv-loop : tie.InvT-loop
 Inv-loop depth₀ wides highs bw bh kinds y start list n i₀ depth i =
-    (i ≤ n) × (cells (place bw bh (at kinds bw)) bw 0 y (Until depth₀) ≡ placeAll bw bh (at kinds bw) y (drop i (looked (flagAt (at kinds bw) y) bw 0)) (Until depth))
+    (i ≤ n) × (cells (place bw bh (blockAt kinds bw)) bw 0 y (Until depth₀) ≡ placeAll bw bh (blockAt kinds bw) y (drop i (looked (flagAt (blockAt kinds bw) y) bw 0)) (Until depth))
 
 abbrev μ-loop : tie.MeasureT-loop
 μ-loop depth₀ wides highs bw bh kinds y start list n i₀ depth i = n - i
@@ -42,16 +42,16 @@ flag-row-requires c κs =
 list-row-requires : tie.Need-list-row-requires Inv-loop μ-loop
 list-row-requires c κs =
     let a = c .before .before .before .before .before .args in
-    (omega arith, omega arith, flagged-flags (at (a .kinds .now) (a .bw)) (a .y) (a .bw) (c .before .before .flag-row .last .0) (c .before .before .flag-row .ensures))
+    (omega arith, omega arith, flagged-flags (blockAt (a .kinds .now) (a .bw)) (a .y) (a .bw) (c .before .before .flag-row .last .0) (c .before .before .flag-row .ensures))
 
 -- the list holds the row's columns that are looked at
-listed : (c : tie.After-list-row Inv-loop μ-loop) → let a = c .before .before .before .before .before .before .args in Listed (looked (flagAt (at (a .kinds .now) (a .bw)) (a .y)) (a .bw) 0) (c .list-row .result) (c .list-row .last .0)
+listed : (c : tie.After-list-row Inv-loop μ-loop) → let a = c .before .before .before .before .before .before .args in Listed (looked (flagAt (blockAt (a .kinds .now) (a .bw)) (a .y)) (a .bw) 0) (c .list-row .result) (c .list-row .last .0)
 listed c =
     let a = c .before .before .before .before .before .before .args in
-    listed-row (at (a .kinds .now) (a .bw)) (a .y) (a .bw) (c .list-row .result) (c .before .before .before .flag-row .last .0) (c .list-row .last .0) (c .before .before .before .flag-row .ensures) (c .list-row .ensures)
+    listed-row (blockAt (a .kinds .now) (a .bw)) (a .y) (a .bw) (c .list-row .result) (c .before .before .before .flag-row .last .0) (c .list-row .last .0) (c .before .before .before .flag-row .ensures) (c .list-row .ensures)
 
 loop-holds : tie.Need-loop-holds Inv-loop μ-loop
-loop-holds c = let a = c .before .before .before .before .before .before .args in (omega arith, place-start (a .bw) (a .bh) (at (a .kinds .now) (a .bw)) (a .y) (a .depth .now))
+loop-holds c = let a = c .before .before .before .before .before .before .args in (omega arith, place-start (a .bw) (a .bh) (blockAt (a .kinds .now) (a .bw)) (a .y) (a .depth .now))
 
 array-read-to-usize : tie.Need-array-read-to-usize Inv-loop μ-loop
 array-read-to-usize c = let r = listed (c .before .before) .room in omega arith
@@ -63,7 +63,7 @@ below : (c : tie.After-to-usize Inv-loop μ-loop) → c .to-usize .result < c .b
 below c =
     let a = c .before .before .before .before .before .before .before .before .before .args in
     let r = c .before .before .before .list-row in
-    let b = column-below (flagAt (at (a .kinds .now) (a .bw)) (a .y)) (a .bw) (c .before .before .loop .i) (r .result) (r .last .0) (listed (c .before .before .before)) (omega arith) in
+    let b = column-below (flagAt (blockAt (a .kinds .now) (a .bw)) (a .y)) (a .bw) (c .before .before .loop .i) (r .result) (r .last .0) (listed (c .before .before .before)) (omega arith) in
     omega (arith, c .to-usize .ensures)
 
 add-kind : tie.Need-add-kind Inv-loop μ-loop
@@ -93,7 +93,7 @@ returns c =
     let v = c .before .place-cell in
     let r = listed (c .before .before .before .before .before .before .before) in
     let x = c .before .before .before .before .to-usize .result in
-    let k = at (a .kinds .now) (a .bw) in
+    let k = blockAt (a .kinds .now) (a .bw) in
     sym (l .inv .1 ∙ place-stop (a .bw) (a .bh) k (a .y) (l .i) (looked (flagAt k (a .y)) (a .bw) 0) x (l .depth) (omega (arith, r .count)) (c .before .before .before .before .to-usize .ensures ∙ r .same (l .i) (omega arith)) (told-bad (v .result) (v .last .0) (placeCell (a .bw) (a .bh) (k x (a .y)) x (a .y) (l .depth)) (v .ensures) (not-true (v .result) (c .if1 .taken))))
 
 add-i : tie.Need-add-i Inv-loop μ-loop
@@ -109,14 +109,14 @@ loop-again c =
     let v = c .before .place-cell in
     let r = listed (c .before .before .before .before .before .before .before) in
     let x = c .before .before .before .before .to-usize .result in
-    let k = at (a .kinds .now) (a .bw) in
+    let k = blockAt (a .kinds .now) (a .bw) in
     (omega arith, l .inv .1 ∙ place-next (a .bw) (a .bh) k (a .y) (l .i) (looked (flagAt k (a .y)) (a .bw) 0) x (l .depth) (omega (arith, r .count)) (c .before .before .before .before .to-usize .ensures ∙ r .same (l .i) (omega arith)) (v .last .0) (told-good (v .result) (v .last .0) (placeCell (a .bw) (a .bh) (k x (a .y)) x (a .y) (l .depth)) (v .ensures) (not-false (v .result) (c .if1 .left))))
 
 returns-2 : tie.Need-returns-2 Inv-loop μ-loop
 returns-2 c =
     let a = c .before .before .before .before .before .before .before .before .args in
     let l = c .before .loop in
-    sym (l .inv .1 ∙ place-end (a .bw) (a .bh) (at (a .kinds .now) (a .bw)) (a .y) (l .i) (looked (flagAt (at (a .kinds .now) (a .bw)) (a .y)) (a .bw) 0) (l .depth) (omega (arith, listed (c .before .before) .count)))
+    sym (l .inv .1 ∙ place-end (a .bw) (a .bh) (blockAt (a .kinds .now) (a .bw)) (a .y) (l .i) (looked (flagAt (blockAt (a .kinds .now) (a .bw)) (a .y)) (a .bw) 0) (l .depth) (omega (arith, listed (c .before .before) .count)))
 
 pub place-row-spec : {M : Type 1} → statement M
 place-row-spec =

@@ -3,7 +3,7 @@ use mathlib.Core.List.{List}
 use Prim.Native.Nat.{ℕ, _+_, _*_, _-_, _≤_}
 use lib.Arith.{digits-lt}
 use lib.ListN.{length, length-set}
-use Rattle.layout.specs.Grid.{at, gridOf}
+use Rattle.layout.specs.Grid.{blockAt, gridOf}
 use Rattle.lent_cut.specs.laws.CutSteps.{copy-start}
 use Rattle.layout.specs.laws.Fill.{write}
 use Rattle.layout.specs.laws.Loops.{rowsLeft, cellsLeft, loop-enter, loop-next, loop-leave, loop-finish}
@@ -14,7 +14,7 @@ use Rattle.lent_cut.proofs.cut.copy_cells.Tie as tie
 
 -- the cells to copy
 abbrev from : List ℕ → ℕ → ℕ → ℕ → ℕ → ℕ → ℕ
-from l bw left top x y = at l bw (left + x) (top + y)
+from l bw left top x y = blockAt l bw (left + x) (top + y)
 
 abbrev Inv-loop2 : tie.InvT-loop2
 Inv-loop2 bw kinds hf-mul left top wide high out-kinds₀ out-hf-mul₀ y x₀ out-kinds out-hf-mul x =

@@ -1,5 +1,5 @@
 use Rattle.text.specs.laws.Text.{puts-none}
-use Rattle.layout.specs.Grid.{at}
+use Rattle.layout.specs.Grid.{blockAt}
 use borrow.Author.Tests.{le-leb, lt-leb}
 use lib.Arith.{digits-lt}
 use borrow.Author.Needs.{needs}
@@ -25,7 +25,7 @@ shared-slice-read-kind c =
 returns : tie.Need-returns
 returns c =
     let a = c .before .before .before .before .before .args in
-    rw (lt-leb 2 (at (a .kinds .now) (a .bw) (a .x) (a .y)) (c .if1 .taken)) (puts-none (a .out .now) (a .at) (omega arith))
+    rw (lt-leb 2 (blockAt (a .kinds .now) (a .bw) (a .x) (a .y)) (c .if1 .taken)) (puts-none (a .out .now) (a .at) (omega arith))
 
 mul-put-varblock : tie.Need-mul-put-varblock
 mul-put-varblock c =
@@ -40,7 +40,7 @@ shared-slice-read-put-varblock c =
 returns-2 : tie.Need-returns-2
 returns-2 c =
     let a = c .before .before .before .before .before .before .before .before .before .before .before .args in
-    rw (le-leb 2 (at (a .kinds .now) (a .bw) (a .x) (a .y)) (c .before .before .before .before .before .before .if1 .left)) (rw (c .before .before .before .before .number-of .ensures) at (c .before .before .put-varblock .ensures))
+    rw (le-leb 2 (blockAt (a .kinds .now) (a .bw) (a .x) (a .y)) (c .before .before .before .before .before .before .if1 .left)) (rw (c .before .before .before .before .number-of .ensures) at (c .before .before .put-varblock .ensures))
 
 pub put-block-spec : {M : Type 1} → statement M
 put-block-spec =

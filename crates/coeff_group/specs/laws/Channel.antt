@@ -1,4 +1,4 @@
--- The turn of one channel of a varblock, as the code takes it.
+-- One channel of a varblock, as the code takes it.
 use mathlib.Core.Path.{_≡_, refl, ap, sym, subst, _∙_}
 use mathlib.Core.Bool.{true, false}
 use mathlib.Core.List.{List, [], _∷_}
@@ -11,9 +11,9 @@ use lib.Pow.{pow-pos}
 use Rattle.refusal.specs.declared.Refusal.{Refusal}
 use Rattle.refusal.specs.declared.Refusal.the-variants.{SymbolsEnd, Count}
 use Rattle.lent_check.specs.declared.Group.{Group}
-use Rattle.coeff_walk.specs.declared.Walk.{Walk}
-use Rattle.coeff_walk.specs.declared.Walk.the-variants.{Ended, Stopped}
-use Rattle.coeff_walk.specs.Walk.{Walked, ended, stopped}
+use Rattle.coeff_walk.specs.declared.WalkEnd.{WalkEnd}
+use Rattle.coeff_walk.specs.declared.WalkEnd.the-variants.{Done, Stopped}
+use Rattle.coeff_walk.specs.Walk.{Walked, done, stopped}
 use Rattle.coeff_walk.specs.laws.Outcome.{isStopped, answerOf, logOf, gridOf}
 use Rattle.coeff_walk.specs.Item.{Item, newRow, countOver, countCluster, counted}
 use Rattle.coeff_walk.specs.declared.shape.Shape.{Shape}
@@ -22,18 +22,18 @@ use Rattle.order_natural.specs.laws.Flat.{length-paired}
 use Rattle.coeff_walk.specs.laws.PlaceLaws.{length-places}
 use Rattle.coeff_walk.specs.laws.Items.{itemAt, ItemReady, counted-15, counted-16}
 use Rattle.coeff_walk.specs.laws.Kept.{KeptBy, counted-kept}
-use Rattle.coeff_group.specs.Group.{Grids, Reading, going, after, item}
+use Rattle.coeff_group.specs.Group.{Grids, Reading, going, after, readItem}
 use Rattle.coeff_group.specs.laws.Steps.{InGrid, rowBy, Shown}
 use Rattle.coeff_group.specs.laws.Plans.{inChannel, itemBy, channelWalked, Planned}
 use Rattle.coeff_group.specs.declared.plan.Plan.{Plan}
 use Rattle.order_store.specs.Store.{stretch}
 
--- what the turn of the n-th channel walked hands back: how it ended, and its count over the varblock's blocks; whatever rows the reading
+-- what the reading of the n-th channel walked hands back: how it ended, and its count over the varblock's blocks; whatever rows the reading
 -- has for the other channels, and whatever was left over of the counts before
-pub record TurnShown (p : Plan) (group : Group) (clusters : ℕ) (presetMap store symbols : List ℕ) (at shift : ℕ) (rows : Grids) (log : List ℕ) (G : Grids) (n : ℕ) (w : Walk) (count : ℕ) (log₁ : List ℕ) (G₁ : Grids) : Type 0 where
+pub record ChannelShown (p : Plan) (group : Group) (clusters : ℕ) (presetMap store symbols : List ℕ) (at shift : ℕ) (rows : Grids) (log : List ℕ) (G : Grids) (n : ℕ) (w : WalkEnd) (count : ℕ) (log₁ : List ℕ) (G₁ : Grids) : Type 0 where
   pub shown : (R : Grids) (left : ℕ) → getD R (channelWalked n) [] ≡ getD rows (channelWalked n) []
       → Shown symbols (at + 64 * 2 ^ (p .shape .exponent)) w (rowBy R (channelWalked n) (p .shape .x) (p .shape .wide) count) log₁ G₁
-      (item shift clusters presetMap (itemBy p group store n (channelWalked n)) (going (drop at symbols) at log G R left))
+      (readItem shift clusters presetMap (itemBy p group store n (channelWalked n)) (going (drop at symbols) at log G R left))
 
 -- the channel's number decides nothing in its reading
 counted-in : (shift clusters : ℕ) (presetMap : List ℕ) (c : ℕ) (it : Item) (row us : List ℕ) (at : ℕ) (log g : List ℕ)
@@ -42,7 +42,7 @@ unfolding counted
 counted-in shift clusters presetMap c it row [] at log g = refl
 counted-in shift clusters presetMap c it row (n ∷ us) at log g = refl
 
-module _ (shift clusters : ℕ) (presetMap : List ℕ) (c : ℕ) (it : Item) (row symbols : List ℕ) (at : ℕ) (log : List ℕ) (G : Grids) (r : Walk) (log₁ : List ℕ) (G₁ : Grids)
+module _ (shift clusters : ℕ) (presetMap : List ℕ) (c : ℕ) (it : Item) (row symbols : List ℕ) (at : ℕ) (log : List ℕ) (G : Grids) (r : WalkEnd) (log₁ : List ℕ) (G₁ : Grids)
     (got : InGrid c G r log₁ G₁ (λ g. counted shift clusters presetMap it row (drop at symbols) at log g)) where
   abbrev w : Walked
   w = counted shift clusters presetMap it row (drop at symbols) at log (getD G c [])
@@ -68,10 +68,10 @@ module _ (shift clusters : ℕ) (presetMap : List ℕ) (c : ℕ) (it : Item) (ro
 
   module _ (most : ℕ) (R : Grids) (left : ℕ) (same : getD R c [] ≡ row) where
     abbrev stepped : Reading
-    stepped = item shift clusters presetMap (inChannel c it) (going (drop at symbols) at log G R left)
+    stepped = readItem shift clusters presetMap (inChannel c it) (going (drop at symbols) at log G R left)
 
     stepped-is : stepped ≡ after c G (set R c (newRow (inChannel c it) row (drop at symbols))) left w
-    unfolding item
+    unfolding readItem
     stepped-is = rw (same, counted-in shift clusters presetMap c it row (drop at symbols) at log (getD G c []))
 
     -- the walk stopped
@@ -79,7 +79,7 @@ module _ (shift clusters : ℕ) (presetMap : List ℕ) (c : ℕ) (it : Item) (ro
     item-stops e rows₁ = rw stepped-is (go w refl)
       where
         go : (x : Walked) → w ≡ x → Shown symbols most r rows₁ log₁ G₁ (after c G (set R c (newRow (inChannel c it) row (drop at symbols))) left x)
-        go (ended us at′ log′ g n) q = absurd (let a : r ≡ Ended at′ = got .answer ∙ ap answerOf q in let z : isStopped r ≡ false = ap isStopped a in let y : _≡_ {A = ℕ} 0 1 = cc in omega arith)
+        go (done us at′ log′ g n) q = absurd (let a : r ≡ Done at′ = got .answer ∙ ap answerOf q in let z : isStopped r ≡ false = ap isStopped a in let y : _≡_ {A = ℕ} 0 1 = cc in omega arith)
         go (stopped why at′ log′ g) q = record {
           it = record {
             answer = got .answer ∙ ap answerOf q;
@@ -89,18 +89,18 @@ module _ (shift clusters : ℕ) (presetMap : List ℕ) (c : ℕ) (it : Item) (ro
         }
 
     -- the walk ended: the row is rewritten
-    item-goes : isStopped r ≡ false → suc (length (it .places)) ≤ most - at → at ≤ most
+    item-goes : isStopped r ≡ false → suc (length (it .cells)) ≤ most - at → at ≤ most
         → Shown symbols most r (rowBy R c (it .x) (it .wide) (countOver (getD symbols at 0) (it .blocks))) log₁ G₁ stepped
     item-goes e room start = rw stepped-is (go w refl (counted-kept shift clusters presetMap it row (drop at symbols) at log (getD G c [])))
       where
         rows-are : set R c (newRow (inChannel c it) row (drop at symbols)) ≡ rowBy R c (it .x) (it .wide) (countOver (getD symbols at 0) (it .blocks))
         rows-are = rw (drop-cons symbols at 0 (read-count e .0), same)
 
-        go : (x : Walked) → w ≡ x → KeptBy (suc (length (it .places))) (drop at symbols) at log (getD G c []) x
+        go : (x : Walked) → w ≡ x → KeptBy (suc (length (it .cells))) (drop at symbols) at log (getD G c []) x
             → Shown symbols most r (rowBy R c (it .x) (it .wide) (countOver (getD symbols at 0) (it .blocks))) log₁ G₁ (after c G (set R c (newRow (inChannel c it) row (drop at symbols))) left x)
         go (stopped why at′ log′ g) q k =
             absurd (let a : r ≡ Stopped (why at′) = got .answer ∙ ap answerOf q in let z : isStopped r ≡ true = ap isStopped a in let y : _≡_ {A = ℕ} 0 1 = cc in omega arith)
-        go (ended us at′ log′ g n) q k =
+        go (done us at′ log′ g n) q k =
             let m = k .most in let f = k .read in
             record {
               it = record {
@@ -114,10 +114,10 @@ module _ (shift clusters : ℕ) (presetMap : List ℕ) (c : ℕ) (it : Item) (ro
             }
 
 -- an item has 63 places for each block
-item-size : (v : Shape) (width context : ℕ) (order : List ℕ) → length order ≡ 128 * 2 ^ (v .exponent) → length (itemAt v width context order .places) ≡ 63 * 2 ^ (v .exponent)
-item-size v width context order h =
+item-size : (v : Shape) (bw context : ℕ) (order : List ℕ) → length order ≡ 128 * 2 ^ (v .exponent) → length (itemAt v bw context order .cells) ≡ 63 * 2 ^ (v .exponent)
+item-size v bw context order h =
     let e = length-paired order in
-    length-places (v .turn) (8 * width) (8 * v .x) (8 * v .y) (drop (2 ^ (v .exponent)) (paired order)) ∙ length-drop (2 ^ (v .exponent)) (paired order) ∙ omega arith
+    length-places (v .turn) (8 * bw) (8 * v .x) (8 * v .y) (drop (2 ^ (v .exponent)) (paired order)) ∙ length-drop (2 ^ (v .exponent)) (paired order) ∙ omega arith
 
 -- channel c, walked n-th, by its list of the order
 module _ (p : Plan) (group : Group) (clusters : ℕ) (presetMap store symbols : List ℕ) (shift : ℕ) (planned : Planned p group clusters presetMap store shift) (n at : ℕ) (rows : Grids) (log : List ℕ) (G : Grids)
@@ -126,11 +126,11 @@ module _ (p : Plan) (group : Group) (clusters : ℕ) (presetMap store symbols : 
   K = 2 ^ (p .shape .exponent)
 
   long : length order ≡ 128 * K
-  long = rw eo (planned .places c below)
+  long = rw eo (planned .long c below)
 
   -- what the channel's walk is asked
-  pub turn-asks : (c < 3) × ItemReady (p .shape) (group .bw) (getD (p .contexts) n 0) clusters (length presetMap) (length order) at shift (length log)
-  turn-asks = (
+  pub channel-asks : (c < 3) × ItemReady (p .shape) (group .bw) (getD (p .«block_contexts») n 0) clusters (length presetMap) (length order) at shift (length log)
+  channel-asks = (
     below,
     record {
       left = planned .left;
@@ -140,38 +140,38 @@ module _ (p : Plan) (group : Group) (clusters : ℕ) (presetMap store symbols : 
       cluster = planned .cluster n hn;
       few = planned .few;
       entries = planned .entries;
-      places = long;
+      long = long;
       shifts = planned .shifts;
       room = room;
     },
   )
 
   abbrev it : Item
-  it = itemAt (p .shape) (group .bw) (getD (p .contexts) n 0) order
+  it = itemAt (p .shape) (group .bw) (getD (p .«block_contexts») n 0) order
 
   same-item : inChannel c it ≡ itemBy p group store n (channelWalked n)
   same-item = rw (eo, ec)
 
-  module _ (r : Walk) (log₁ : List ℕ) (G₁ : Grids) (got : InGrid c G r log₁ G₁ (λ g. counted shift clusters presetMap it (getD rows c []) (drop at symbols) at log g)) where
-    pub turn-count : isStopped r ≡ false → (at < length symbols) × (getD symbols at 0 ≤ 63 * K)
-    turn-count = read-count shift clusters presetMap c it (getD rows c []) symbols at log G r log₁ G₁ got
+  module _ (r : WalkEnd) (log₁ : List ℕ) (G₁ : Grids) (got : InGrid c G r log₁ G₁ (λ g. counted shift clusters presetMap it (getD rows c []) (drop at symbols) at log g)) where
+    pub channel-count : isStopped r ≡ false → (at < length symbols) × (getD symbols at 0 ≤ 63 * K)
+    channel-count = read-count shift clusters presetMap c it (getD rows c []) symbols at log G r log₁ G₁ got
 
     module _ (R : Grids) (left : ℕ) (same : getD R (channelWalked n) [] ≡ getD rows (channelWalked n) []) where
       here : getD R c [] ≡ getD rows c []
       here = rw ec same
 
     -- the reading stopped in this channel
-    pub turn-stops : isStopped r ≡ true → (count : ℕ) → TurnShown p group clusters presetMap store symbols at shift rows log G n r count log₁ G₁
-    turn-stops e count = record {
-      shown = λ R left same. subst (λ (i : Item). Shown symbols (at + 64 * K) r (rowBy R (channelWalked n) (p .shape .x) (p .shape .wide) count) log₁ G₁ (item shift clusters presetMap i (going (drop at symbols) at log G R left))) same-item
+    pub channel-stops : isStopped r ≡ true → (count : ℕ) → ChannelShown p group clusters presetMap store symbols at shift rows log G n r count log₁ G₁
+    channel-stops e count = record {
+      shown = λ R left same. subst (λ (i : Item). Shown symbols (at + 64 * K) r (rowBy R (channelWalked n) (p .shape .x) (p .shape .wide) count) log₁ G₁ (readItem shift clusters presetMap i (going (drop at symbols) at log G R left))) same-item
           (item-stops shift clusters presetMap c it (getD rows c []) symbols at log G r log₁ G₁ got (at + 64 * K) R left (here R left same) e (rowBy R (channelWalked n) (p .shape .x) (p .shape .wide) count));
     }
 
     -- the channel was read
-    pub turn-goes : isStopped r ≡ false → (count : ℕ) → count ≡ countOver (getD symbols at 0) K → TurnShown p group clusters presetMap store symbols at shift rows log G n r count log₁ G₁
-    turn-goes e count ev =
-        let l = item-size (p .shape) (group .bw) (getD (p .contexts) n 0) order long in
+    pub channel-goes : isStopped r ≡ false → (count : ℕ) → count ≡ countOver (getD symbols at 0) K → ChannelShown p group clusters presetMap store symbols at shift rows log G n r count log₁ G₁
+    channel-goes e count ev =
+        let l = item-size (p .shape) (group .bw) (getD (p .«block_contexts») n 0) order long in
         record {
-          shown = λ R left same. subst (λ (i : Item). Shown symbols (at + 64 * K) r (rowBy R (channelWalked n) (p .shape .x) (p .shape .wide) count) log₁ G₁ (item shift clusters presetMap i (going (drop at symbols) at log G R left))) same-item
+          shown = λ R left same. subst (λ (i : Item). Shown symbols (at + 64 * K) r (rowBy R (channelWalked n) (p .shape .x) (p .shape .wide) count) log₁ G₁ (readItem shift clusters presetMap i (going (drop at symbols) at log G R left))) same-item
               (rw (ev, ← ec) (item-goes shift clusters presetMap c it (getD rows c []) symbols at log G r log₁ G₁ got (at + 64 * K) R left (here R left same) e (omega (arith, pow-pos (p .shape .exponent))) (omega arith)));
         }

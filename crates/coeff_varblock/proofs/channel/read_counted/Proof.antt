@@ -7,12 +7,12 @@ use Rattle.coeff_walk.specs.Item.{predicted, countIndex}
 use Rattle.coeff_walk.specs.laws.Outcome.{ends}
 use borrow.Author.Needs.{needs}
 use native.Mathlib.Omega.{arith}
-use lib.ListN.{getD, length-set}
-use Rattle.coeff_varblock.proofs.channel.read_channel.Statement.{statement}
-use Rattle.coeff_varblock.proofs.channel.read_channel.Tie as tie
+use lib.ListN.{length-set}
+use Rattle.coeff_varblock.proofs.channel.read_counted.Statement.{statement}
+use Rattle.coeff_varblock.proofs.channel.read_counted.Tie as tie
 
 returns : tie.Need-returns
-returns c = let a = c .before .before .before .before .before .before .args in ends _ _ _ (counted-15 (a .shift) (a .clusters) (a .preset-map .now) (itemAt (a .v) (a .width) (a .context) (a .order .now)) (a .row .now) (a .symbols .now) (a .at) (a .log .now) (a .grid .now) (omega arith)) refl
+returns c = let a = c .before .before .before .before .before .before .args in ends _ _ _ (counted-15 (a .shift) (a .clusters) (a .preset-map .now) (itemAt (a .v) (a .bw) (a .block-context) (a .list .now)) (a .row .now) (a .symbols .now) (a .at) (a .log .now) (a .grid .now) (omega arith)) refl
 
 mul-to-usize : tie.Need-mul-to-usize
 mul-to-usize c = search needs
@@ -38,13 +38,13 @@ same-length c = search needs
 returns-2 : tie.Need-returns-2
 returns-2 c =
     let a = c .before .before .before .before .before .before .before .before .before .before .args in
-    rw (c .before .count-cluster .ensures) (ends _ _ _ (counted-none (a .shift) (a .clusters) (a .preset-map .now) (itemAt (a .v) (a .width) (a .context) (a .order .now)) (a .row .now) (a .symbols .now) (a .at) (a .log .now) (a .grid .now) (omega arith) (sym (c .before .before .to-usize .ensures) ∙ c .if2 .taken)) refl)
+    rw (c .before .count-cluster .ensures) (ends _ _ _ (counted-none (a .shift) (a .clusters) (a .preset-map .now) (itemAt (a .v) (a .bw) (a .block-context) (a .list .now)) (a .row .now) (a .symbols .now) (a .at) (a .log .now) (a .grid .now) (omega arith) (sym (c .before .before .to-usize .ensures) ∙ c .if2 .taken)) refl)
 
 spot-of-requires : tie.Need-spot-of-requires
 spot-of-requires c κs = let r = c .before .before .before .before .before .before .before .before .before .before .pre in (r .left, r .top, r .across)
 
-is-few-requires : tie.Need-is-few-requires
-is-few-requires c κs = c .before .before .before .before .before .before .before .before .before .before .before .pre .exponent
+first-prev-requires : tie.Need-first-prev-requires
+first-prev-requires c κs = c .before .before .before .before .before .before .before .before .before .before .before .pre .exponent
 
 shl-low : tie.Need-shl-low
 shl-low c = search needs
@@ -97,11 +97,11 @@ returns-3 c =
     let u = c .before .before .before .before .before .before .before .before .before .before .before .before .before .before .before .before .if1 .left in
     handed-by _ _ _ _ _ (c .before .before .before .before .read-places .ensures)
     (rw (c .before .before .before .before .before .before .before .before .before .before .before .spot-of .ensures, c .before .before .before .before .before .before .before .before .before .before .before .before .before .count-cluster .ensures)
-    (channel-goes (a .v) (a .width) (a .context) (a .clusters) (a .preset-map .now) (a .order .now) (a .row .now) (a .symbols .now) (a .at) (a .shift) (a .log .now) (a .grid .now) (2 * 2 ^ (a .v .exponent) % 2 ^ 64) (a .context * 458 + 37 * a .clusters) (a .context * 458 + 37 * a .clusters + 458) (a .at + 1) (c .before .before .before .before .before .before .before .before .before .before .before .before .before .before .to-usize .result) (a .context + countIndex (predicted (a .row .now) (a .v .x) (a .v .y)) * a .clusters) (c .before .before .before .before .before .before .before .before .before .before .is-few .result)
-    (c .before .before .before .before .before .before .before .before .before .before .before .before .before .before .before .before .before .before .before .before .before .before .pre) (shifted-left 2 (a .v .exponent) (omega arith) (c .before .before .before .before .before .before .before .before .before .before .before .before .before .before .before .before .before .before .before .before .before .before .pre .exponent)) refl refl refl (omega arith) (c .before .before .before .before .before .before .before .before .before .before .before .before .before .before .to-usize .ensures) (c .before .before .before .before .before .before .before .before .before .before .is-few .ensures) refl))
+    (channel-goes (a .v) (a .bw) (a .block-context) (a .clusters) (a .preset-map .now) (a .list .now) (a .row .now) (a .symbols .now) (a .at) (a .shift) (a .log .now) (a .grid .now) (2 * 2 ^ (a .v .exponent) % 2 ^ 64) (a .block-context * 458 + 37 * a .clusters) (a .block-context * 458 + 37 * a .clusters + 458) (a .at + 1) (c .before .before .before .before .before .before .before .before .before .before .before .before .before .before .to-usize .result) (a .block-context + countIndex (predicted (a .row .now) (a .v .x) (a .v .y)) * a .clusters) (c .before .before .before .before .before .before .before .before .before .before .first-prev .result)
+    (c .before .before .before .before .before .before .before .before .before .before .before .before .before .before .before .before .before .before .before .before .before .before .pre) (shifted-left 2 (a .v .exponent) (omega arith) (c .before .before .before .before .before .before .before .before .before .before .before .before .before .before .before .before .before .before .before .before .before .before .pre .exponent)) refl refl refl (omega arith) (c .before .before .before .before .before .before .before .before .before .before .before .before .before .before .to-usize .ensures) (c .before .before .before .before .before .before .before .before .before .before .first-prev .ensures) refl))
 
-pub read-channel-spec : {M : Type 1} → statement M
-read-channel-spec =
+pub read-counted-spec : {M : Type 1} → statement M
+read-counted-spec =
     tie.close
     (tie.spec
     returns
@@ -114,7 +114,7 @@ read-channel-spec =
     same-length
     returns-2
     spot-of-requires
-    is-few-requires
+    first-prev-requires
     shl-low
     mul-begin
     mul-begin-2

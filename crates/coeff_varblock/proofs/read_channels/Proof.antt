@@ -1,17 +1,17 @@
 use mathlib.Core.Bool.{true≢false}
 use mathlib.Core.List.{[], _∷_}
 use Prim.Native.Nat.{ℕ, _<_, _≤_, _-_, _+_, _*_, _^_}
-use mathlib.Core.Path.{refl, _≡_, _∙_, ap, sym}
+use mathlib.Core.Path.{refl, _≡_, _∙_, sym}
 use native.Mathlib.Omega.{arith}
 use borrow.Author.Needs.{needs}
-use lib.ListN.{length, drop, set, length-set}
-use Rattle.coeff_walk.specs.declared.Walk.the-variants.{Ended}
-use Rattle.coeff_group.specs.Group.{Reading, going, read}
+use lib.ListN.{length, drop, length-set}
+use Rattle.coeff_walk.specs.declared.WalkEnd.the-variants.{Done}
+use Rattle.coeff_group.specs.Group.{Reading, going, readItems}
 use Rattle.coeff_group.specs.laws.Rewritten.{three, rewritten, counts-none, counts-read}
 use Rattle.coeff_group.specs.laws.Plans.{itemsBy}
-use Rattle.coeff_group.specs.laws.Turns.{TurnsDue, turns-start, turns-end, turns-room, turns-stop, turns-go}
-use Rattle.coeff_varblock.proofs.read_turns.Statement.{statement}
-use Rattle.coeff_varblock.proofs.read_turns.Tie as tie
+use Rattle.coeff_group.specs.laws.Channels.{ChannelsDue, channels-start, channels-end, channels-room, channels-stop, channels-go}
+use Rattle.coeff_varblock.proofs.read_channels.Statement.{statement}
+use Rattle.coeff_varblock.proofs.read_channels.Tie as tie
 
 abbrev Inv-loop : tie.InvT-loop
 Inv-loop lists plan group clusters preset-map store symbols at shift rows log₀ g0₀ g1₀ g2₀ counts₀ at₀ n₀ log g0 g1 g2 counts at' n =
@@ -21,7 +21,7 @@ Inv-loop lists plan group clusters preset-map store symbols at shift rows log₀
     × (length g2 ≡ length g2₀)
     × (n ≤ 3)
     × (length counts ≡ 3)
-    × ((left : ℕ) → TurnsDue plan group clusters preset-map store symbols at shift (read shift clusters preset-map (itemsBy plan group store) (going (drop at symbols) at log₀ (g0₀ ∷ g1₀ ∷ g2₀ ∷ []) (three rows) left)) n at' (rewritten plan counts rows n) log (g0 ∷ g1 ∷ g2 ∷ []))
+    × ((left : ℕ) → ChannelsDue plan group clusters preset-map store symbols at shift (readItems shift clusters preset-map (itemsBy plan group store) (going (drop at symbols) at log₀ (g0₀ ∷ g1₀ ∷ g2₀ ∷ []) (three rows) left)) n at' (rewritten plan counts rows n) log (g0 ∷ g1 ∷ g2 ∷ []))
 
 abbrev μ-loop : tie.MeasureT-loop
 μ-loop lists plan group clusters preset-map store symbols at shift rows log₀ g0₀ g1₀ g2₀ counts₀ at₀ n₀ log g0 g1 g2 counts at' n = 3 - n
@@ -33,21 +33,21 @@ less n h = omega arith
 abbrev wholeAt : tie.Start Inv-loop μ-loop → ℕ → Reading
 wholeAt c left =
     let a = c .args in
-    read (a .shift) (a .clusters) (a .preset-map .now) (itemsBy (a .plan) (a .group) (a .store .now))
+    readItems (a .shift) (a .clusters) (a .preset-map .now) (itemsBy (a .plan) (a .group) (a .store .now))
     (going (drop (a .at) (a .symbols .now)) (a .at) (a .log .now) (a .g0 .now ∷ a .g1 .now ∷ a .g2 .now ∷ []) (three (a .rows .now)) left)
 
 loop-holds : tie.Need-loop-holds Inv-loop μ-loop
 loop-holds c =
     let a = c .before .before .before .before .before .before .before .args in
-    (refl, refl, refl, refl, omega arith, refl, λ left. turns-start (a .plan) (a .group) (a .clusters) (a .preset-map .now) (a .store .now) (a .symbols .now) (a .at) (a .shift) (a .rows .now) (a .log .now) (a .g0 .now ∷ a .g1 .now ∷ a .g2 .now ∷ []) left)
+    (refl, refl, refl, refl, omega arith, refl, λ left. channels-start (a .plan) (a .group) (a .clusters) (a .preset-map .now) (a .store .now) (a .symbols .now) (a .at) (a .shift) (a .rows .now) (a .log .now) (a .g0 .now ∷ a .g1 .now ∷ a .g2 .now ∷ []) left)
 
-read-turn-requires : tie.Need-read-turn-requires Inv-loop μ-loop
-read-turn-requires c κs =
+read-channel-requires : tie.Need-read-channel-requires Inv-loop μ-loop
+read-channel-requires c κs =
     let s = c .before .before .before .before .before .before .before .before .before .before .before .before .before in
     let a = s .args in
     let l = c .before .before .before .before .before .loop in
     let left : ℕ = 0 in
-    (c .before .before .before .before .loop-test .taken, s .pre .0, s .pre .1, rw (l .inv .0) (turns-room (a .plan) (a .group) (a .clusters) (a .preset-map .now) (a .store .now) (a .symbols .now) (a .at) (a .shift) (wholeAt s left) (l .n) (l .at) (l .counts) (a .rows .now) (l .log) (l .g0 ∷ l .g1 ∷ l .g2 ∷ []) (l .inv .6 left) (c .before .before .before .before .loop-test .taken) (length (a .log .now)) (s .pre .2)))
+    (c .before .before .before .before .loop-test .taken, s .pre .0, s .pre .1, rw (l .inv .0) (channels-room (a .plan) (a .group) (a .clusters) (a .preset-map .now) (a .store .now) (a .symbols .now) (a .at) (a .shift) (wholeAt s left) (l .n) (l .at) (l .counts-over) (a .rows .now) (l .log) (l .g0 ∷ l .g1 ∷ l .g2 ∷ []) (l .inv .6 left) (c .before .before .before .before .loop-test .taken) (length (a .log .now)) (s .pre .2)))
 
 is-stopped-requires : tie.Need-is-stopped-requires Inv-loop μ-loop
 is-stopped-requires c κs = tt
@@ -69,10 +69,10 @@ returns c =
     let s = c .before .before .before .before .before .before .before .before .before .before .before .before .before .before .before .before .before .before .before .before .before .before .before .before in
     let a = s .args in
     let l = c .before .before .before .before .before .before .before .before .before .before .before .before .before .before .before .before .loop in
-    let w = c .before .before .before .before .before .before .before .before .before .before .read-turn in
+    let w = c .before .before .before .before .before .before .before .before .before .before .read-channel in
     let z = w .last .1 .1 .1 .1 .1 .1 .1 .1 .1 .1 .1 in
     λ left.
-    let t = turns-stop (a .plan) (a .group) (a .clusters) (a .preset-map .now) (a .store .now) (a .symbols .now) (a .at) (a .shift) (wholeAt s left) (l .n) (l .at) (l .counts) (a .rows .now) (l .log) (l .g0 ∷ l .g1 ∷ l .g2 ∷ []) (l .inv .6 left) (c .before .before .before .before .before .before .before .before .before .before .before .before .before .before .before .loop-test .taken) (w .result .walk) (w .result .count) (z .0) (z .1 .0 ∷ z .1 .1 .0 ∷ z .1 .1 .1 .0 ∷ []) (w .ensures) (sym (c .before .is-stopped .ensures) ∙ c .if1 .taken) (a .at + 192 * 2 ^ (a .plan .shape .exponent)) (rewritten (a .plan) (0 ∷ 0 ∷ 0 ∷ []) (a .rows .now) 3) in
+    let t = channels-stop (a .plan) (a .group) (a .clusters) (a .preset-map .now) (a .store .now) (a .symbols .now) (a .at) (a .shift) (wholeAt s left) (l .n) (l .at) (l .counts-over) (a .rows .now) (l .log) (l .g0 ∷ l .g1 ∷ l .g2 ∷ []) (l .inv .6 left) (c .before .before .before .before .before .before .before .before .before .before .before .before .before .before .before .loop-test .taken) (w .result .walk) (w .result .«count_over») (z .0) (z .1 .0 ∷ z .1 .1 .0 ∷ z .1 .1 .1 .0 ∷ []) (w .ensures) (sym (c .before .is-stopped .ensures) ∙ c .if1 .taken) (a .at + 192 * 2 ^ (a .plan .shape .exponent)) (rewritten (a .plan) (0 ∷ 0 ∷ 0 ∷ []) (a .rows .now) 3) in
     record {
       shown = t;
       none = λ stops. refl;
@@ -82,11 +82,11 @@ returns c =
 channel-walked-requires : tie.Need-channel-walked-requires Inv-loop μ-loop
 channel-walked-requires c κs = c .before .before .before .before .before .before .before .before .before .before .before .before .before .before .before .loop-test .taken
 
-mul-counts : tie.Need-mul-counts Inv-loop μ-loop
-mul-counts c = let k = c .channel-walked .ensures .0 in search needs
+mul-counts-over : tie.Need-mul-counts-over Inv-loop μ-loop
+mul-counts-over c = let k = c .channel-walked .ensures .0 in search needs
 
-array-write-counts : tie.Need-array-write-counts Inv-loop μ-loop
-array-write-counts c = c .channel-walked .ensures .0
+array-write-counts-over : tie.Need-array-write-counts-over Inv-loop μ-loop
+array-write-counts-over c = c .channel-walked .ensures .0
 
 symbols-read-requires : tie.Need-symbols-read-requires Inv-loop μ-loop
 symbols-read-requires c κs = tt
@@ -102,15 +102,15 @@ loop-again c =
     let s = c .before .before .before .before .before .before .before .before .before .before .before .before .before .before .before .before .before .before .before .before .before .before .before .before .before .before in
     let a = s .args in
     let l = c .before .before .before .before .before .before .before .before .before .before .before .before .before .before .before .before .before .before .loop in
-    let w = c .before .before .before .before .before .before .before .before .before .before .before .before .read-turn in
+    let w = c .before .before .before .before .before .before .before .before .before .before .before .before .read-channel in
     let z = w .last .1 .1 .1 .1 .1 .1 .1 .1 .1 .1 .1 in (
       c .before .before .before .before .before .before .before .before .before .before .before .log .given ∙ l .inv .0,
       c .before .before .before .before .before .before .before .before .before .g0 .given ∙ l .inv .1,
       c .before .before .before .before .before .before .before .g1 .given ∙ l .inv .2,
       c .before .before .before .before .before .g2 .given ∙ l .inv .3,
       omega (arith, c .before .before .before .before .before .before .before .before .before .before .before .before .before .before .before .before .before .loop-test .taken),
-      length-set (l .counts) (c .before .channel-walked .result) (w .result .count) ∙ l .inv .5,
-      λ left. turns-go (a .plan) (a .group) (a .clusters) (a .preset-map .now) (a .store .now) (a .symbols .now) (a .at) (a .shift) (wholeAt s left) (l .n) (l .at) (l .counts) (a .rows .now) (l .log) (l .g0 ∷ l .g1 ∷ l .g2 ∷ []) (l .inv .6 left) (c .before .before .before .before .before .before .before .before .before .before .before .before .before .before .before .before .before .loop-test .taken) (w .result .walk) (w .result .count) (z .0) (z .1 .0 ∷ z .1 .1 .0 ∷ z .1 .1 .1 .0 ∷ []) (w .ensures) (sym (c .before .before .before .is-stopped .ensures) ∙ c .before .before .if1 .left) (c .symbols-read .result) (c .before .channel-walked .result) _ (c .symbols-read .ensures) (l .inv .5) (c .before .channel-walked .ensures .1) refl,
+      length-set (l .counts-over) (c .before .channel-walked .result) (w .result .«count_over») ∙ l .inv .5,
+      λ left. channels-go (a .plan) (a .group) (a .clusters) (a .preset-map .now) (a .store .now) (a .symbols .now) (a .at) (a .shift) (wholeAt s left) (l .n) (l .at) (l .counts-over) (a .rows .now) (l .log) (l .g0 ∷ l .g1 ∷ l .g2 ∷ []) (l .inv .6 left) (c .before .before .before .before .before .before .before .before .before .before .before .before .before .before .before .before .before .loop-test .taken) (w .result .walk) (w .result .«count_over») (z .0) (z .1 .0 ∷ z .1 .1 .0 ∷ z .1 .1 .1 .0 ∷ []) (w .ensures) (sym (c .before .before .before .is-stopped .ensures) ∙ c .before .before .if1 .left) (c .symbols-read .result) (c .before .channel-walked .result) _ (c .symbols-read .ensures) (l .inv .5) (c .before .channel-walked .ensures .1) refl,
     )
 
 same-length-5 : tie.Need-same-length-5 Inv-loop μ-loop
@@ -131,21 +131,21 @@ returns-2 c =
     let a = s .args in
     let l = c .before .loop in
     λ left.
-    let t = turns-end (a .plan) (a .group) (a .clusters) (a .preset-map .now) (a .store .now) (a .symbols .now) (a .at) (a .shift) (wholeAt s left) (l .n) (l .at) (l .counts) (a .rows .now) (l .log) (l .g0 ∷ l .g1 ∷ l .g2 ∷ []) (l .inv .6 left) (omega (arith, l .inv .4)) in
+    let t = channels-end (a .plan) (a .group) (a .clusters) (a .preset-map .now) (a .store .now) (a .symbols .now) (a .at) (a .shift) (wholeAt s left) (l .n) (l .at) (l .counts-over) (a .rows .now) (l .log) (l .g0 ∷ l .g1 ∷ l .g2 ∷ []) (l .inv .6 left) (omega (arith, l .inv .4)) in
     record {
       shown = t;
       none = λ stops. absurd (true≢false (sym stops));
-      counted = λ long. counts-read (a .plan) (a .symbols .now) (a .at + 192 * 2 ^ (a .plan .shape .exponent)) (Ended (l .at)) (l .log) (l .g0 ∷ l .g1 ∷ l .g2 ∷ []) (l .counts) (a .rows .now) (s .pre .1 .some) long (wholeAt s left) (l .inv .5) t refl;
+      counted = λ long. counts-read (a .plan) (a .symbols .now) (a .at + 192 * 2 ^ (a .plan .shape .exponent)) (Done (l .at)) (l .log) (l .g0 ∷ l .g1 ∷ l .g2 ∷ []) (l .counts-over) (a .rows .now) (s .pre .1 .some) long (wholeAt s left) (l .inv .5) t refl;
     }
 
-pub read-turns-spec : {M : Type 1} → statement M
-read-turns-spec =
+pub read-channels-spec : {M : Type 1} → statement M
+read-channels-spec =
     tie.close
     (tie.spec
     Inv-loop
     μ-loop
     loop-holds
-    read-turn-requires
+    read-channel-requires
     is-stopped-requires
     same-length
     same-length-2
@@ -153,8 +153,8 @@ read-turns-spec =
     same-length-4
     returns
     channel-walked-requires
-    mul-counts
-    array-write-counts
+    mul-counts-over
+    array-write-counts-over
     symbols-read-requires
     add-n
     loop-less
