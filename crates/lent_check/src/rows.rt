@@ -8,8 +8,8 @@ ghost use lib.Dec.{ltb};
 ghost use lib.ListN.{length, getD};
 ghost use Rattle.layout.specs.Kinds.{wideOf, highOf};
 ghost use Rattle.layout.specs.Walk.{cells};
-ghost use Rattle.layout.specs.Grid.{blockAt, fillFrom};
-ghost use Rattle.layout.specs.Check.{Fault, Until, clear, fitting};
+ghost use Rattle.layout.specs.Grid.{blockAt};
+ghost use Rattle.layout.specs.Check.{Fault, Until, fitting};
 ghost use Rattle.lent_sides.specs.laws.Sizes.{widths, heights};
 ghost use Rattle.lent_check.specs.laws.Flaws.{flagOf};
 ghost use Rattle.lent_check.specs.laws.Sorts.{withinOf, largerOf};
@@ -37,7 +37,7 @@ fn most(a: u8, b: u8) -> u8
 }
 
 // The first four of n columns from x on, which must be clear, now have depth v. No branch hangs on how many there are, which
-// cannot be guessed; most corners have no more than four.
+// cannot be guessed; most corners have no more than four. Three columns beyond the last are there to be looked at with it.
 fn claim_four(depth: &mut [u8; 259], x: usize, n: usize, v: u8) -> bool
     requires { ⌜ x < 256 ⌝ }
     ensures { λ r. ⌜ cond r (claimed (now (depth .exit)) (x + 4) (n - 4) v) Fault ≡ claimed (now (depth .entry)) x n v ⌝ }

@@ -14,7 +14,7 @@ use Rattle.layout.specs.Kinds.{wideOf, highOf}
 use Rattle.layout.specs.Walk.{cells, rows}
 use Rattle.layout.specs.Grid.{blockAt, fillFrom}
 use Rattle.layout.specs.laws.Grid.{length-fill, fill-left, fill-in, fill-right}
-use Rattle.layout.specs.Valid.{Cells, Fits}
+use Rattle.layout.specs.Valid.{Cells}
 use Rattle.layout.specs.Check.{Covering, Fault, Until, passes, clear, fitting, visitCell, visit, checkRun, isLayout}
 use Rattle.layout.specs.laws.CheckLaws.{fitting-fits, visit-not-one, visit-one, visit-small, visit-unfit, visit-unclear, visit-raised}
 use Rattle.lent_check.specs.laws.Sorts.{wide-some}

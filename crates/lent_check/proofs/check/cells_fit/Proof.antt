@@ -1,6 +1,6 @@
 use mathlib.Core.Path.{_≡_, _∙_, ap, sym, refl}
 use mathlib.Core.Bool.{true}
-use Prim.Native.Nat.{ℕ, _≤_, _-_, _+_, _*_}
+use Prim.Native.Nat.{_≤_, _-_, _+_, _*_}
 use native.Mathlib.Nat.{mul-le-mul}
 use lib.ListN.{length}
 use borrow.Author.Tests.{not-true, not-false}
@@ -9,9 +9,9 @@ use borrow.Author.Needs.{needs}
 use Rattle.dct_select.specs.Transforms.{TRANSFORMS}
 use Rattle.layout.specs.Walk.{cells}
 use Rattle.layout.specs.Grid.{blockAt}
-use Rattle.layout.specs.Check.{Fault, Until, isLayout}
+use Rattle.layout.specs.Check.{Until, isLayout}
 use Rattle.lent_sides.specs.laws.Sizes.{widths, heights}
-use Rattle.lent_check.specs.laws.Flaws.{isSound, sound-kinds, sound-cells, unsound}
+use Rattle.lent_check.specs.laws.Flaws.{isSound, sound-cells, unsound}
 use Rattle.lent_check.specs.laws.Steps.{place, close}
 use Rattle.lent_check.specs.laws.Rows.{rowsLeft, rows-start, rows-finish, row-next, row-stop, close-fault, told-good, told-bad}
 use Rattle.lent_check.proofs.check.cells_fit.Statement.{statement}

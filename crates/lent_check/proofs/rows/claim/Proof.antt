@@ -1,6 +1,5 @@
 use mathlib.Core.Path.{_≡_, _∙_, ap, sym, refl}
-use Prim.Native.Nat.{ℕ, _≤_, _-_, _+_}
-use lib.ListN.{getD}
+use Prim.Native.Nat.{ℕ, _-_, _+_}
 use borrow.Author.Tests.{not-true, not-false}
 use native.Mathlib.Omega.{arith}
 use borrow.Author.Needs.{needs}

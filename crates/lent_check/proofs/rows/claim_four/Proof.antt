@@ -1,11 +1,10 @@
 use mathlib.Core.Path.{_≡_, _∙_, ap, sym}
 use mathlib.Core.Bool.{cond}
 use Prim.Native.Nat.{ℕ, _≤_, _-_, _+_, max}
-use lib.Dec.{ltb, eqb}
+use lib.Dec.{ltb}
 use lib.ListN.{getD, set}
 use native.Mathlib.Omega.{arith}
 use borrow.Author.Needs.{needs}
-use Rattle.layout.specs.Check.{Covering, Fault}
 use Rattle.lent_check.specs.laws.Claims.{claimed, claiming, first-start, first-next}
 use Rattle.lent_check.proofs.rows.claim_four.Statement.{statement}
 use Rattle.lent_check.proofs.rows.claim_four.Tie as tie

@@ -7,7 +7,7 @@ use native.Mathlib.Omega.{arith}
 use borrow.Author.Needs.{needs}
 use Rattle.layout.specs.Walk.{cells}
 use Rattle.layout.specs.Grid.{blockAt}
-use Rattle.layout.specs.Check.{Covering, Until}
+use Rattle.layout.specs.Check.{Until}
 use Rattle.lent_check.specs.laws.Steps.{gapOf, close}
 use Rattle.lent_check.specs.laws.Closing.{closing, close-start, close-next, close-end}
 use Rattle.lent_check.proofs.rows.close_row.Statement.{statement}

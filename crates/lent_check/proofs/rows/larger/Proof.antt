@@ -1,6 +1,6 @@
 use borrow.Author.Tests.{eq-eqb, ne-eqb}
 use native.Mathlib.Omega.{arith}
-use Prim.Native.Nat.{ℕ, _+_}
+use Prim.Native.Nat.{_+_}
 use borrow.Author.Needs.{needs}
 use Rattle.lent_check.specs.laws.Sorts.{withinOf, largerOf}
 use Rattle.lent_check.proofs.rows.larger.Statement.{statement}
