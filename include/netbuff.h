@@ -25,17 +25,31 @@
  * the first that is met is given.
  *
  * LISTS. A list is a pointer and the number of its elements. Every length is allowed: one that does
- * not fit is refused. A list of no elements may have any pointer that is aligned and not null.
+ * not fit is refused. A length fits when it is the one that the call names ("Lengths that fit"), or
+ * at least that where it says so; each has a function or a constant below. Bytes, columns and
+ * symbols may have any length. A list of no elements may have any pointer that is aligned and not
+ * null.
  *
  * WHAT THE CALLER SEES TO. Every pointer is valid, not null and aligned for its type, that of a
  * list for all its elements. What a call writes overlaps nothing else that is lent to it. What it
  * only reads may overlap. A bool is 0 or 1. Filter strengths are computed in the floating-point
  * environment that a C program starts with: rounding to nearest, nothing flushed to zero.
  *
- * BLOCKS AND CELLS. A block is 8 x 8 cells (pixels). Lists with one place for each block are row by
- * row: block (x, y) of a grid bw blocks wide stands at y * bw + x. A coefficient grid of bw x bh
- * blocks has rows of 8 * bw cells: cell (x, y) stands at y * 8 * bw + x. A varblock is a rectangle
- * of blocks with one transform; its corner is its first block.
+ * WORDS. A block is 8 x 8 pixels. An LF group is a part of a frame, at most 2,048 pixels each way; a
+ * pass group is a part of an LF group, at most 32 blocks each way. A varblock is a rectangle of
+ * blocks with one transform; its corner is its first block, at the upper left. A column is what a
+ * scan sends for a varblock: the number of its transform (type) and a mul; hf_mul is mul + 1. A
+ * symbol is a number as an entropy decoder gives it. Contexts that share a number are a cluster:
+ * block contexts a block cluster, contexts of coefficients one distribution that symbols are coded
+ * by. A cluster map has the cluster of each context, as it is decoded from the file; that of
+ * coefficients has a part for each preset, of which a pass group names one. An order (0 to 12, by
+ * the size of a varblock) has a list for each channel: the places within the varblock to which
+ * coefficients go, one after the other. Packed signed: see netbuff_unpack_signed.
+ *
+ * BLOCKS AND CELLS. Lists with one place for each block are row by row: block (x, y) of a grid bw
+ * blocks wide stands at y * bw + x. A cell is one entry of a coefficient grid, 8 x 8 of them for
+ * each block. A coefficient grid of bw x bh blocks has rows of 8 * bw cells: cell (x, y) stands at
+ * y * 8 * bw + x.
  *
  * THREADS. A call keeps nothing. The library has no data that is written. Any number of calls may
  * run at the same time, if none writes what another one uses. No call allocates, locks, does input
@@ -117,7 +131,13 @@ enum {
     NETBUFF_REFUSALS_END /* one more than the largest number */
 };
 
-/* What a number means, in English, for messages. Any number has a text. */
+/*
+ * What a number means and what its position is, in English, for messages. Any number has a text.
+ *
+ *     printf("%s (%s: %zu, %zu)\n", netbuff_refusal_text(n), netbuff_position_text(n), x, y);
+ *
+ * prints "symbols end (symbols read, 0: 5, 0)", and "varblocks overlap (x, y: 0, 1)".
+ */
 static inline const char *netbuff_refusal_text(uint32_t number)
 {
     switch (number) {
@@ -130,6 +150,19 @@ static inline const char *netbuff_refusal_text(uint32_t number)
 #undef NETBUFF_TEXT
     default:
         return "no refusal of this version";
+    }
+}
+
+static inline const char *netbuff_position_text(uint32_t number)
+{
+    switch (number) {
+#define NETBUFF_POSITION(name, number, text, position)                                             \
+    case number:                                                                                   \
+        return position;
+        NETBUFF_REFUSALS(NETBUFF_POSITION)
+#undef NETBUFF_POSITION
+    default:
+        return "0, 0";
     }
 }
 
@@ -261,6 +294,12 @@ static inline size_t netbuff_group_bh(size_t bw, size_t bh, size_t index)
     return left < 32 ? left : 32;
 }
 
+/* Its blocks: the length of out_kinds and out_hf_mul of a cut. */
+static inline size_t netbuff_group_blocks(size_t bw, size_t bh, size_t index)
+{
+    return netbuff_group_bw(bw, bh, index) * netbuff_group_bh(bw, bh, index);
+}
+
 /* Cells of one coefficient grid of so many blocks. */
 static inline size_t netbuff_grid_length(size_t blocks)
 {
@@ -338,7 +377,8 @@ uint32_t netbuff_column_count(const uint8_t *bytes, size_t bytes_length, uint32_
  * refused. Surplus columns are accepted: *used receives how many were used.
  *
  * The filter: sigma of a block is multiplier * 65536 / scale / hf_mul * lookup[sharpness], in f32,
- * each step rounded once. multiplier and lookup are from -65,504 to 65,504, scale from 1 to 73,728.
+ * each step rounded once. multiplier (quant_mul of the edge-preserving filter) and lookup (its
+ * sharp_lut) are from -65,504 to 65,504, scale (global_scale of the quantizer) from 1 to 73,728.
  * With the filter off sigma is +0.0, and multiplier and sharpness numbers are not looked at;
  * lookup, scale and all lengths are checked still.
  *
@@ -461,7 +501,7 @@ bool netbuff_places_fit(const uint16_t *store, size_t store_length);
  * py), or (py, px) where the transform turns, it is cell (8 * x + px, 8 * y + py), for the corner
  * (x, y). Low-frequency cells are never touched. Surplus symbols and a count that is not used up
  * are accepted. *symbols_read receives the symbols read; log[i] receives the cluster that the map
- * names for symbol i.
+ * names for symbol i, to be held against the one by which the caller decoded it.
  *
  * Lengths that fit: bw * bh for kinds, hf_mul and each LF grid that is there;
  * NETBUFF_STORE_LENGTH for the store; 495 * num_block_clusters * presets (0 to 256) for the cluster

@@ -8,7 +8,7 @@ use lib.ListN.{length, getD, set}
 use lib.Seq.{getD-set-same, getD-set-other}
 use Rattle.coeff_walk.specs.declared.WalkEnd.{WalkEnd}
 use Rattle.coeff_walk.specs.laws.Outcome.{isStopped}
-use Rattle.coeff_walk.specs.Item.{rowOf}
+use Rattle.laws.specs.Lists.{fillFrom}
 use Rattle.coeff_group.specs.declared.plan.Plan.{Plan}
 use Rattle.coeff_group.specs.Group.{Grids, Reading, going, refused}
 use Rattle.coeff_group.specs.laws.Steps.{rowBy, Shown}
@@ -55,11 +55,13 @@ module _ (p : Plan) (counts : List ℕ) (rows : Grids) where
   row-joins (suc (suc (suc n))) v h e = absurd (omega arith)
 
 -- a number of a row before those that are rewritten, and the first of these
-row-before : (row : List ℕ) (x n v j : ℕ) → j < x → getD (rowOf row x n v) j 0 ≡ getD row j 0
+row-before : (row : List ℕ) (x n v j : ℕ) → j < x → getD (fillFrom row x n v) j 0 ≡ getD row j 0
+unfolding fillFrom
 row-before row x zero v j h = refl
 row-before row x (suc n) v j h = row-before (set row x v) (x + 1) n v j (omega arith) ∙ getD-set-other row x j v 0 (omega arith)
 
-row-first : (row : List ℕ) (x n v : ℕ) → 1 ≤ n → x < length row → getD (rowOf row x n v) x 0 ≡ v
+row-first : (row : List ℕ) (x n v : ℕ) → 1 ≤ n → x < length row → getD (fillFrom row x n v) x 0 ≡ v
+unfolding fillFrom
 row-first row x zero v h l = absurd (omega arith)
 row-first row x (suc n) v h l = row-before (set row x v) (x + 1) n v x (omega arith) ∙ getD-set-same row x v 0 l
 
@@ -70,7 +72,7 @@ module _ (p : Plan) (symbols : List ℕ) (most : ℕ) (w : WalkEnd) (log : List 
   counts-none rows (going us at log′ G′ rows′ left) s e = absurd (let f = s .it .answer in let z : _≡_ {A = Bool} true false = sym e ∙ ap isStopped f in true≢false z)
 
   module _ (counts : List ℕ) (rows : Grids) (some : 1 ≤ p .shape .wide) (inside : (c : ℕ) → c < 3 → p .shape .x < length (getD rows c [])) where
-    at-column : (c : ℕ) → c < 3 → getD (rowOf (getD rows c []) (p .shape .x) (p .shape .wide) (getD counts c 0)) (p .shape .x) 0 ≡ getD counts c 0
+    at-column : (c : ℕ) → c < 3 → getD (fillFrom (getD rows c []) (p .shape .x) (p .shape .wide) (getD counts c 0)) (p .shape .x) 0 ≡ getD counts c 0
     at-column c h = row-first (getD rows c []) (p .shape .x) (p .shape .wide) (getD counts c 0) some (inside c h)
 
     listed : (l : List ℕ) → length l ≡ 3 → l ≡ getD l 0 0 ∷ getD l 1 0 ∷ getD l 2 0 ∷ []
@@ -94,12 +96,12 @@ three-is (a ∷ b ∷ []) e = absurd (omega arith)
 three-is (a ∷ b ∷ c ∷ d ∷ l) e = absurd (omega arith)
 
 -- the three rows, rewritten one after the other
-pub rows-are : (p : Plan) (counts : List ℕ) (rows : Grids) → length rows ≡ 3 → (r₀ r₁ r₂ : List ℕ) → r₁ ≡ rowOf (getD rows 1 []) (p .shape .x) (p .shape .wide) (getD counts 1 0)
-    → r₀ ≡ rowOf (getD (set rows 1 r₁) 0 []) (p .shape .x) (p .shape .wide) (getD counts 0 0)
-    → r₂ ≡ rowOf (getD (set (set rows 1 r₁) 0 r₀) 2 []) (p .shape .x) (p .shape .wide) (getD counts 2 0)
+pub rows-are : (p : Plan) (counts : List ℕ) (rows : Grids) → length rows ≡ 3 → (r₀ r₁ r₂ : List ℕ) → r₁ ≡ fillFrom (getD rows 1 []) (p .shape .x) (p .shape .wide) (getD counts 1 0)
+    → r₀ ≡ fillFrom (getD (set rows 1 r₁) 0 []) (p .shape .x) (p .shape .wide) (getD counts 0 0)
+    → r₂ ≡ fillFrom (getD (set (set rows 1 r₁) 0 r₀) 2 []) (p .shape .x) (p .shape .wide) (getD counts 2 0)
     → set (set (set rows 1 r₁) 0 r₀) 2 r₂ ≡ rewritten p counts rows 3
 rows-are p counts rows f r₀ r₁ r₂ e₁ e₀ e₂ =
-    subst (λ (l : Grids). r₁ ≡ rowOf (getD l 1 []) (p .shape .x) (p .shape .wide) (getD counts 1 0)
-    → r₀ ≡ rowOf (getD (set l 1 r₁) 0 []) (p .shape .x) (p .shape .wide) (getD counts 0 0)
-    → r₂ ≡ rowOf (getD (set (set l 1 r₁) 0 r₀) 2 []) (p .shape .x) (p .shape .wide) (getD counts 2 0)
+    subst (λ (l : Grids). r₁ ≡ fillFrom (getD l 1 []) (p .shape .x) (p .shape .wide) (getD counts 1 0)
+    → r₀ ≡ fillFrom (getD (set l 1 r₁) 0 []) (p .shape .x) (p .shape .wide) (getD counts 0 0)
+    → r₂ ≡ fillFrom (getD (set (set l 1 r₁) 0 r₀) 2 []) (p .shape .x) (p .shape .wide) (getD counts 2 0)
     → set (set (set l 1 r₁) 0 r₀) 2 r₂ ≡ rewritten p counts rows 3) (three-is rows f) (λ a b d. rw (d, b, a)) e₁ e₀ e₂

@@ -45,7 +45,7 @@ unfolding itemsOf itemOf cellsOf paired natural cornersRow cornersFrom orderOf t
 items-compute = true
 
 unfoldable pub reading-computes : Bool
-unfolding items-compute readItems readItem counted walk coeffContext FREQ NUM-NONZERO unpackSigned contextsOf sizeOf above lfIndexIn placeOf
+unfolding items-compute readItems readItem counted fillFrom walk coeffContext FREQ NUM-NONZERO unpackSigned contextsOf sizeOf above lfIndexIn placeOf
 reading-computes = true
 
 unfoldable pub sequence-computes : Bool
