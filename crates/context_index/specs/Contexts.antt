@@ -4,6 +4,7 @@ use mathlib.Core.List.{List, [], _∷_}
 use Prim.Native.Nat.{ℕ, _+_, _*_, _%_, _^_}
 use lib.Dec.{ltb}
 use lib.ListN.{length, getD}
+use Rattle.context_record.specs.Record.{bsizeOf}
 
 -- Signed 32-bit numbers are given as their bit patterns.
 pub record Contexts : Type 0 where
@@ -22,6 +23,10 @@ sizeOf t0 t1 t2 = (length t0 + 1) * (length t1 + 1) * (length t2 + 1)
 
 abbrev pub lfSize : Contexts → ℕ
 lfSize C = sizeOf (C .lf0) (C .lf1) (C .lf2)
+
+-- bsize of these lists
+abbrev pub bsize : Contexts → ℕ
+bsize C = bsizeOf (length (C .lf0) ∷ length (C .lf1) ∷ length (C .lf2) ∷ length (C .qf) ∷ [])
 
 -- a > b as signed numbers (Bounds, greater-signed)
 abbrev pub greater : ℕ → ℕ → Bool

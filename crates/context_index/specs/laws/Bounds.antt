@@ -18,8 +18,7 @@ use borrow.Author.Tests.{lt-ltb, le-ltb}
 use Rattle.laws.specs.laws.Cases.{le-or-lt}
 use Rattle.context_record.specs.declared.HfBlockContext.{HfBlockContext}
 use Rattle.context_record.specs.laws.Bounds.{is-fit, fit-byte}
-use Rattle.context_index.specs.Contexts.{Contexts, sizeOf, lfSize, greater, above, qfIndex, lfIndexIn, lfIndex, lfIndexOf, entryOf, entryIn, blockContext}
-use Rattle.context_index.specs.laws.Contexts.{bsize}
+use Rattle.context_index.specs.Contexts.{Contexts, sizeOf, lfSize, greater, above, qfIndex, lfIndexIn, lfIndex, lfIndexOf, entryOf, entryIn, blockContext, bsize}
 use Rattle.context_index.specs.Lists.{inUse}
 use Rattle.context_record.specs.Record.{bsizeOf, fit}
 

@@ -9,7 +9,7 @@ use lib.ListN.{getD, set}
 use lib.Seq.{set-comm, getD-set-other}
 use Rattle.layout.specs.Kinds.{wideOf, highOf}
 use Rattle.layout.specs.Walk.{cells}
-use Rattle.layout.specs.Grid.{fillFrom}
+use Rattle.laws.specs.Lists.{fillFrom}
 use Rattle.layout.specs.laws.Grid.{fill-left}
 use Rattle.layout.specs.Valid.{Cells}
 use Rattle.layout.specs.Check.{Covering, Fault, Until, clear, fitting}

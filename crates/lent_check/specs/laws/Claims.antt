@@ -10,7 +10,7 @@ use lib.ListN.{getD, set}
 use lib.Seq.{set-getD}
 use borrow.Author.Tests.{le-leb, lt-leb, le-ltb, lt-ltb, ne-eqb}
 use Rattle.laws.specs.laws.Cases.{le-or-lt}
-use Rattle.layout.specs.Grid.{fillFrom}
+use Rattle.laws.specs.Lists.{fillFrom}
 use Rattle.layout.specs.Check.{Covering, Fault, Until, clear}
 use Rattle.layout.specs.laws.WalkSteps.{clear-step, clear-end, fill-step, fill-end}
 use Rattle.lent_check.specs.laws.Apart.{clear-set}

@@ -8,7 +8,8 @@ use lib.Dec.{ltb, leb, eqb}
 use lib.ListN.{length, getD, set, length-set, replicate}
 use Rattle.layout.specs.Kinds.{wideOf, highOf}
 use Rattle.layout.specs.Walk.{cells, rows}
-use Rattle.layout.specs.Grid.{blockAt, fillFrom}
+use Rattle.laws.specs.Lists.{fillFrom}
+use Rattle.layout.specs.Grid.{blockAt}
 use Rattle.layout.specs.laws.Grid.{length-fill}
 use Rattle.layout.specs.Valid.{Cells}
 use Rattle.layout.specs.Check.{Covering, Fault, Until, passes, clear, fitting, isLayout}

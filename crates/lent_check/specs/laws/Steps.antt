@@ -11,7 +11,7 @@ use lib.Seq.{set-set}
 use borrow.Author.Tests.{lt-ltb, le-ltb, le-leb, lt-leb, eq-eqb, ne-eqb}
 use Rattle.laws.specs.laws.Cases.{eq-or-ne, le-or-lt}
 use Rattle.layout.specs.Kinds.{wideOf, highOf}
-use Rattle.layout.specs.Grid.{fillFrom}
+use Rattle.laws.specs.Lists.{fillFrom}
 use Rattle.layout.specs.laws.Grid.{fill-in}
 use Rattle.layout.specs.Valid.{Cells}
 use Rattle.layout.specs.Check.{Covering, Fault, Until, clear, fitting}

@@ -11,7 +11,7 @@ use lib.Arith.{digits-lt}
 use lib.ListN.{length, getD, drop, List·getD-eq-default}
 use Rattle.dct_select.specs.Transforms.{wide, high, orderOf, turns, across, down}
 use Rattle.order_sizes.specs.BlockSizes.{widthOf, heightOf}
-use Rattle.order_natural.specs.Places.{ReadAt, paired}
+use Rattle.order_natural.specs.Places.{Place, paired}
 use Rattle.order_natural.specs.laws.Flat.{paired-flat}
 use Rattle.order_natural.specs.Order.{Order}
 use Rattle.layout.specs.Grid.{blockAt}
@@ -29,7 +29,7 @@ use Rattle.coeff_walk.specs.Item.{Item}
 use Rattle.coeff_group.specs.Group.{Grids}
 use Rattle.coeff_group.specs.Pass.{Pass, varblocks, blocksOf, cellsIn, itemOf, itemsOf}
 use Rattle.dct_select.specs.laws.Sides.{order-lt}
-use Rattle.one_to_one.specs.Filling.{gridCells, ReadAt as PlaceOf, LaidOut, Sized, Low, LowKept}
+use Rattle.one_to_one.specs.Filling.{gridCells, ReadAt, LaidOut, Sized, Low, LowKept}
 use Rattle.coeff_group.specs.laws.Cells.{Distinct, distinct-both, distinct-map, Fit, In}
 use Rattle.one_to_one.specs.laws.Spread.{Spread, spread-of, place-in, in-place, cell-row, cell-column, distinct-places}
 use Rattle.coeff_group.specs.Sequence.{cell, GridCell, readCells}
@@ -103,13 +103,13 @@ module _ (P : Pass) (lay : LaidOut P) (ord : Ordered P) where
     abbrev turn : Bool
     turn = turns (v .type)
 
-    abbrev rest : List ReadAt
+    abbrev rest : List Place
     rest = drop (blocksOf v) (paired (stretch (P .store) (orderOf (v .type)) c))
 
     pub spread : Spread turn (wide (v .type)) (high (v .type)) rest
     spread = spread-of (v .type) (known lay v i) (paired (stretch (P .store) (orderOf (v .type)) c)) (ord (orderOf (v .type)) c (order-lt (v .type) (known lay v i)) hc)
 
-    in-row : (q : ReadAt) → In q rest → 8 * v .x + across turn (q .0) (q .1) < 8 * P .bw
+    in-row : (q : Place) → In q rest → 8 * v .x + across turn (q .0) (q .1) < 8 * P .bw
     in-row q j = let a = spread .inside q j .0 in omega (arith, right lay v i)
 
     places-size : length (cellsIn P v c) ≡ 63 * blocksOf v
@@ -125,7 +125,7 @@ module _ (P : Pass) (lay : LaidOut P) (ord : Ordered P) where
         rw (← (r .2)) (digits-lt (omega (arith, bottom lay v i)) (in-row (r .0) (r .1)))
 
     -- where a cell that is read lies
-    place-at : (p : ℕ) → In p (cellsIn P v c) → (q : ReadAt) × In q rest × (p % (8 * P .bw) ≡ 8 * v .x + across turn (q .0) (q .1)) × (p / (8 * P .bw) ≡ 8 * v .y + down turn (q .0) (q .1))
+    place-at : (p : ℕ) → In p (cellsIn P v c) → (q : Place) × In q rest × (p % (8 * P .bw) ≡ 8 * v .x + across turn (q .0) (q .1)) × (p / (8 * P .bw) ≡ 8 * v .y + down turn (q .0) (q .1))
     place-at p j =
         let r = in-place turn (8 * P .bw) (8 * v .x) (8 * v .y) rest p j in
         let h = in-row (r .0) (r .1) in (
@@ -207,7 +207,7 @@ module _ (P : Pass) (lay : LaidOut P) (ord : Ordered P) where
   cells-apart = distinct-from (varblocks P) (λ v i. i) (corners-apart K (blockAt (P .hfMul) (P .bw)) (P .bw) (P .bh))
 
   -- every cell is low-frequency or read
-  pub low-or-held : (c p : ℕ) → c < 3 → p < gridCells P → Low P p ⊎ PlaceOf P c p
+  pub low-or-held : (c p : ℕ) → c < 3 → p < gridCells P → Low P p ⊎ ReadAt P c p
   low-or-held c p hc h =
       let b = in-block p h in
       let o = lay .valid .owned (p % (8 * P .bw) / 8) (p / (8 * P .bw) / 8) (b .0) (b .1) in
@@ -216,7 +216,7 @@ module _ (P : Pass) (lay : LaidOut P) (ord : Ordered P) where
       in-it (varblock (o .ox) (o .oy) (K (o .ox) (o .oy) - 2) (blockAt (P .hfMul) (P .bw) (o .ox) (o .oy))) (at-corner lay (o .ox) (o .oy) (omega arith) (omega arith) (w .corner)) (w .fromX) (w .toX) (w .fromY) (w .toY)
     where
       in-it : (v : Varblock) → Among v (varblocks P) → v .x ≤ p % (8 * P .bw) / 8 → p % (8 * P .bw) / 8 < v .x + wide (v .type)
-          → v .y ≤ p / (8 * P .bw) / 8 → p / (8 * P .bw) / 8 < v .y + high (v .type) → Low P p ⊎ PlaceOf P c p
+          → v .y ≤ p / (8 * P .bw) / 8 → p / (8 * P .bw) / 8 < v .y + high (v .type) → Low P p ⊎ ReadAt P c p
       in-it v i l r u d = cases (decLt dx (wide (v .type))) (decLt dy (high (v .type)))
         where
           dx : ℕ
@@ -225,7 +225,7 @@ module _ (P : Pass) (lay : LaidOut P) (ord : Ordered P) where
           dy : ℕ
           dy = p / (8 * P .bw) - 8 * v .y
 
-          place : (dx < wide (v .type) → dy < high (v .type) → ⊥) → PlaceOf P c p
+          place : (dx < wide (v .type) → dy < high (v .type) → ⊥) → ReadAt P c p
           place n =
               let t = turns (v .type) in
               let s = spread v i c hc .whole dx dy (omega arith) (omega arith) n in
@@ -235,13 +235,13 @@ module _ (P : Pass) (lay : LaidOut P) (ord : Ordered P) where
               holds P (varblocks P) v c p i hc
               (Memᴰ·cast (sym (ap₂ (λ (a b : ℕ). a * (8 * P .bw) + b) ey ex ∙ div-add-mod' p (8 * P .bw))) (place-in t (8 * P .bw) (8 * v .x) (8 * v .y) (rest v i c hc) (s .0) (s .1)))
 
-          cases : Dec (dx < wide (v .type)) → Dec (dy < high (v .type)) → Low P p ⊎ PlaceOf P c p
+          cases : Dec (dx < wide (v .type)) → Dec (dy < high (v .type)) → Low P p ⊎ ReadAt P c p
           cases (yes a) (yes b) = inl (record { of = v; there = i; left = omega arith; right = omega arith; top = omega arith; bottom = omega arith })
           cases (yes a) (no b) = inr (place (λ x y. b y))
           cases (no a) b = inr (place (λ x y. a x))
 
   -- and never both
-  pub low-not-held : (c p : ℕ) → Low P p → PlaceOf P c p → ⊥
+  pub low-not-held : (c p : ℕ) → Low P p → ReadAt P c p → ⊥
   low-not-held c p l h =
       let s = held P (varblocks P) c p h in
       let v = s .0 in let i = s .1 in let u = l .of in
@@ -255,10 +255,10 @@ module _ (P : Pass) (lay : LaidOut P) (ord : Ordered P) where
       spread v i c (s .2) .upper (r .0) (r .1) (omega arith) (omega arith)
 
   -- so, of grids that agree in the low-frequency cells, each cell is read or the same in both
-  pub place-or-same : (G W : Grids) → Sized P G → Sized P W → LowKept P G W → (c p : ℕ) → PlaceOf P c p ⊎ ((PlaceOf P c p → ⊥) × (cell W c p ≡ cell G c p))
+  pub place-or-same : (G W : Grids) → Sized P G → Sized P W → LowKept P G W → (c p : ℕ) → ReadAt P c p ⊎ ((ReadAt P c p → ⊥) × (cell W c p ≡ cell G c p))
   place-or-same G W sg sw kept c p = channel (decLt c 3)
     where
-      at-cell : c < 3 → Dec (p < gridCells P) → PlaceOf P c p ⊎ ((PlaceOf P c p → ⊥) × (cell W c p ≡ cell G c p))
+      at-cell : c < 3 → Dec (p < gridCells P) → ReadAt P c p ⊎ ((ReadAt P c p → ⊥) × (cell W c p ≡ cell G c p))
       at-cell hc (yes h) = elim (low-or-held c p hc h) [ inl l ↦ inr (low-not-held c p l, kept c p hc l) | inr i ↦ inl i ]
       at-cell hc (no m) =
           let a = sw .cells c hc in let b = sg .cells c hc in
@@ -267,7 +267,7 @@ module _ (P : Pass) (lay : LaidOut P) (ord : Ordered P) where
             List·getD-eq-default (getD W c []) 0 (omega arith) ∙ sym (List·getD-eq-default (getD G c []) 0 (omega arith)),
           )
 
-      channel : Dec (c < 3) → PlaceOf P c p ⊎ ((PlaceOf P c p → ⊥) × (cell W c p ≡ cell G c p))
+      channel : Dec (c < 3) → ReadAt P c p ⊎ ((ReadAt P c p → ⊥) × (cell W c p ≡ cell G c p))
       channel (yes hc) = at-cell hc (decLt p (gridCells P))
       channel (no m) =
           let a = sw .three in let b = sg .three in
