@@ -129,7 +129,7 @@ struct netbuff_layout_output {
 
 /* ---- Contexts: netbuff_block_context ---- */
 
-/* The decoded cluster map; zero-initialised for default contexts. */
+/* The decoded context map; zero-initialised for default contexts. */
 struct netbuff_context_map {
     uint32_t num_clusters;
     const uint8_t *data;

@@ -1,7 +1,6 @@
 // The check of a lent layout or group: each cell by itself, then row by row.
 use crate::Group;
 use crate::cells::cells_sound;
-use crate::rows::LARGER;
 use crate::rows::close_row;
 use crate::rows::place_row;
 use lent_sides::limits::in_limits;
@@ -26,16 +25,15 @@ fn cells_fit(bw: usize, bh: usize, kinds: &[u8], hf_mul: &[u32]) -> bool
     if !cells_sound(kinds, hf_mul) {
         return false;
     }
-    let larger = LARGER;
     let wides = WIDE;
     let highs = HIGH;
-    let mut until = [0u16; 256];
+    let mut depth = [0u8; 259];
     let mut y = 0;
     while y < bh {
-        if !place_row(&mut until, &larger, &wides, &highs, bw, bh, kinds, y) {
+        if !place_row(&mut depth, &wides, &highs, bw, bh, kinds, y) {
             return false;
         }
-        if !close_row(&mut until, bw, kinds, y) {
+        if !close_row(&mut depth, bw, kinds, y) {
             return false;
         }
         y += 1;

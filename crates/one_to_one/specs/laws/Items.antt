@@ -11,7 +11,7 @@ use lib.Arith.{digits-lt}
 use lib.ListN.{length, getD, drop, List·getD-eq-default}
 use Rattle.dct_select.specs.Transforms.{wide, high, orderOf, turns, across, down}
 use Rattle.order_sizes.specs.BlockSizes.{widthOf, heightOf}
-use Rattle.order_natural.specs.Places.{Place, paired}
+use Rattle.order_natural.specs.Places.{ReadAt, paired}
 use Rattle.order_natural.specs.laws.Flat.{paired-flat}
 use Rattle.order_natural.specs.Order.{Order}
 use Rattle.layout.specs.Grid.{blockAt}
@@ -29,7 +29,7 @@ use Rattle.coeff_walk.specs.Item.{Item}
 use Rattle.coeff_group.specs.Group.{Grids}
 use Rattle.coeff_group.specs.Pass.{Pass, varblocks, blocksOf, cellsIn, itemOf, itemsOf}
 use Rattle.dct_select.specs.laws.Sides.{order-lt}
-use Rattle.one_to_one.specs.Filling.{many, Place as PlaceOf, LaidOut, Sized, Low, LowKept}
+use Rattle.one_to_one.specs.Filling.{gridCells, ReadAt as PlaceOf, LaidOut, Sized, Low, LowKept}
 use Rattle.coeff_group.specs.laws.Cells.{Distinct, distinct-both, distinct-map, Fit, In}
 use Rattle.one_to_one.specs.laws.Spread.{Spread, spread-of, place-in, in-place, cell-row, cell-column, distinct-places}
 use Rattle.coeff_group.specs.Sequence.{cell, GridCell, readCells}
@@ -103,13 +103,13 @@ module _ (P : Pass) (lay : LaidOut P) (ord : Ordered P) where
     abbrev turn : Bool
     turn = turns (v .type)
 
-    abbrev rest : List Place
+    abbrev rest : List ReadAt
     rest = drop (blocksOf v) (paired (stretch (P .store) (orderOf (v .type)) c))
 
     pub spread : Spread turn (wide (v .type)) (high (v .type)) rest
     spread = spread-of (v .type) (known lay v i) (paired (stretch (P .store) (orderOf (v .type)) c)) (ord (orderOf (v .type)) c (order-lt (v .type) (known lay v i)) hc)
 
-    in-row : (q : Place) → In q rest → 8 * v .x + across turn (q .0) (q .1) < 8 * P .bw
+    in-row : (q : ReadAt) → In q rest → 8 * v .x + across turn (q .0) (q .1) < 8 * P .bw
     in-row q j = let a = spread .inside q j .0 in omega (arith, right lay v i)
 
     places-size : length (cellsIn P v c) ≡ 63 * blocksOf v
@@ -118,14 +118,14 @@ module _ (P : Pass) (lay : LaidOut P) (ord : Ordered P) where
     cells-distinct : Distinct (map {B = GridCell} (λ (p : ℕ). (c, p)) (cellsIn P v c))
     cells-distinct = distinct-map (λ (p : ℕ). (c, p)) (cellsIn P v c) (λ p q j k e. ap (λ (x : GridCell). x .1) e) (distinct-places turn (8 * P .bw) (8 * v .x) (8 * v .y) rest in-row (spread .distinct))
 
-    places-inside : (p : ℕ) → In p (cellsIn P v c) → p < many P
+    places-inside : (p : ℕ) → In p (cellsIn P v c) → p < gridCells P
     places-inside p j =
         let r = in-place turn (8 * P .bw) (8 * v .x) (8 * v .y) rest p j in
         let d = spread .inside (r .0) (r .1) .1 in
         rw (← (r .2)) (digits-lt (omega (arith, bottom lay v i)) (in-row (r .0) (r .1)))
 
     -- where a cell that is read lies
-    place-at : (p : ℕ) → In p (cellsIn P v c) → (q : Place) × In q rest × (p % (8 * P .bw) ≡ 8 * v .x + across turn (q .0) (q .1)) × (p / (8 * P .bw) ≡ 8 * v .y + down turn (q .0) (q .1))
+    place-at : (p : ℕ) → In p (cellsIn P v c) → (q : ReadAt) × In q rest × (p % (8 * P .bw) ≡ 8 * v .x + across turn (q .0) (q .1)) × (p / (8 * P .bw) ≡ 8 * v .y + down turn (q .0) (q .1))
     place-at p j =
         let r = in-place turn (8 * P .bw) (8 * v .x) (8 * v .y) rest p j in
         let h = in-row (r .0) (r .1) in (
@@ -144,7 +144,7 @@ module _ (P : Pass) (lay : LaidOut P) (ord : Ordered P) where
         covers lay v i (p % (8 * P .bw) / 8) (p / (8 * P .bw) / 8) (omega arith) (omega arith) (omega arith) (omega arith)
 
   -- the block of a cell
-  in-block : (p : ℕ) → p < many P → (p % (8 * P .bw) / 8 < P .bw) × (p / (8 * P .bw) / 8 < P .bh)
+  in-block : (p : ℕ) → p < gridCells P → (p % (8 * P .bw) / 8 < P .bw) × (p / (8 * P .bw) / 8 < P .bh)
   in-block p h = go (ℕ-discrete (P .bw) 0)
     where
       go : Dec (P .bw ≡ 0) → (p % (8 * P .bw) / 8 < P .bw) × (p / (8 * P .bw) / 8 < P .bh)
@@ -156,7 +156,7 @@ module _ (P : Pass) (lay : LaidOut P) (ord : Ordered P) where
           (omega arith, omega arith)
 
   -- rectangles with the block of one cell are one
-  one-corner : (u v : Varblock) (p : ℕ) → p < many P → Covers K (u .x) (u .y) (p % (8 * P .bw) / 8) (p / (8 * P .bw) / 8)
+  one-corner : (u v : Varblock) (p : ℕ) → p < gridCells P → Covers K (u .x) (u .y) (p % (8 * P .bw) / 8) (p / (8 * P .bw) / 8)
       → Covers K (v .x) (v .y) (p % (8 * P .bw) / 8) (p / (8 * P .bw) / 8) → (u .x ≡ v .x) × (u .y ≡ v .y)
   one-corner u v p h a b =
       let k = in-block p h in
@@ -207,7 +207,7 @@ module _ (P : Pass) (lay : LaidOut P) (ord : Ordered P) where
   cells-apart = distinct-from (varblocks P) (λ v i. i) (corners-apart K (blockAt (P .hfMul) (P .bw)) (P .bw) (P .bh))
 
   -- every cell is low-frequency or read
-  pub low-or-held : (c p : ℕ) → c < 3 → p < many P → Low P p ⊎ PlaceOf P c p
+  pub low-or-held : (c p : ℕ) → c < 3 → p < gridCells P → Low P p ⊎ PlaceOf P c p
   low-or-held c p hc h =
       let b = in-block p h in
       let o = lay .valid .owned (p % (8 * P .bw) / 8) (p / (8 * P .bw) / 8) (b .0) (b .1) in
@@ -258,7 +258,7 @@ module _ (P : Pass) (lay : LaidOut P) (ord : Ordered P) where
   pub place-or-same : (G W : Grids) → Sized P G → Sized P W → LowKept P G W → (c p : ℕ) → PlaceOf P c p ⊎ ((PlaceOf P c p → ⊥) × (cell W c p ≡ cell G c p))
   place-or-same G W sg sw kept c p = channel (decLt c 3)
     where
-      at-cell : c < 3 → Dec (p < many P) → PlaceOf P c p ⊎ ((PlaceOf P c p → ⊥) × (cell W c p ≡ cell G c p))
+      at-cell : c < 3 → Dec (p < gridCells P) → PlaceOf P c p ⊎ ((PlaceOf P c p → ⊥) × (cell W c p ≡ cell G c p))
       at-cell hc (yes h) = elim (low-or-held c p hc h) [ inl l ↦ inr (low-not-held c p l, kept c p hc l) | inr i ↦ inl i ]
       at-cell hc (no m) =
           let a = sw .cells c hc in let b = sg .cells c hc in
@@ -268,7 +268,7 @@ module _ (P : Pass) (lay : LaidOut P) (ord : Ordered P) where
           )
 
       channel : Dec (c < 3) → PlaceOf P c p ⊎ ((PlaceOf P c p → ⊥) × (cell W c p ≡ cell G c p))
-      channel (yes hc) = at-cell hc (decLt p (many P))
+      channel (yes hc) = at-cell hc (decLt p (gridCells P))
       channel (no m) =
           let a = sw .three in let b = sg .three in
           inr ((λ i. m (held P (varblocks P) c p i .2)), rw (List·getD-eq-default W [] {n = c} (omega arith), List·getD-eq-default G [] {n = c} (omega arith)))
