@@ -18,7 +18,7 @@ ghost use Rattle.lent_check.specs.Calls.{checkOf};
 ghost use Rattle.lent_check.specs.laws.Laws.{isLentLayout};
 
 // The bw x bh cells are a layout.
-fn cells_fit(bw: usize, bh: usize, kinds: &[u8], hf_mul: &[u32]) -> bool
+fn is_layout(bw: usize, bh: usize, kinds: &[u8], hf_mul: &[u32]) -> bool
     requires { ⌜ (bw ≤ 256) × (bh ≤ 256) × (length (now kinds) ≡ bh * bw) × (length (now «hf_mul») ≡ bh * bw) ⌝ }
     ensures { λ r. ⌜ r ≡ isLayout bw bh (now (kinds .entry)) (now («hf_mul» .entry)) ⌝ }
 {
@@ -42,7 +42,7 @@ fn cells_fit(bw: usize, bh: usize, kinds: &[u8], hf_mul: &[u32]) -> bool
 }
 
 // Sides of 1 to 256, lengths of as many cells, and the cells are a layout.
-pub fn is_layout(bw: usize, bh: usize, kinds: &[u8], hf_mul: &[u32]) -> bool
+pub fn is_lent_layout(bw: usize, bh: usize, kinds: &[u8], hf_mul: &[u32]) -> bool
     ensures { λ r. ⌜ r ≡ isLentLayout bw bh (now (kinds .entry)) (now («hf_mul» .entry)) ⌝ }
 {
     if !in_limits(256, bw, bh) {
@@ -51,7 +51,7 @@ pub fn is_layout(bw: usize, bh: usize, kinds: &[u8], hf_mul: &[u32]) -> bool
     if !lengths_fit(bw, bh, kinds.len(), hf_mul.len()) {
         return false;
     }
-    cells_fit(bw, bh, kinds, hf_mul)
+    is_layout(bw, bh, kinds, hf_mul)
 }
 
 // A lent group: sides 1 to 32 (2), lengths (1), 18.
@@ -66,7 +66,7 @@ pub fn check_group(group: Group, kinds: &[u8], hf_mul: &[u32]) -> Checked
     if !lengths_fit(bw, bh, kinds.len(), hf_mul.len()) {
         return Checked::Refused(Refusal::Length);
     }
-    if !cells_fit(bw, bh, kinds, hf_mul) {
+    if !is_layout(bw, bh, kinds, hf_mul) {
         return Checked::Refused(Refusal::Layout);
     }
     Checked::Fine

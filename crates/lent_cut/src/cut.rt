@@ -1,6 +1,6 @@
 // The cut of a lent layout into pass groups, counted row by row from 0.
 use lent_check::Group;
-use lent_check::check::is_layout;
+use lent_check::check::is_lent_layout;
 use lent_sides::limits::in_limits;
 use lent_sides::limits::lengths_fit;
 use refusal::Checked;
@@ -15,7 +15,7 @@ ghost use Rattle.refusal.specs.Answer.{gives};
 ghost use Rattle.refusal.specs.laws.Answer.{checked};
 ghost use Rattle.lent_sides.specs.Limits.{inLimits};
 ghost use Rattle.lent_check.specs.Group.{groupOf};
-ghost use Rattle.lent_cut.specs.Calls.{saidCut, outcome, cutCheck, cutOf};
+ghost use Rattle.lent_cut.specs.Calls.{answered, outcome, cutCheck, cutOf};
 ghost use Rattle.lent_cut.specs.laws.CutSteps.{Passed, cutDone};
 
 // What the cut answers: the sides of the group.
@@ -112,7 +112,7 @@ fn cut_check(
     if !lengths_fit(group.bw, group.bh, out_kinds, out_hf_mul) {
         return Checked::Refused(Refusal::Length);
     }
-    if !is_layout(bw, bh, kinds, hf_mul) {
+    if !is_lent_layout(bw, bh, kinds, hf_mul) {
         return Checked::Refused(Refusal::Layout);
     }
     Checked::Fine
@@ -189,7 +189,7 @@ pub fn cut(
     out_kinds: &mut [u8],
     out_hf_mul: &mut [u32],
 ) -> CutAnswer
-    ensures { λ r. ⌜ outcome (saidCut r) (now («out_kinds» .exit)) (now («out_hf_mul» .exit)) ≡ cutOf bw bh (now (kinds .entry)) (now («hf_mul» .entry)) index (now («out_kinds» .entry)) (now («out_hf_mul» .entry)) ⌝ }
+    ensures { λ r. ⌜ outcome (answered r) (now («out_kinds» .exit)) (now («out_hf_mul» .exit)) ≡ cutOf bw bh (now (kinds .entry)) (now («hf_mul» .entry)) index (now («out_kinds» .entry)) (now («out_hf_mul» .entry)) ⌝ }
 {
     let checked = cut_check(
         bw,

@@ -1,5 +1,5 @@
 // Likeness of two lent layouts: the same rectangles and hf_mul.
-use lent_check::check::is_layout;
+use lent_check::check::is_lent_layout;
 use lent_sides::limits::in_limits;
 use lent_sides::limits::lengths_fit;
 use lent_sides::sizes::HIGH;
@@ -13,7 +13,7 @@ ghost use Rattle.layout.specs.Like.{lentLayout, alike, alikeCell, alikeFrom};
 ghost use Rattle.lent_sides.specs.Limits.{inLimits, lengthsFit};
 ghost use Rattle.lent_check.specs.laws.Laws.{isLentLayout};
 ghost use Rattle.lent_sides.specs.laws.Sizes.{widths, heights};
-ghost use Rattle.lent_likeness.specs.Calls.{saidLike, filled, likeOf};
+ghost use Rattle.lent_likeness.specs.Calls.{answered, filled, likeOf};
 
 pub enum LikeAnswer {
     Alike,
@@ -109,8 +109,8 @@ fn both_layouts(
 ) -> bool
     ensures { λ r. ⌜ r ≡ isLentLayout bw bh (now (kinds .entry)) (now («hf_mul» .entry)) && isLentLayout bw2 bh2 (now (kinds2 .entry)) (now («hf_mul2» .entry)) ⌝ }
 {
-    if is_layout(bw, bh, kinds, hf_mul) {
-        return is_layout(bw2, bh2, kinds2, hf_mul2);
+    if is_lent_layout(bw, bh, kinds, hf_mul) {
+        return is_lent_layout(bw2, bh2, kinds2, hf_mul2);
     }
     false
 }
@@ -149,7 +149,7 @@ pub fn alike(
     kinds2: &[u8],
     hf_mul2: &[u32],
 ) -> LikeAnswer
-    ensures { λ r. ⌜ saidLike r ≡ likeOf (lentLayout bw bh (now (kinds .entry)) (now («hf_mul» .entry))) (lentLayout bw2 bh2 (now (kinds2 .entry)) (now («hf_mul2» .entry))) ⌝ }
+    ensures { λ r. ⌜ answered r ≡ likeOf (lentLayout bw bh (now (kinds .entry)) (now («hf_mul» .entry))) (lentLayout bw2 bh2 (now (kinds2 .entry)) (now («hf_mul2» .entry))) ⌝ }
 {
     if !both_sided(bw, bh, bw2, bh2) {
         return LikeAnswer::Refused(Refusal::Size);

@@ -56,13 +56,13 @@ returns-5 : tie.Need-returns-5
 returns-5 c =
     let a = c .before .before .before .before .before .before .before .before .before .before .before .before .before .args in
     cut-fault (a .bw) (a .bh) (a .kinds .now) (a .hf-mul .now) (a .index) (a .out-kinds) (a .out-hf-mul) (sides (c .before .before .before .before .before .before .before .before .before)) (index (c .before .before .before .before .before .before .before)) (lent (c .before .before .before .before .before)) (buffers (c .before .before .before) ∙ not-false (c .before .before .before .lengths-fit2 .result) (c .before .before .if4 .left))
-    (sym (lent-cells (a .bw) (a .bh) (a .kinds .now) (a .hf-mul .now) (sides (c .before .before .before .before .before .before .before .before .before)) (lent (c .before .before .before .before .before))) ∙ sym (c .before .is-layout .ensures) ∙ not-true (c .before .is-layout .result) (c .if5 .taken))
+    (sym (lent-cells (a .bw) (a .bh) (a .kinds .now) (a .hf-mul .now) (sides (c .before .before .before .before .before .before .before .before .before)) (lent (c .before .before .before .before .before))) ∙ sym (c .before .is-lent-layout .ensures) ∙ not-true (c .before .is-lent-layout .result) (c .if5 .taken))
 
 returns-6 : tie.Need-returns-6
 returns-6 c =
     let a = c .before .before .before .before .before .before .before .before .before .before .before .before .before .args in
     cut-fine (a .bw) (a .bh) (a .kinds .now) (a .hf-mul .now) (a .index) (a .out-kinds) (a .out-hf-mul) (sides (c .before .before .before .before .before .before .before .before .before)) (index (c .before .before .before .before .before .before .before)) (lent (c .before .before .before .before .before)) (buffers (c .before .before .before) ∙ not-false (c .before .before .before .lengths-fit2 .result) (c .before .before .if4 .left))
-    (sym (lent-cells (a .bw) (a .bh) (a .kinds .now) (a .hf-mul .now) (sides (c .before .before .before .before .before .before .before .before .before)) (lent (c .before .before .before .before .before))) ∙ sym (c .before .is-layout .ensures) ∙ not-false (c .before .is-layout .result) (c .if5 .left))
+    (sym (lent-cells (a .bw) (a .bh) (a .kinds .now) (a .hf-mul .now) (sides (c .before .before .before .before .before .before .before .before .before)) (lent (c .before .before .before .before .before))) ∙ sym (c .before .is-lent-layout .ensures) ∙ not-false (c .before .is-lent-layout .result) (c .if5 .left))
 
 pub cut-check-spec : {M : Type 1} → statement M
 cut-check-spec =
