@@ -2,7 +2,9 @@
 #
 #   make                builds the library (static and shared) and the programs; needs the Rattle
 #                       toolchain (rt), unless they are built already
-#   make check          tests the library and an installed tree
+#   make library, make programs
+#                       one of the two
+#   make check          tests the library, an installed tree and the programs
 #   make install        PREFIX=/usr/local, DESTDIR= and the like as usual
 #   make uninstall      removes what install wrote
 #   make install-library, make install-programs
@@ -19,8 +21,9 @@ DOCDIR ?= $(PREFIX)/share/doc/netbuff
 DESTDIR ?=
 INSTALL ?= install
 
-# Programs as rt makes them, and commands made of them in C; each has a page man/NAME.1.
-PROGRAMS := target/bin/layout_lister $(patsubst %.c,target/%,$(wildcard tools/*.c))
+# The commands; each has a page man/NAME.1. They are made in C around the proved programs of
+# target/bin, which are not installed.
+PROGRAMS := $(patsubst %.c,target/%,$(wildcard tools/*.c))
 HEADERS := include/netbuff.h include/netbuff_structs.h
 LICENCES := LICENSE LICENSE-MIT LICENSE-APACHE NOTICE
 
@@ -44,6 +47,11 @@ INSTALLED_LIBRARY := $(HEADERS:include/%=$(INCLUDEDIR)/%) $(LIBDIR)/libnetbuff.a
 	$(MANDIR)/man3/netbuff.3 $(DOCDIR)/example.c $(LICENCES:%=$(DOCDIR)/%)
 INSTALLED_PROGRAMS := $(addprefix $(BINDIR)/,$(notdir $(PROGRAMS))) \
 	$(patsubst %,$(MANDIR)/man1/%.1,$(notdir $(PROGRAMS)))
+
+ifneq ($(filter install% uninstall,$(MAKECMDGOALS)),)
+$(foreach name,PREFIX BINDIR LIBDIR INCLUDEDIR MANDIR DOCDIR,$(if $(filter /%,$($(name))),,\
+	$(error $(name) is no whole path: '$($(name))')))
+endif
 
 .PHONY: all library programs check install install-library install-programs uninstall clean version
 # Two runs of rt at a time would share files in target/.
@@ -71,7 +79,7 @@ $(SHARED): $(VERSIONED) c/netbuff.map
 	ln -sf libnetbuff.so.$(SOVERSION) target/lib/libnetbuff.so
 
 target/bin/%: $(SOURCES)
-	rt check $*
+	bash .ci/prove $*
 	touch $@
 
 # The proved program's object, with the command's own start, reads and writes around it.

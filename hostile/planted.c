@@ -17,7 +17,7 @@ enum plant {
     WRITTEN_AFTER_1,
     NOT_CLEARED,
     NO_LAYOUT,
-    NUMBER_19,
+    NUMBER_OF_NONE,
     POSITION_LEFT,
     UNUSED_PLACE,
     STORE_KEPT,
@@ -91,7 +91,7 @@ uint32_t __wrap_netbuff_transform(uint32_t number, size_t *wide, size_t *high, s
         *order = 0;
     if (planted() == WIDTH_ZERO && refused != 0)
         *wide = 0;
-    return planted() == NUMBER_19 && refused != 0 ? 19 : refused;
+    return planted() == NUMBER_OF_NONE && refused != 0 ? NETBUFF_REFUSALS_END : refused;
 }
 
 uint32_t __wrap_netbuff_read_bits(const uint8_t *bytes, size_t length, size_t byte, uint32_t bit,

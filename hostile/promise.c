@@ -12,27 +12,39 @@
 
 #define BIT(number) (UINT32_C(1) << (number))
 #define BITS_4_TO_10 (BIT(4) | BIT(5) | BIT(6) | BIT(7) | BIT(8) | BIT(9) | BIT(10))
+#define BITS_11_TO_18                                                                              \
+    (BIT(11) | BIT(12) | BIT(13) | BIT(14) | BIT(15) | BIT(16) | BIT(17) | BIT(18))
 
 /* Each call's name and the answers that the header gives it. */
+#define ANSWERS(call)                                                                              \
+    call(TRANSFORM, "transform", BIT(0) | BIT(5))                                                  \
+    call(READ_BITS, "read_bits", BIT(0) | BIT(3))                                                  \
+    call(READ_U32, "read_u32", BIT(0) | BIT(3))                                                    \
+    call(UNPACK_SIGNED, "unpack_signed", BIT(0))                                                   \
+    call(COLUMN_COUNT, "column_count", BIT(0) | BIT(2) | BIT(3) | BIT(11))                         \
+    call(LAYOUT, "layout", BIT(0) | BIT(1) | BIT(2) | BIT(11) | BITS_4_TO_10)                      \
+    call(CUT, "cut", BIT(0) | BIT(1) | BIT(2) | BIT(18))                                           \
+    call(ALIKE, "alike", BIT(0) | BIT(1) | BIT(2) | BIT(18))                                       \
+    call(BLOCK_CONTEXT, "block_context", BIT(0) | BIT(1) | BIT(3) | BIT(12))                       \
+    call(ORDERS, "orders", BIT(0) | BIT(1) | BIT(3) | BIT(13) | BIT(15))                           \
+    call(ORDER, "order", BIT(0))                                                                   \
+    call(PLACES_FIT, "places_fit", BIT(0))                                                         \
+    call(COEFFICIENTS, "coefficients", BIT(0) | BIT(1) | BIT(2) | BIT(3) | BITS_11_TO_18)
+
 static const struct {
     const char *name;
     uint32_t answers;
 } about[CALLS] = {
-    [TRANSFORM] = {"transform", BIT(0) | BIT(5)},
-    [READ_BITS] = {"read_bits", BIT(0) | BIT(3)},
-    [READ_U32] = {"read_u32", BIT(0) | BIT(3)},
-    [UNPACK_SIGNED] = {"unpack_signed", BIT(0)},
-    [COLUMN_COUNT] = {"column_count", BIT(0) | BIT(2) | BIT(3) | BIT(11)},
-    [LAYOUT] = {"layout", BIT(0) | BIT(1) | BIT(2) | BIT(11) | BITS_4_TO_10},
-    [CUT] = {"cut", BIT(0) | BIT(1) | BIT(2) | BIT(18)},
-    [ALIKE] = {"alike", BIT(0) | BIT(1) | BIT(2) | BIT(18)},
-    [BLOCK_CONTEXT] = {"block_context", BIT(0) | BIT(1) | BIT(3) | BIT(12)},
-    [ORDERS] = {"orders", BIT(0) | BIT(1) | BIT(3) | BIT(13) | BIT(15)},
-    [ORDER] = {"order", BIT(0)},
-    [PLACES_FIT] = {"places_fit", BIT(0)},
-    [COEFFICIENTS] = {"coefficients", BIT(0) | BIT(1) | BIT(2) | BIT(3) | BIT(11) | BIT(12) | BIT(13) |
-                                          BIT(14) | BIT(15) | BIT(16) | BIT(17) | BIT(18)},
+#define ABOUT(call, name, answers) [call] = {name, answers},
+    ANSWERS(ABOUT)
 };
+
+/* The calls give each refusal that the header names, and no other. */
+#define NAMED(name, number, text, position) | BIT(number)
+#define GIVEN(call, name, answers) | (answers)
+_Static_assert(REFUSALS <= 32, "a call's answers are the bits of 32");
+_Static_assert((BIT(0) NETBUFF_REFUSALS(NAMED)) == (0 ANSWERS(GIVEN)),
+               "the header's refusals and those of hostile/promise.c are not the same");
 
 uint64_t answer_counts[CALLS][REFUSALS];
 void (*on_answer)(enum call call, struct answer answer);

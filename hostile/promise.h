@@ -2,6 +2,8 @@
 #ifndef PROMISE_H
 #define PROMISE_H
 
+#include "netbuff.h"
+
 #include <stdbool.h>
 #include <stddef.h>
 #include <stdint.h>
@@ -24,7 +26,8 @@ enum call {
     CALLS
 };
 
-enum { REFUSALS = 19 };
+/* Answers by number: 0 (accepted) and the refusals. */
+enum { REFUSALS = NETBUFF_REFUSALS_END };
 
 /* A refusal's number (0: accepted) and position. */
 struct answer {

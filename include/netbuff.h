@@ -10,10 +10,10 @@
  *    netbuff_orders          the coefficient orders of a pass
  *    netbuff_coefficients    the symbols of a pass group: its coefficients
  *
- * Entropy decoding is the caller's: columns, cluster maps and symbols are lent decoded. Netbuff
+ * Entropy decoding is the caller's: columns, maps and symbols are lent decoded. Netbuff
  * reads bits only where a call has bytes, and each call reads from bit 0 of its bytes on, the
  * lowest bit of a byte first. Lend it the bytes from where its part begins, shifted if that is
- * within a byte. Only netbuff_read_bits and netbuff_read_u32 are told a place to begin at.
+ * within a byte. Only netbuff_read_bits and netbuff_read_u32 are told where to begin.
  *
  * netbuff_structs.h has these calls over structs with named fields. It is easier to use.
  *
@@ -25,17 +25,31 @@
  * the first that is met is given.
  *
  * LISTS. A list is a pointer and the number of its elements. Every length is allowed: one that does
- * not fit is refused. A list of no elements may have any pointer that is aligned and not null.
+ * not fit is refused. A length fits when it is the one that the call names ("Lengths that fit"), or
+ * at least that where it says so; each has a function or a constant below. Bytes, columns and
+ * symbols may have any length. A list of no elements may have any pointer that is aligned and not
+ * null.
  *
  * WHAT THE CALLER SEES TO. Every pointer is valid, not null and aligned for its type, that of a
  * list for all its elements. What a call writes overlaps nothing else that is lent to it. What it
  * only reads may overlap. A bool is 0 or 1. Filter strengths are computed in the floating-point
  * environment that a C program starts with: rounding to nearest, nothing flushed to zero.
  *
- * BLOCKS AND CELLS. A block is 8 x 8 cells (pixels). Lists with one place for each block are row by
- * row: block (x, y) of a grid bw blocks wide stands at y * bw + x. A coefficient grid of bw x bh
- * blocks has rows of 8 * bw cells: cell (x, y) stands at y * 8 * bw + x. A varblock is a rectangle
- * of blocks with one transform; its corner is its first block.
+ * WORDS. A block is 8 x 8 pixels. An LF group is a part of a frame, at most 2,048 pixels each way;
+ * a pass group is a part of an LF group, at most 32 blocks each way. A varblock is a rectangle of
+ * blocks with one transform; its corner is its first block, at the upper left. A column is what a
+ * scan sends for a varblock: the number of its transform (type) and a mul; hf_mul is mul + 1. A
+ * symbol is a number as an entropy decoder gives it. The context map, decoded from the file, gives
+ * a varblock and a channel one of a few block contexts (num_block_clusters of them). The cluster
+ * map, decoded too, gives each context of a count or coefficient its cluster, the distribution by
+ * which its symbols are coded; it has a part for each preset, of which a pass group names one. An
+ * order (0 to 12, by the size of a varblock) has a list for each channel: the places within the
+ * varblock to which coefficients go, one after the other. Packed signed: see netbuff_unpack_signed.
+ *
+ * BLOCKS AND CELLS. Lists with one element for each block are row by row: block (x, y) of a grid bw
+ * blocks wide stands at y * bw + x. A cell is one entry of a coefficient grid, 8 x 8 of them for
+ * each block. A coefficient grid of bw x bh blocks has rows of 8 * bw cells: cell (x, y) stands at
+ * y * 8 * bw + x.
  *
  * THREADS. A call keeps nothing. The library has no data that is written. Any number of calls may
  * run at the same time, if none writes what another one uses. No call allocates, locks, does input
@@ -117,7 +131,13 @@ enum {
     NETBUFF_REFUSALS_END /* one more than the largest number */
 };
 
-/* What a number means, in English, for messages. Any number has a text. */
+/*
+ * What a number means and what its position is, in English, for messages. Any number has a text.
+ *
+ *     printf("%s (%s: %zu, %zu)\n", netbuff_refusal_text(n), netbuff_position_text(n), x, y);
+ *
+ * prints "symbols end (symbols read, 0: 5, 0)", and "varblocks overlap (x, y: 0, 1)".
+ */
 static inline const char *netbuff_refusal_text(uint32_t number)
 {
     switch (number) {
@@ -130,6 +150,19 @@ static inline const char *netbuff_refusal_text(uint32_t number)
 #undef NETBUFF_TEXT
     default:
         return "no refusal of this version";
+    }
+}
+
+static inline const char *netbuff_position_text(uint32_t number)
+{
+    switch (number) {
+#define NETBUFF_POSITION(name, number, text, position)                                             \
+    case number:                                                                                   \
+        return position;
+        NETBUFF_REFUSALS(NETBUFF_POSITION)
+#undef NETBUFF_POSITION
+    default:
+        return "0, 0";
     }
 }
 
@@ -261,6 +294,12 @@ static inline size_t netbuff_group_bh(size_t bw, size_t bh, size_t index)
     return left < 32 ? left : 32;
 }
 
+/* Its blocks: the length of out_kinds and out_hf_mul of a cut. */
+static inline size_t netbuff_group_blocks(size_t bw, size_t bh, size_t index)
+{
+    return netbuff_group_bw(bw, bh, index) * netbuff_group_bh(bw, bh, index);
+}
+
 /* Cells of one coefficient grid of so many blocks. */
 static inline size_t netbuff_grid_length(size_t blocks)
 {
@@ -297,8 +336,8 @@ uint32_t netbuff_transform(uint32_t number, size_t *wide, size_t *high, size_t *
 
 /*
  * One read of n bits, 0 to 32 (a larger n reads 32), from the bit with number 8 * byte + bit on:
- * the value, and the place behind it. Refused: 3 when the bits end, with nothing read. *taken
- * receives 0.
+ * the value, and where the bits behind it begin. Refused: 3 when the bits end, with nothing read.
+ * *taken receives 0.
  */
 uint32_t netbuff_read_bits(const uint8_t *bytes, size_t bytes_length, size_t byte, uint32_t bit,
                            uint32_t n, uint32_t *value, size_t *next_byte, uint32_t *next_bit,
@@ -338,11 +377,12 @@ uint32_t netbuff_column_count(const uint8_t *bytes, size_t bytes_length, uint32_
  * refused. Surplus columns are accepted: *used receives how many were used.
  *
  * The filter: sigma of a block is multiplier * 65536 / scale / hf_mul * lookup[sharpness], in f32,
- * each step rounded once. multiplier and lookup are from -65,504 to 65,504, scale from 1 to 73,728.
+ * each step rounded once. multiplier (quant_mul of the edge-preserving filter) and lookup (its
+ * sharp_lut) are from -65,504 to 65,504, scale (global_scale of the quantizer) from 1 to 73,728.
  * With the filter off sigma is +0.0, and multiplier and sharpness numbers are not looked at;
  * lookup, scale and all lengths are checked still.
  *
- * Lengths that fit: bw * bh for sharpness, kinds, hf_mul and sigma. Filled, one place for each
+ * Lengths that fit: bw * bh for sharpness, kinds, hf_mul and sigma. Filled, one element for each
  * block: kinds (NETBUFF_KIND_..), hf_mul (0 off corners), sigma.
  *
  * Refused: 2, 11, 1 (the three lists stay as they were); then block by block 4, 5, 6, 7, and 9, 8
@@ -390,7 +430,7 @@ uint32_t netbuff_alike(size_t bw, size_t bh, const uint8_t *kinds, size_t kinds_
 /*
  * The block contexts of a frame. First bit 1: the default contexts, 15 clusters; num_clusters and
  * map are not looked at (lend 0 and a list of none). First bit 0: four lists of thresholds follow
- * in the bytes, and the decoded cluster map is lent: 39 bytes for each of bsize (the product of the
+ * in the bytes, and the decoded context map is lent: 39 bytes for each of bsize (the product of the
  * four list lengths, each plus 1, at most 64), all below num_clusters, 1 to 16.
  *
  * A list is its length, four bits, then that many U32. LF thresholds (channels 0, 1, 2) are packed
@@ -398,7 +438,7 @@ uint32_t netbuff_alike(size_t bw, size_t bh, const uint8_t *kinds, size_t kinds_
  * bits, 4 + 3 bits, 12 + 5 bits, 44 + 8 bits. netbuff_scan_contexts of netbuff_structs.h tells the
  * lengths and where the lists end, so that the map can be decoded and lent.
  *
- * The record is handed out whole, unused places 0: the number of clusters; the lengths of the LF
+ * The record is handed out whole, unused elements 0: the number of clusters; the lengths of the LF
  * lists of channels 0, 1, 2 and of the qf list; the LF thresholds of channel c from 15 * c on; the
  * qf thresholds; the map. *bits_read receives the bits read; the map's own bits come behind them.
  *
@@ -447,7 +487,7 @@ bool netbuff_places_fit(const uint16_t *store, size_t store_length);
  * The coefficients of a pass group of bw x bh blocks (1 to 32 each way), all three channels at
  * full size: subsampled colour is not read. kinds and hf_mul are those of a cut, the record is one
  * of netbuff_block_context, the store one of netbuff_orders. Where lf_there is false the LF grids
- * are not looked at, else they hold the LF coefficients of channels 0, 1, 2, one for each block.
+ * are not looked at, else they hold the LF numbers of channels 0, 1, 2, one for each block.
  *
  * The bytes hold the preset number, as many bits as the exponent of the least power of two not
  * below presets: none for one preset. The cluster map has 495 * num_block_clusters bytes for each
@@ -455,18 +495,18 @@ bool netbuff_places_fit(const uint16_t *store, size_t store_length);
  *
  * The symbols: corners row by row, and for each corner channel 1, then 0, then 2. A channel has a
  * count of its coefficients that are not 0; then, if that is not 0, one symbol for each place of
- * its order behind the low-frequency places, until as many as the count says were not 0, or places
+ * its list behind the low-frequency places, until as many as the count says were not 0, or places
  * end. Coefficients are packed signed (netbuff_unpack_signed), counts are not. A coefficient is
  * shifted left (shift is 0 to 3) and added to the grid of its channel, modulo 2^32: at place (px,
  * py), or (py, px) where the transform turns, it is cell (8 * x + px, 8 * y + py), for the corner
- * (x, y). Low-frequency cells are never touched. Surplus symbols and a count that is not used up
- * are accepted. *symbols_read receives the symbols read; log[i] receives the cluster that the map
- * names for symbol i.
+ * (x, y). Low-frequency cells are never touched where the store is one that netbuff_orders wrote.
+ * Surplus symbols and a count that is not used up are accepted. *symbols_read receives the symbols
+ * read; log[i] receives the cluster that the cluster map names for symbol i, to be held against the
+ * one by which the caller decoded it.
  *
- * Lengths that fit: bw * bh for kinds, hf_mul and each LF grid that is there;
- * NETBUFF_STORE_LENGTH for the store; 495 * num_block_clusters * presets (0 to 256) for the cluster
- * map; 64 * bw * bh for each grid, whose rows have 8 * bw cells; at least 192 * bw * bh
- * for the log.
+ * Lengths that fit: bw * bh for kinds, hf_mul and each LF grid that is there; NETBUFF_STORE_LENGTH
+ * for the store; 495 * num_block_clusters * presets (0 to 256) for the cluster map; 64 * bw * bh
+ * for each grid, whose rows have 8 * bw cells; at least 192 * bw * bh for the log.
  *
  * Refused: 2, 11, 12, 1, 18, 13 (a stored place), 3, 14: grids and log stay as they were. Then 15,
  * 16, 17: what was added and logged before stays, the refused count of 16 logged too. Log bytes

@@ -11,7 +11,10 @@
  *
  *     struct netbuff_refusal no = netbuff_read_layout(&input, &output);
  *     if (no.number != NETBUFF_ACCEPTED)
- *         fprintf(stderr, "%s at %zu, %zu\n", netbuff_refusal_text(no.number), no.x, no.y);
+ *         fprintf(stderr, "%s (%s: %zu, %zu)\n", netbuff_refusal_text(no.number),
+ *                 netbuff_position_text(no.number), no.x, no.y);
+ *     if (no.number == NETBUFF_REFUSED_LENGTH)
+ *         fprintf(stderr, "that of %s\n", netbuff_layout_misfit(&input, &output));
  */
 #ifndef NETBUFF_STRUCTS_H
 #define NETBUFF_STRUCTS_H
@@ -126,7 +129,7 @@ struct netbuff_layout_output {
 
 /* ---- Contexts: netbuff_block_context ---- */
 
-/* The decoded cluster map; zero-initialised for default contexts. */
+/* The decoded context map; zero-initialised for default contexts. */
 struct netbuff_context_map {
     uint32_t num_clusters;
     const uint8_t *data;
@@ -201,6 +204,12 @@ static inline size_t netbuff_blocks_of(const struct netbuff_lf_group *group)
 {
     return netbuff_lf_blocks(group->width, group->height, group->modes[0], group->modes[1],
                              group->modes[2]);
+}
+
+/* The blocks of the pass group with this index: the length of the lists that it is cut into. */
+static inline size_t netbuff_blocks_of_group(const struct netbuff_blocks *layout, size_t index)
+{
+    return netbuff_group_blocks(layout->bw, layout->bh, index);
 }
 
 /* Whether a varblock has its corner at this block of a layout, and its transform. */
@@ -326,8 +335,7 @@ static inline struct netbuff_refusal netbuff_read_layout(const struct netbuff_la
     return no;
 }
 
-/* Cuts a pass group, whose bw and bh are set. group->length is that of the group with this index.
- */
+/* Cuts a pass group, whose bw and bh are set. group->length is netbuff_blocks_of_group before. */
 static inline struct netbuff_refusal netbuff_cut_group(const struct netbuff_blocks *layout,
                                                        size_t index, struct netbuff_blocks *group)
 {
@@ -464,6 +472,75 @@ netbuff_read_coefficients(const struct netbuff_coefficients_input *input,
 }
 
 #undef NETBUFF_LEND
+
+/* ---- Which length does not fit ---- */
+
+/*
+ * For messages where a call is refused with NETBUFF_REFUSED_LENGTH: the first of its lists whose
+ * length does not fit, by its field. Null where all fit.
+ */
+static inline const char *netbuff_layout_misfit(const struct netbuff_layout_input *input,
+                                                const struct netbuff_layout_output *output)
+{
+    const struct netbuff_columns *columns = &input->columns;
+    const struct netbuff_blocks *filled = &output->blocks;
+    size_t blocks = netbuff_blocks_of(&input->group);
+    if (netbuff_list_length(columns->types, columns->length) !=
+        netbuff_list_length(columns->muls, columns->length))
+        return "columns.types or columns.muls";
+    if (netbuff_list_length(input->sharpness.data, input->sharpness.length) != blocks)
+        return "sharpness";
+    if (netbuff_list_length(filled->kinds, filled->length) != blocks)
+        return "blocks.kinds";
+    if (netbuff_list_length(filled->hf_mul, filled->length) != blocks)
+        return "blocks.hf_mul";
+    return netbuff_list_length(output->sigma, output->sigma_length) != blocks ? "sigma" : NULL;
+}
+
+static inline const char *netbuff_cut_misfit(const struct netbuff_blocks *layout, size_t index,
+                                             const struct netbuff_blocks *group)
+{
+    size_t whole = layout->bw * layout->bh, blocks = netbuff_blocks_of_group(layout, index);
+    if (netbuff_list_length(layout->kinds, layout->length) != whole)
+        return "kinds of the layout";
+    if (netbuff_list_length(layout->hf_mul, layout->length) != whole)
+        return "hf_mul of the layout";
+    if (netbuff_list_length(group->kinds, group->length) != blocks)
+        return "kinds of the group";
+    return netbuff_list_length(group->hf_mul, group->length) != blocks ? "hf_mul of the group"
+                                                                       : NULL;
+}
+
+static inline const char *
+netbuff_coefficients_misfit(const struct netbuff_coefficients_input *input,
+                            const struct netbuff_coefficients_output *output)
+{
+    static const char *const lf[3] = {"lf[0]", "lf[1]", "lf[2]"};
+    static const char *const grids[3] = {"grids[0]", "grids[1]", "grids[2]"};
+    const struct netbuff_blocks *group = &input->group;
+    const struct netbuff_presets *presets = &input->presets;
+    size_t blocks = group->bw * group->bh;
+    uint32_t clusters = input->contexts != NULL ? input->contexts->num_block_clusters : 0;
+    if (netbuff_list_length(group->kinds, group->length) != blocks)
+        return "group.kinds";
+    if (netbuff_list_length(group->hf_mul, group->length) != blocks)
+        return "group.hf_mul";
+    for (int c = 0; c < 3 && netbuff_lf_there(input->lf); c++)
+        if (netbuff_list_length(input->lf[c].data, input->lf[c].length) != blocks)
+            return lf[c];
+    if (netbuff_list_length(input->orders.data, input->orders.length) != NETBUFF_STORE_LENGTH)
+        return "orders";
+    if (netbuff_list_length(presets->cluster_map, presets->cluster_map_length) !=
+        netbuff_cluster_map_length(clusters, presets->count))
+        return "presets.cluster_map";
+    for (int c = 0; c < 3; c++)
+        if (netbuff_list_length(output->grids[c].data, output->grids[c].length) !=
+            netbuff_grid_length(blocks))
+            return grids[c];
+    if (netbuff_list_length(output->log, output->log_length) < netbuff_log_length(blocks))
+        return "log";
+    return NULL;
+}
 
 #ifdef __cplusplus
 }

@@ -18,8 +18,8 @@ static void accept(const char *call, struct netbuff_refusal no)
 {
     if (no.number == NETBUFF_ACCEPTED)
         return;
-    printf("%s: refused %" PRIu32 " (%s) at %zu, %zu\n", call, no.number,
-           netbuff_refusal_text(no.number), no.x, no.y);
+    printf("%s: refused %" PRIu32 ", %s (%s: %zu, %zu)\n", call, no.number,
+           netbuff_refusal_text(no.number), netbuff_position_text(no.number), no.x, no.y);
     exit(1);
 }
 
@@ -79,8 +79,7 @@ static void read_layout(const struct netbuff_lf_group *group, size_t columns,
 /* 3. A pass group: here there is only one, the whole layout. */
 static void cut_group(const struct netbuff_blocks *layout, struct netbuff_blocks *group)
 {
-    group->length =
-        netbuff_group_bw(layout->bw, layout->bh, 0) * netbuff_group_bh(layout->bw, layout->bh, 0);
+    group->length = netbuff_blocks_of_group(layout, 0);
     accept("cut", netbuff_cut_group(layout, 0, group));
     printf("group 0: %zu x %zu blocks\n", group->bw, group->bh);
 }

@@ -80,6 +80,13 @@ static void hold_answer(enum call call, struct netbuff_refusal layer, struct net
         answers[call][layer.number]++;
 }
 
+/* A list that does not fit is named for 1, and none where a later refusal or none is given. */
+static void hold_misfit(enum call call, uint32_t number, const char *misfit)
+{
+    bool before = number == 2 || number == 11 || number == 12;
+    hold(call, before || (number == 1) == (misfit != NULL), "refusal 1 and the misfit's name");
+}
+
 /* ---- Memory that is lent: the layer's copy, the floor's copy ---- */
 
 struct lent {
@@ -219,6 +226,7 @@ static void try_layout(void)
                        base.sigma, sigma ? out.sigma_length : 0, &used, &no.x, &no.y);
     hold_answer(LAYOUT, netbuff_read_layout(&in, &out), no);
     hold(LAYOUT, out.columns_used == used, "columns used");
+    hold_misfit(LAYOUT, no.number, netbuff_layout_misfit(&in, &out));
     hold(LAYOUT, no.number == 0 ? out.blocks.bw * out.blocks.bh == blocks : out.blocks.bw == 9,
          "sides");
     hold_lent(LAYOUT);
@@ -259,8 +267,7 @@ static void try_cut(void)
     struct netbuff_blocks from = any_blocks(kinds, hf_mul);
     fill_lent();
     size_t index = below(once_in(4) ? 3 : 1);
-    size_t wanted =
-        netbuff_group_bw(from.bw, from.bh, index) * netbuff_group_bh(from.bw, from.bh, index);
+    size_t wanted = netbuff_blocks_of_group(&from, index);
     struct netbuff_blocks group = {5, 6, MAYBE(layer.out_kinds), MAYBE(layer.out_hf_mul),
                                    length_near(wanted > BLOCKS_MOST ? 1 : wanted)};
     size_t out_bw = 5, out_bh = 6;
@@ -269,6 +276,7 @@ static void try_cut(void)
                             LEND(const int32_t, from.hf_mul, from.length), index, base.out_kinds,
                             group.kinds ? group.length : 0, base.out_hf_mul,
                             group.hf_mul ? group.length : 0, &out_bw, &out_bh, &no.x, &no.y);
+    hold_misfit(CUT, no.number, netbuff_cut_misfit(&from, index, &group));
     hold_answer(CUT, netbuff_cut_group(&from, index, &group), no);
     hold(CUT, group.bw == out_bw && group.bh == out_bh, "sides");
     hold(CUT, no.number != 0 || out_bw * out_bh == wanted, "netbuff_group_bw and netbuff_group_bh");
@@ -441,7 +449,7 @@ static void try_coefficients(void)
     in.presets.count = once_in(30) ? 257 : below(4);
     in.presets.cluster_map = MAYBE(cluster_map);
     in.presets.cluster_map_length =
-        netbuff_cluster_map_length(15, in.presets.count < 4 ? in.presets.count : 1);
+        length_near(netbuff_cluster_map_length(15, in.presets.count < 4 ? in.presets.count : 1));
     in.shift = below(once_in(5) ? 5 : 4);
     in.bytes.data = MAYBE(data);
     in.bytes.length = !once_in(9);
@@ -476,6 +484,7 @@ static void try_coefficients(void)
         out.grids[2].data ? out.grids[2].length : 0, &read, &no.x, &no.y);
     hold_answer(COEFFICIENTS, netbuff_read_coefficients(&in, &out), no);
     hold(COEFFICIENTS, out.symbols_read == read, "symbols read");
+    hold_misfit(COEFFICIENTS, no.number, netbuff_coefficients_misfit(&in, &out));
     hold_lent(COEFFICIENTS);
 }
 

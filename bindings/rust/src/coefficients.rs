@@ -62,6 +62,53 @@ pub struct CoefficientInput<'a> {
     pub symbols: &'a [u32],
 }
 
+impl CoefficientInput<'_> {
+    /// For messages where [`coefficients`] is refused with [`Length`](crate::Refusal::Length): the
+    /// first list whose length does not fit, if there is one.
+    ///
+    /// ```
+    /// use netbuff::{BlockContexts, CoefficientInput, GridsBuf, Group, OrdersBuf, Presets, Sides};
+    ///
+    /// let (contexts, orders) = (BlockContexts::standard(), OrdersBuf::natural());
+    /// let sides = Sides { bw: 1, bh: 1 };
+    /// let input = CoefficientInput {
+    ///     group: Group { sides, kinds: &[2], hf_mul: &[1] },
+    ///     contexts: &contexts,
+    ///     lf: None,
+    ///     orders: orders.orders(),
+    ///     presets: Presets { count: 1, cluster_map: &[0; 495] },
+    ///     shift: 0,
+    ///     bytes: &[],
+    ///     symbols: &[0; 3],
+    /// };
+    /// let (mut grids, mut log) = (GridsBuf::zero(sides), vec![0; sides.log_length()]);
+    /// assert_eq!(input.misfit(&grids.lend(&mut log)), Some("cluster_map"));
+    /// ```
+    pub fn misfit(&self, output: &CoefficientMut) -> Option<&'static str> {
+        let (sides, presets) = (self.group.sides, self.presets);
+        let blocks = sides.blocks();
+        let lf = |c: usize| self.lf.map_or(blocks, |lf| lf.channels[c].len());
+        let grid = |c: usize| output.grids[c].len();
+        let map = Presets::map_length(self.contexts, presets.count);
+        let log = output.log.len().min(sides.log_length());
+        let lists = [
+            ("kinds", self.group.kinds.len(), blocks),
+            ("hf_mul", self.group.hf_mul.len(), blocks),
+            ("LF grid of channel 0", lf(0), blocks),
+            ("LF grid of channel 1", lf(1), blocks),
+            ("LF grid of channel 2", lf(2), blocks),
+            ("orders", self.orders.store.len(), crate::STORE_LENGTH),
+            ("cluster_map", presets.cluster_map.len(), map),
+            ("grid of channel 0", grid(0), sides.cells()),
+            ("grid of channel 1", grid(1), sides.cells()),
+            ("grid of channel 2", grid(2), sides.cells()),
+            ("log", log, sides.log_length()),
+        ];
+        let unfit = lists.iter().find(|(_, length, due)| length != due);
+        unfit.map(|(name, ..)| *name)
+    }
+}
+
 /// What a coefficient call writes.
 #[derive(Debug)]
 pub struct CoefficientMut<'a> {

@@ -1,7 +1,7 @@
 use netbuff_sys as sys;
 
 use crate::refusal::call;
-use crate::Result;
+use crate::{read_bits, read_u32, Choice, Place, Refusal, Result};
 
 /// The block contexts of a frame; places that are not used are 0.
 #[derive(Debug, Clone, PartialEq, Eq)]
@@ -58,7 +58,80 @@ impl BlockClusters<'_> {
     pub const NONE: Self = BlockClusters { count: 0, map: &[] };
 }
 
-/// Reads a context record; the answer is the number of bits read.
+/// What a look at the lists of thresholds tells.
+#[derive(Debug, Copy, Clone, Default, PartialEq, Eq)]
+pub struct ContextScan {
+    /// How long the map is that [`block_context`] has to be lent; 0 for default contexts.
+    pub map_length: usize,
+    /// How many bits come before those of the map.
+    pub bits_read: usize,
+}
+
+const fn choices(of: [(u32, u32); 4]) -> [Choice; 4] {
+    let [a, b, c, d] = of;
+    const fn choice((offset, bits): (u32, u32)) -> Choice {
+        Choice { offset, bits }
+    }
+    [choice(a), choice(b), choice(c), choice(d)]
+}
+
+const LF: [Choice; 4] = choices([(0, 4), (16, 8), (272, 16), (65808, 32)]);
+const QF: [Choice; 4] = choices([(0, 2), (4, 3), (12, 5), (44, 8)]);
+
+/// Walks over the lists of thresholds that contexts begin with, to tell how long the map is and
+/// where its own bits begin: so that it can be decoded, and lent to [`block_context`].
+///
+/// # Errors
+///
+/// 3, with the bits read.
+///
+/// ```
+/// use netbuff::{block_context, scan_contexts, BlockClusters, BlockContexts};
+///
+/// // First bit 0; channel 0 has one threshold (length 1, selector 0, 4 bits), the others none.
+/// let bytes = [0b0000_0010, 0, 0];
+/// let scan = scan_contexts(&bytes)?;
+/// assert_eq!((scan.map_length, scan.bits_read), (39 * 2, 23));
+///
+/// let clusters = BlockClusters { count: 1, map: &vec![0; scan.map_length] };
+/// let mut record = BlockContexts::ZERO;
+/// assert_eq!(block_context(&bytes, clusters, &mut record)?, scan.bits_read);
+/// # Ok::<(), netbuff::Refusal>(())
+/// ```
+pub fn scan_contexts(bytes: &[u8]) -> Result<ContextScan> {
+    let mut place = Place::default();
+    let taken = |place: Place| 8 * place.byte + place.bit as usize;
+    let behind = |place: Place, refused: Refusal| Refusal::BitsEnd {
+        bits_read: taken(place) + refused.position().0,
+    };
+    let bits = |place: &mut Place, n| -> Result<u32> {
+        let read = read_bits(bytes, *place, n).map_err(|refused| behind(*place, refused))?;
+        *place = read.next;
+        Ok(read.value)
+    };
+    if bits(&mut place, 1)? == 1 {
+        return Ok(ContextScan {
+            map_length: 0,
+            bits_read: 1,
+        });
+    }
+    let mut map_length = 39;
+    for choices in [LF, LF, LF, QF] {
+        let length = bits(&mut place, 4)?;
+        map_length *= length as usize + 1;
+        for _ in 0..length {
+            let read = read_u32(bytes, place, choices);
+            place = read.map_err(|refused| behind(place, refused))?.next;
+        }
+    }
+    Ok(ContextScan {
+        map_length,
+        bits_read: taken(place),
+    })
+}
+
+/// Reads a context record; the answer is the number of bits read. [`scan_contexts`] tells the
+/// length of the map beforehand.
 ///
 /// # Errors
 ///

@@ -111,7 +111,8 @@ pub fn column_count(bytes: &[u8], group: LfGroup) -> Result<ColumnCount> {
 /// Columns as an LF group sends them: two lists of one length.
 #[derive(Debug, Copy, Clone)]
 pub struct Columns<'a> {
-    /// Each column's transform number; only the low eight bits count.
+    /// Each column's transform number, as `TransformType::Dct16 as i32` is one; only the low eight
+    /// bits count.
     pub types: &'a [i32],
     /// Each column's mul. Its hf_mul is mul + 1 and must be positive; the largest mul wraps, and is
     /// refused with 6.
@@ -130,9 +131,10 @@ pub struct LayoutInput<'a> {
     pub sharpness: &'a [i32],
     /// Off, or on with its multiplier.
     pub filter: Filter,
-    /// By sharpness, −65,504 to 65,504 each; looked at even when the filter is off.
+    /// By sharpness (the filter's sharp_lut), −65,504 to 65,504 each; looked at even when the filter
+    /// is off.
     pub lookup: &'a [f32; 8],
-    /// 1 to 73,728; looked at even when the filter is off.
+    /// The quantizer's global_scale, 1 to 73,728; looked at even when the filter is off.
     pub scale: u32,
 }
 
@@ -148,6 +150,31 @@ impl<'a> LayoutInput<'a> {
             scale: 1,
         }
     }
+
+    /// For messages where [`layout`] is refused with [`Length`](crate::Refusal::Length): the first
+    /// list whose length does not fit, if there is one.
+    ///
+    /// ```
+    /// use netbuff::{Columns, LayoutInput, LayoutMut, LfGroup};
+    ///
+    /// let columns = Columns { types: &[0], muls: &[0] };
+    /// let input = LayoutInput::unfiltered(LfGroup::new(16, 8), columns, &[0; 2]);
+    /// let (mut kinds, mut hf_mul, mut sigma) = ([0; 2], [0; 1], [0.0; 2]);
+    /// let output = LayoutMut { kinds: &mut kinds, hf_mul: &mut hf_mul, sigma: &mut sigma };
+    /// assert_eq!(input.misfit(&output), Some("hf_mul"));
+    /// ```
+    pub fn misfit(&self, output: &LayoutMut) -> Option<&'static str> {
+        let blocks = self.group.sides().blocks();
+        let lists = [
+            ("muls", self.columns.muls.len(), self.columns.types.len()),
+            ("sharpness", self.sharpness.len(), blocks),
+            ("kinds", output.kinds.len(), blocks),
+            ("hf_mul", output.hf_mul.len(), blocks),
+            ("sigma", output.sigma.len(), blocks),
+        ];
+        let unfit = lists.iter().find(|(_, length, due)| length != due);
+        unfit.map(|(name, ..)| *name)
+    }
 }
 
 /// The edge-preserving filter.
@@ -155,7 +182,7 @@ impl<'a> LayoutInput<'a> {
 pub enum Filter {
     /// Every strength is +0.0.
     Off,
-    /// With its multiplier, −65,504 to 65,504.
+    /// With its multiplier (quant_mul), −65,504 to 65,504.
     On(f32),
 }
 

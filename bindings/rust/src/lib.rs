@@ -32,14 +32,15 @@
 //! | 1 | [`column_count`]: how many columns an LF group has | |
 //! | 2 | [`layout()`]: columns to varblocks and filter strengths | [`LayoutBuf::read`] |
 //! | 3 | [`cut`]: a pass group out of the layout | [`Layout::cut`] |
-//! | 4 | [`block_context`]: the block contexts of the frame | |
+//! | 4 | [`block_context`]: the block contexts of the frame; [`scan_contexts`] for the length of its map | |
 //! | 5 | [`orders()`]: the orders of the pass | [`OrdersBuf::read`] |
 //! | 6 | [`coefficients`]: symbols to coefficients, added to three grids | [`GridsBuf`] |
 //!
 //! Beside them [`transform()`] looks a transform number up, [`alike`] compares two layouts,
-//! [`order()`] and [`places_fit`] look into a store of orders, [`read_bits`], [`read_u32`] and
-//! [`unpack_signed`] read single numbers. Every call that is lent bytes, those three aside, begins
-//! at their first bit, and bits come lowest first within each byte.
+//! [`order()`] and [`places_fit`] look into a store of orders, [`version()`] tells the library's
+//! version, [`read_bits`], [`read_u32`] and [`unpack_signed`] read single numbers. Every call that
+//! is lent bytes, those three aside, begins at their first bit, and bits come lowest first within
+//! each byte.
 //!
 //! ```
 //! use netbuff::*;
@@ -122,10 +123,11 @@ mod orders;
 mod record;
 mod refusal;
 mod transform;
+mod version;
 
 pub use bits::{read_bits, read_u32, unpack_signed, Choice, Place, Read};
 pub use coefficients::{coefficients, CoefficientInput, CoefficientMut, LfGrids, Presets};
-pub use contexts::{block_context, BlockClusters, BlockContexts};
+pub use contexts::{block_context, scan_contexts, BlockClusters, BlockContexts, ContextScan};
 pub use layout::{
     column_count, layout, ColumnCount, Columns, Filter, LayoutInput, LayoutMut, LfGroup,
 };
@@ -133,6 +135,7 @@ pub use orders::{order, orders, places_fit, Orders, STORE_LENGTH};
 pub use record::{alike, cut, Group, GroupMut, Layout, Sides, Varblock};
 pub use refusal::{Refusal, Result};
 pub use transform::{transform, Transform, TransformType};
+pub use version::{version, Version, VERSION};
 
 #[cfg(feature = "alloc")]
 pub use coefficients::GridsBuf;

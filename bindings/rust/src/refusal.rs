@@ -1,7 +1,8 @@
 use core::fmt;
 
-/// A call's answer: a result, or one refusal.
-pub type Result<T> = core::result::Result<T, Refusal>;
+/// A call's answer: a result, or one refusal. With a second type it is the usual `Result`, so that
+/// `use netbuff::*` takes nothing away.
+pub type Result<T, E = Refusal> = core::result::Result<T, E>;
 
 /// Why a call was refused, with the position that goes with it.
 ///
@@ -20,7 +21,8 @@ pub type Result<T> = core::result::Result<T, Refusal>;
 #[derive(Debug, Copy, Clone, PartialEq, Eq, Hash)]
 #[non_exhaustive]
 pub enum Refusal {
-    /// 1: a lent length does not fit.
+    /// 1: a lent length does not fit. [`LayoutInput::misfit`](crate::LayoutInput::misfit) and
+    /// [`CoefficientInput::misfit`](crate::CoefficientInput::misfit) tell which.
     Length,
     /// 2: a size is outside its limits, or a group's index outside its layout.
     Size,

@@ -7,6 +7,15 @@ const KIND: u8 = 0xa5;
 const NUMBER: i32 = 0x0bad_cafe;
 const STRENGTH: f32 = -1.5;
 
+/// A list that does not fit is named beside `Length`, and none where later refusals or a result come.
+fn named<T>(answer: &Result<T>, misfit: Option<&str>) {
+    match answer {
+        Err(Refusal::Size | Refusal::Parameter | Refusal::Context) => {}
+        Err(Refusal::Length) => assert!(misfit.is_some()),
+        _ => assert_eq!(misfit, None),
+    }
+}
+
 /// A layout call over columns, with everything else at rest.
 struct LayoutTry {
     group: LfGroup,
@@ -56,7 +65,10 @@ impl LayoutTry {
             hf_mul: &mut hf_mul,
             sigma: &mut sigma,
         };
-        let refusal = layout(&input, output).expect_err("a refusal");
+        let misfit = input.misfit(&output);
+        let answer = layout(&input, output);
+        named(&answer, misfit);
+        let refusal = answer.expect_err("a refusal");
         let hold = |kind, number, strength: f32| {
             kinds.iter().all(|&k| k == kind)
                 && hf_mul.iter().all(|&n| n == number)
@@ -294,6 +306,46 @@ fn contexts_that_are_refused_leave_the_record() {
     assert_eq!(read(&packed(&bits), 1, &[0; 39]), Err(Refusal::Context));
 }
 
+/// The scan ends where the call ends, and tells the one length of a map that the call takes.
+#[test]
+fn a_scan_of_contexts_tells_what_the_call_takes() {
+    let mut state = 1u32;
+    let mut next = || {
+        state = state.wrapping_mul(1_664_525).wrapping_add(1_013_904_223);
+        state >> 24
+    };
+    let (mut ended, mut accepted, mut too_many) = (0, 0, 0);
+    for _ in 0..20_000 {
+        let length = next() % 24;
+        // Few bits are set, so that lists are short.
+        let bytes: Vec<u8> = (0..length)
+            .map(|_| (next() & next() & next()) as u8)
+            .collect();
+        let scan = scan_contexts(&bytes);
+        let map = vec![0; scan.map_or(0, |scan| scan.map_length)];
+        let mut record = BlockContexts::ZERO;
+        let clusters = BlockClusters {
+            count: 1,
+            map: &map,
+        };
+        let answer = block_context(&bytes, clusters, &mut record);
+        match scan {
+            Err(refused) => assert_eq!(answer, Err(refused)),
+            Ok(scan) if scan.map_length > 2496 => assert_eq!(answer, Err(Refusal::Context)),
+            Ok(scan) => assert_eq!(answer, Ok(scan.bits_read)),
+        }
+        ended += usize::from(scan.is_err());
+        accepted += usize::from(answer.is_ok() && !map.is_empty());
+        too_many += usize::from(answer == Err(Refusal::Context));
+    }
+    assert!(ended > 100 && accepted > 100 && too_many > 100);
+}
+
+#[test]
+fn the_library_is_of_the_crates_version() {
+    assert_eq!(version(), VERSION);
+}
+
 fn packed(bits: &[bool]) -> Vec<u8> {
     let byte = |bits: &[bool]| {
         bits.iter()
@@ -400,7 +452,9 @@ impl CoefficientTry {
             grids: grids.each_mut().map(Vec::as_mut_slice),
             log: &mut log,
         };
+        let misfit = input.misfit(&output);
         let answer = coefficients(&input, output);
+        named(&answer, misfit);
         (answer, grids, log)
     }
 

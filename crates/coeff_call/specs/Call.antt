@@ -86,14 +86,14 @@ outcome (refused why at log grids) = record { answer = refuses (said (why at)); 
 abbrev pub refuse : Lent → Said → Outcome
 refuse L s = record { answer = refuses s; log = L .log; grids = L .grids }
 
-abbrev pub readPreset : Lent → Read ℕ
-readPreset L = readBits (L .bytes) 0 (exponent (L .presets))
+abbrev pub presetBits : Lent → Read ℕ
+presetBits L = readBits (L .bytes) 0 (exponent (L .presets))
 
 abbrev pub withPreset : Lent → Read ℕ → Outcome
 withPreset L bits = answeredBy (presetOf (L .presets) bits) (refuse L) (λ preset. outcome (reading L preset))
 
 unfoldable pub call : Lent → Outcome
-call L = answeredBy (beforeWork L) (refuse L) (λ u. withPreset L (readPreset L))
+call L = answeredBy (beforeWork L) (refuse L) (λ u. withPreset L (presetBits L))
 
 -- counts that were not used up, in all, of a call that comes to its work
 abbrev pub leftoverAt : Lent → Read ℕ → ℕ
@@ -101,4 +101,4 @@ leftoverAt L (Ended at) = 0
 leftoverAt L (Value preset at) = leftOf (reading L preset)
 
 abbrev pub leftover : Lent → ℕ
-leftover L = leftoverAt L (readPreset L)
+leftover L = leftoverAt L (presetBits L)

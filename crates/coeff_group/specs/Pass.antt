@@ -9,8 +9,8 @@ use Rattle.layout.specs.Varblocks.{Varblock, varblocksOf}
 use Rattle.lent_check.specs.declared.Group.{Group}
 use Rattle.order_store.specs.Store.{stretch}
 use Rattle.context_record.specs.declared.HfBlockContext.{HfBlockContext}
-use Rattle.context_index.specs.Lists.{used}
-use Rattle.context_index.specs.Contexts.{blockIndex}
+use Rattle.context_index.specs.Lists.{inUse}
+use Rattle.context_index.specs.Contexts.{blockEntry}
 use Rattle.order_natural.specs.Places.{paired}
 use Rattle.coeff_walk.specs.Places.{cellsOf}
 use Rattle.coeff_walk.specs.Item.{Item}
@@ -55,7 +55,7 @@ blocksOf v = wide (v .type) * high (v .type)
 -- the entry of the map of block contexts for the n-th channel walked, and the block context there
 abbrev pub contextEntry : Pass → Varblock → ℕ → ℕ
 contextEntry P v n =
-    blockIndex (used (P .contexts)) n (orderOf (v .type)) (v .hfMul) (P .lfThere)
+    blockEntry (inUse (P .contexts)) n (orderOf (v .type)) (v .hfMul) (P .lfThere)
     (blockAt (P .lf0) (P .bw) (v .x) (v .y)) (blockAt (P .lf1) (P .bw) (v .x) (v .y)) (blockAt (P .lf2) (P .bw) (v .x) (v .y))
 
 abbrev pub contextOf : Pass → Varblock → ℕ → ℕ

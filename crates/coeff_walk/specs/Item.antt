@@ -4,6 +4,7 @@ use mathlib.Core.List.{List, [], _∷_}
 use Prim.Native.Nat.{ℕ, zero, suc, _+_, _*_, _-_, _/_}
 use lib.Dec.{leb}
 use lib.ListN.{getD, set, take, drop}
+use Rattle.laws.specs.Lists.{fillFrom}
 use Rattle.refusal.specs.declared.Refusal.the-variants.{SymbolsEnd, Count}
 use Rattle.coeff_walk.specs.Walk.{Walked, stopped, walk}
 
@@ -32,15 +33,10 @@ countIndex p = cond (leb 8 p) (4 + p / 2) p
 abbrev pub countOver : ℕ → ℕ → ℕ
 countOver n blocks = (n + blocks - 1) / blocks
 
--- n numbers of a row from x on become v
-abbrev pub rowOf : List ℕ → ℕ → ℕ → ℕ → List ℕ
-rowOf row x zero v = row
-rowOf row x (suc n) v = rowOf (set row x v) (x + 1) n v
-
 -- the row after the first symbol was read as this item's count
 abbrev pub newRow : Item → List ℕ → List ℕ → List ℕ
 newRow it row [] = row
-newRow it row (n ∷ us) = rowOf row (it .x) (it .wide) (countOver n (it .blocks))
+newRow it row (n ∷ us) = fillFrom row (it .x) (it .wide) (countOver n (it .blocks))
 
 -- the entry of the preset map for an item's count
 abbrev pub countEntry : ℕ → Item → List ℕ → ℕ

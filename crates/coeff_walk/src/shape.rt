@@ -1,4 +1,4 @@
-// Where a varblock stands and what it looks like: its corner x, y and its width in blocks, whether it turns; 2 to the power
+// Where a varblock stands and what it looks like: its corner x, y and how many blocks it is wide, whether it turns; 2 to the power
 // `exponent` blocks.
 pub struct Shape {
     pub x: usize,

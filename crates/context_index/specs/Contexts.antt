@@ -53,15 +53,15 @@ abbrev pub lfIndexOf : Contexts → Bool → ℕ → ℕ → ℕ → ℕ
 lfIndexOf C there q0 q1 q2 = cond there (lfIndex C q0 q1 q2) 0
 
 -- entry of the map: n-th channel walked (from 0), order, qf index of so many, LF index of so many
-unfoldable pub placeOf : ℕ → ℕ → ℕ → ℕ → ℕ → ℕ → ℕ
-placeOf qfs lfs n order qf lf = ((n * 13 + order) * qfs + qf) * lfs + lf
+unfoldable pub entryOf : ℕ → ℕ → ℕ → ℕ → ℕ → ℕ → ℕ
+entryOf qfs lfs n order qf lf = ((n * 13 + order) * qfs + qf) * lfs + lf
 
-abbrev pub contextIndex : Contexts → ℕ → ℕ → ℕ → ℕ → ℕ
-contextIndex C = placeOf (length (C .qf) + 1) (lfSize C)
+abbrev pub entryIn : Contexts → ℕ → ℕ → ℕ → ℕ → ℕ
+entryIn C = entryOf (length (C .qf) + 1) (lfSize C)
 
 -- of the n-th channel walked, in a varblock of an order with its hf_mul and LF numbers q0, q1, q2, if there are any
-abbrev pub blockIndex : Contexts → ℕ → ℕ → ℕ → Bool → ℕ → ℕ → ℕ → ℕ
-blockIndex C n order hfMul there q0 q1 q2 = contextIndex C n order (qfIndex C hfMul) (lfIndexOf C there q0 q1 q2)
+abbrev pub blockEntry : Contexts → ℕ → ℕ → ℕ → Bool → ℕ → ℕ → ℕ → ℕ
+blockEntry C n order hfMul there q0 q1 q2 = entryIn C n order (qfIndex C hfMul) (lfIndexOf C there q0 q1 q2)
 
 abbrev pub blockContext : Contexts → ℕ → ℕ → ℕ → Bool → ℕ → ℕ → ℕ → ℕ
-blockContext C n order hfMul there q0 q1 q2 = getD (C .map) (blockIndex C n order hfMul there q0 q1 q2) 0
+blockContext C n order hfMul there q0 q1 q2 = getD (C .map) (blockEntry C n order hfMul there q0 q1 q2) 0

@@ -21,5 +21,5 @@ lists lengths lf qf map =
     }
 
 -- what a record says
-abbrev pub used : HfBlockContext → Contexts
-used R = lists (R .lengths) (R .«lf_thresholds») (R .«qf_thresholds») (R .«block_ctx_map»)
+abbrev pub inUse : HfBlockContext → Contexts
+inUse R = lists (R .lengths) (R .«lf_thresholds») (R .«qf_thresholds») (R .«block_ctx_map»)

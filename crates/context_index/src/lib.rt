@@ -1,11 +1,11 @@
 // The block contexts of a varblock (`write_hf_coeff` of `hf_coeff.rs`).
+use context_sizes::capped;
 use context_sizes::lf_size;
-use context_sizes::used;
 ghost use mathlib.Core.Path.{_≡_};
 ghost use mathlib.Core.Bool.{cond};
 ghost use Prim.Native.Nat.{_+_, _*_, _≤_, _<_};
 ghost use lib.ListN.{length, take, drop, getD};
-ghost use Rattle.context_index.specs.Contexts.{above, greater, lfIndexIn, placeOf};
+ghost use Rattle.context_index.specs.Contexts.{above, greater, lfIndexIn, entryOf};
 ghost use Rattle.context_index.specs.laws.Contexts.{blockContexts};
 ghost use Rattle.context_index.specs.Lists.{lfList, lists};
 
@@ -24,7 +24,7 @@ fn count_above(thresholds: &[u32], first: usize, n: u32, q: u32) -> usize
     requires { ⌜ first + 15 ≤ length (now thresholds) ⌝ }
     ensures { λ r. ⌜ (r ≡ above (take n (take 15 (drop first (now (thresholds .entry))))) q) × (r ≤ 15) ⌝ }
 {
-    let end = used(n);
+    let end = capped(n);
     let mut count = 0;
     let mut k = 0;
     while k < end {
@@ -49,8 +49,8 @@ fn lf_index(lf_thresholds: &[u32], lengths: [u32; 4], q0: u32, q1: u32, q2: u32)
     let i0 = count_above(lf_thresholds, 0, lengths[0], q0);
     let i2 = count_above(lf_thresholds, 30, lengths[2], q2);
     let i1 = count_above(lf_thresholds, 15, lengths[1], q1);
-    let size2 = used(lengths[2]) + 1;
-    let size1 = used(lengths[1]) + 1;
+    let size2 = capped(lengths[2]) + 1;
+    let size1 = capped(lengths[1]) + 1;
     (i0 * size2 + i2) * size1 + i1
 }
 
@@ -71,7 +71,7 @@ fn context_at(
     lf: usize,
 ) -> usize
     requires { ⌜ (length (now «block_ctx_map») ≤ 2496) × (1 ≤ «qf_size») × («qf_size» ≤ 16) × (1 ≤ «lf_size») × («lf_size» ≤ 4096) × (n < 3) × (qf ≤ 15) × (lf ≤ 4095) ⌝ }
-    ensures { λ r. ⌜ r ≡ getD (now («block_ctx_map» .entry)) (placeOf «qf_size» «lf_size» n order qf lf) 0 ⌝ }
+    ensures { λ r. ⌜ r ≡ getD (now («block_ctx_map» .entry)) (entryOf «qf_size» «lf_size» n order qf lf) 0 ⌝ }
 {
     if block_ctx_map.len() <= order {
         return 0;
@@ -119,7 +119,7 @@ pub fn block_contexts<'a>(
 {
     let qf = qf_index(&qf_thresholds[..], lengths, hf_mul);
     let lf = lf_index_of(&lf_thresholds[..], lengths, lf_there, q0, q1, q2);
-    let qfs = used(lengths[3]) + 1;
+    let qfs = capped(lengths[3]) + 1;
     let lfs = lf_size(lengths);
     let y = context_at(&block_ctx_map[..], qfs, lfs, 0, order, qf, lf);
     let x = context_at(&block_ctx_map[..], qfs, lfs, 1, order, qf, lf);

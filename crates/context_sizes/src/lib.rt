@@ -5,7 +5,7 @@ ghost use lib.ListN.{getD};
 ghost use Rattle.context_sizes.specs.laws.Sizes.{cappedBsize};
 
 // Places in use of 15.
-pub fn used(n: u32) -> usize
+pub fn capped(n: u32) -> usize
     ensures { λ r. ⌜ r ≡ min n 15 ⌝ }
 {
     if n < 15 {
@@ -18,9 +18,9 @@ pub fn used(n: u32) -> usize
 pub fn lf_size(lengths: [u32; 4]) -> usize
     ensures { λ r. ⌜ (r ≡ (min (getD lengths 0 0) 15 + 1) * (min (getD lengths 1 0) 15 + 1) * (min (getD lengths 2 0) 15 + 1)) × (1 ≤ r) × (r ≤ 4096) ⌝ }
 {
-    let size0 = used(lengths[0]) + 1;
-    let size1 = used(lengths[1]) + 1;
-    let size2 = used(lengths[2]) + 1;
+    let size0 = capped(lengths[0]) + 1;
+    let size1 = capped(lengths[1]) + 1;
+    let size2 = capped(lengths[2]) + 1;
     size0 * size1 * size2
 }
 
@@ -28,6 +28,6 @@ pub fn lf_size(lengths: [u32; 4]) -> usize
 pub fn bsize(lengths: [u32; 4]) -> usize
     ensures { λ r. ⌜ r ≡ cappedBsize lengths ⌝ }
 {
-    let qfs = used(lengths[3]) + 1;
+    let qfs = capped(lengths[3]) + 1;
     lf_size(lengths) * qfs
 }

@@ -2,7 +2,6 @@
 -- other columns or sharpness numbers.
 use mathlib.Core.List.{List}
 use Prim.Native.Nat.{ℕ, _+_, _*_}
-use lib.ListN.{getD}
 use lib.Ieee.{Float}
 use Rattle.layout.specs.Grid.{blockAt}
 use Rattle.layout.specs.Varblocks.{Varblock, varblocksOf}
@@ -22,10 +21,6 @@ withColumns i types muls = inputs (i .width) (i .height) (i .modes) types muls (
 
 abbrev pub withSharpness : Inputs → List ℕ → Inputs
 withSharpness i sharpness = inputs (i .width) (i .height) (i .modes) (i .types) (i .muls) sharpness (i .filter) (i .lookups) (i .scale)
-
--- the bit pattern of sigma of the block (x, y)
-abbrev pub sigmaAt : List ℕ → ℕ → ℕ → ℕ → ℕ
-sigmaAt sigma bw x y = getD sigma (y * bw + x) 0
 
 module _ (i : Inputs) (kinds hfMul sigma : List ℕ) where
   -- the varblocks that are left, corners row by row

@@ -12,9 +12,9 @@ use Rattle.layout_filter.specs.declared.Filter.{Filter}
 use Rattle.layout_filter.specs.Limits.{paramsFit}
 use Rattle.layout_call.specs.declared.LayoutAnswer.{LayoutAnswer}
 use Rattle.layout_call.specs.declared.LayoutAnswer.the-variants.{Accepted, Refused}
-use Rattle.layout_reading.specs.Reading.{Job, reading, jobBy}
-use Rattle.layout_reading.specs.Outcome.{outcome}
-pub use Rattle.layout_reading.specs.Outcome.{Outcome, outcomeOf}
+use Rattle.layout_placing.specs.Reading.{Job, reading, jobBy}
+use Rattle.layout_placing.specs.Outcome.{outcome}
+pub use Rattle.layout_placing.specs.Outcome.{Outcome, outcomeOf}
 
 -- the paper's number and values of each answer
 abbrev pub answered : LayoutAnswer → Answer ℕ

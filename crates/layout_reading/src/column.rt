@@ -10,8 +10,9 @@ ghost use mathlib.Core.Path.{_≡_};
 ghost use Prim.Native.Nat.{_+_, _*_, _≤_, _<_};
 ghost use lib.ListN.{length};
 ghost use Rattle.layout_filter.specs.laws.Finite.{ScaledBounded};
-ghost use Rattle.layout_reading.specs.Reading.{Going, place as placeOf, visit as visitOf, jobWith};
+ghost use Rattle.layout_placing.specs.Reading.{Going, place as placeOf, visit as visitOf, jobWith};
 ghost use Rattle.layout_reading.specs.laws.Outcome.{stateOf, stepped};
+ghost use Rattle.layout_reading.specs.laws.Places.{stepOf};
 
 // The reading goes on with that many columns used, or stops after that many were placed.
 pub enum Step {
@@ -19,7 +20,20 @@ pub enum Step {
     Stopped(usize, Refusal),
 }
 
-// A varblock at the free block (x, y). A refusal hands back the free block, not the cell.
+// What a scan makes of the column at the free block (x, y). A refusal hands back the free block, not the cell.
+fn step_of(outcome: Scanned, used: usize, x: usize, y: usize) -> Step
+    requires { ⌜ used < 18446744073709551615 ⌝ }
+    ensures { λ r. ⌜ r ≡ stepOf outcome used x y ⌝ }
+{
+    match outcome {
+        Scanned::Outside(_cx, _cy) => Step::Stopped(used, Refusal::Outside(x, y)),
+        Scanned::Overlap(_cx, _cy) => Step::Stopped(used, Refusal::Overlap(x, y)),
+        Scanned::Sharpness(_cx, _cy) => Step::Stopped(used, Refusal::Sharpness(x, y)),
+        Scanned::Taken => Step::Going(used + 1),
+    }
+}
+
+// A varblock at the free block (x, y).
 fn place(
     kinds: &mut [u8],
     hf_mul: &mut [u32],
@@ -51,17 +65,14 @@ fn place(
         v.wide,
         v.high,
     );
-    match outcome {
-        Scanned::Outside(_cx, _cy) => Step::Stopped(used, Refusal::Outside(x, y)),
-        Scanned::Overlap(_cx, _cy) => Step::Stopped(used, Refusal::Overlap(x, y)),
-        Scanned::Sharpness(_cx, _cy) => Step::Stopped(used, Refusal::Sharpness(x, y)),
-        Scanned::Taken => {
-            let i = y * bw + x;
-            kinds[i] = v.kind;
-            hf_mul[i] = v.hf_mul;
-            Step::Going(used + 1)
-        }
+    let step = step_of(outcome, used, x, y);
+    if outcome.refuses() {
+        return step;
     }
+    let i = y * bw + x;
+    kinds[i] = v.kind;
+    hf_mul[i] = v.hf_mul;
+    step
 }
 
 // The block (x, y): passed over where it is taken, else it takes the next column.

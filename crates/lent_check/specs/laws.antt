@@ -3,4 +3,11 @@ pub mod Laws
 pub mod Corners
 pub mod Theorems
 pub mod Flaws
-pub mod TwoSteps
+pub mod Sorts
+pub mod Depths
+pub mod Steps
+pub mod Apart
+pub mod Claims
+pub mod Rows
+pub mod Listing
+pub mod Closing

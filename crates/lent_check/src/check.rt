@@ -1,7 +1,6 @@
 // The check of a lent layout or group: each cell by itself, then row by row.
 use crate::Group;
 use crate::cells::cells_sound;
-use crate::rows::LARGER;
 use crate::rows::close_row;
 use crate::rows::place_row;
 use lent_sides::limits::in_limits;
@@ -19,23 +18,22 @@ ghost use Rattle.lent_check.specs.Calls.{checkOf};
 ghost use Rattle.lent_check.specs.laws.Laws.{isLentLayout};
 
 // The bw x bh cells are a layout.
-fn cells_fit(bw: usize, bh: usize, kinds: &[u8], hf_mul: &[u32]) -> bool
+fn is_layout(bw: usize, bh: usize, kinds: &[u8], hf_mul: &[u32]) -> bool
     requires { ⌜ (bw ≤ 256) × (bh ≤ 256) × (length (now kinds) ≡ bh * bw) × (length (now «hf_mul») ≡ bh * bw) ⌝ }
     ensures { λ r. ⌜ r ≡ isLayout bw bh (now (kinds .entry)) (now («hf_mul» .entry)) ⌝ }
 {
     if !cells_sound(kinds, hf_mul) {
         return false;
     }
-    let larger = LARGER;
     let wides = WIDE;
     let highs = HIGH;
-    let mut until = [0u16; 256];
+    let mut depth = [0u8; 259];
     let mut y = 0;
     while y < bh {
-        if !place_row(&mut until, &larger, &wides, &highs, bw, bh, kinds, y) {
+        if !place_row(&mut depth, &wides, &highs, bw, bh, kinds, y) {
             return false;
         }
-        if !close_row(&mut until, bw, kinds, y) {
+        if !close_row(&mut depth, bw, kinds, y) {
             return false;
         }
         y += 1;
@@ -44,7 +42,7 @@ fn cells_fit(bw: usize, bh: usize, kinds: &[u8], hf_mul: &[u32]) -> bool
 }
 
 // Sides of 1 to 256, lengths of as many cells, and the cells are a layout.
-pub fn is_layout(bw: usize, bh: usize, kinds: &[u8], hf_mul: &[u32]) -> bool
+pub fn is_lent_layout(bw: usize, bh: usize, kinds: &[u8], hf_mul: &[u32]) -> bool
     ensures { λ r. ⌜ r ≡ isLentLayout bw bh (now (kinds .entry)) (now («hf_mul» .entry)) ⌝ }
 {
     if !in_limits(256, bw, bh) {
@@ -53,7 +51,7 @@ pub fn is_layout(bw: usize, bh: usize, kinds: &[u8], hf_mul: &[u32]) -> bool
     if !lengths_fit(bw, bh, kinds.len(), hf_mul.len()) {
         return false;
     }
-    cells_fit(bw, bh, kinds, hf_mul)
+    is_layout(bw, bh, kinds, hf_mul)
 }
 
 // A lent group: sides 1 to 32 (2), lengths (1), 18.
@@ -68,7 +66,7 @@ pub fn check_group(group: Group, kinds: &[u8], hf_mul: &[u32]) -> Checked
     if !lengths_fit(bw, bh, kinds.len(), hf_mul.len()) {
         return Checked::Refused(Refusal::Length);
     }
-    if !cells_fit(bw, bh, kinds, hf_mul) {
+    if !is_layout(bw, bh, kinds, hf_mul) {
         return Checked::Refused(Refusal::Layout);
     }
     Checked::Fine

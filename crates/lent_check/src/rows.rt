@@ -1,63 +1,73 @@
-// A row of a lent layout: corners of more than one block are placed, then each column is seen to be covered just once.
+// A row of a lent layout: corners of more than one block are placed, then each column is seen to be covered just once. Of each
+// column its depth is kept, in a byte: how many rows are covered, from the row on that is looked at.
 use lent_sides::sizes::size_of;
 ghost use mathlib.Core.Path.{_≡_};
 ghost use mathlib.Core.Bool.{cond};
-ghost use Prim.Native.Nat.{_+_, _*_, _≤_, _<_, max};
+ghost use Prim.Native.Nat.{_+_, _-_, _*_, _≤_, _<_, max};
 ghost use lib.Dec.{ltb};
 ghost use lib.ListN.{length, getD};
 ghost use Rattle.layout.specs.Kinds.{wideOf, highOf};
 ghost use Rattle.layout.specs.Walk.{cells};
-ghost use Rattle.layout.specs.Grid.{blockAt, fillFrom};
-ghost use Rattle.layout.specs.Check.{Fault, Until, clear, fitting};
+ghost use Rattle.layout.specs.Grid.{blockAt};
+ghost use Rattle.layout.specs.Check.{Fault, Until, fitting};
 ghost use Rattle.lent_sides.specs.laws.Sizes.{widths, heights};
-ghost use Rattle.lent_check.specs.laws.Flaws.{flagOf, Known};
-ghost use Rattle.lent_check.specs.laws.TwoSteps.{LARGER as largers, withinOf, gapOf, placeCell, place, close, looked, Listed};
+ghost use Rattle.lent_check.specs.laws.Flaws.{flagOf};
+ghost use Rattle.lent_check.specs.laws.Sorts.{withinOf, largerOf};
+ghost use Rattle.lent_check.specs.laws.Steps.{gapOf, placeCell, place, close};
+ghost use Rattle.lent_check.specs.laws.Listing.{Flags, Flagged, looked, Listed};
+ghost use Rattle.lent_check.specs.laws.Claims.{claimed};
 
-// Not 0 for the kinds that a row's walk looks at: a free block, and the corners of more than one block.
-pub(crate) const LARGER: [u8; 29] = [
-    1,
-    0,
-    0,
-    0,
-    0,
-    0,
-    1,
-    1,
-    1,
-    1,
-    1,
-    1,
-    1,
-    1,
-    0,
-    0,
-    0,
-    0,
-    0,
-    0,
-    1,
-    1,
-    1,
-    1,
-    1,
-    1,
-    1,
-    1,
-    1,
-];
-
-// The columns x to x + n - 1, covered up to row y at most, are now covered up to row v.
-fn claim(until: &mut [u16; 256], y: u16, x: usize, n: usize, v: u16) -> bool
-    requires { ⌜ x + n ≤ 256 ⌝ }
-    ensures { λ r. ⌜ cond r (Until (now (until .exit))) Fault ≡ cond (clear (now (until .entry)) y x n) (Until (fillFrom (now (until .entry)) x n v)) Fault ⌝ }
+// a for the first n, b for the others.
+fn pick(i: usize, n: usize, a: u8, b: u8) -> u8
+    ensures { λ r. ⌜ r ≡ cond (ltb i n) a b ⌝ }
 {
+    if i < n {
+        return a;
+    }
+    b
+}
+
+fn most(a: u8, b: u8) -> u8
+    ensures { λ r. ⌜ r ≡ max a b ⌝ }
+{
+    if a < b {
+        return b;
+    }
+    a
+}
+
+// The first four of n columns from x on, which must be clear, now have depth v. No branch hangs on how many there are, which
+// cannot be guessed; most corners have no more than four. Three columns beyond the last are there to be looked at with it.
+fn claim_four(depth: &mut [u8; 259], x: usize, n: usize, v: u8) -> bool
+    requires { ⌜ x < 256 ⌝ }
+    ensures { λ r. ⌜ cond r (claimed (now (depth .exit)) (x + 4) (n - 4) v) Fault ≡ claimed (now (depth .entry)) x n v ⌝ }
+{
+    let mut found = 0;
+    let mut i = 0;
+    while i < 4 {
+        let old = depth[x + i];
+        found = most(found, pick(i, n, old, 0));
+        depth[x + i] = pick(i, n, v, old);
+        i += 1;
+    }
+    found == 0
+}
+
+// The columns x to x + n - 1, which must be clear, now have depth v.
+fn claim(depth: &mut [u8; 259], x: usize, n: usize, v: u8) -> bool
+    requires { ⌜ (x < 256) × (x + n ≤ 256) ⌝ }
+    ensures { λ r. ⌜ cond r (Until (now (depth .exit))) Fault ≡ claimed (now (depth .entry)) x n v ⌝ }
+{
+    if !claim_four(depth, x, n, v) {
+        return false;
+    }
     let e = x + n;
-    let mut i = x;
+    let mut i = x + 4;
     while i < e {
-        if y < until[i] {
+        if 0 < depth[i] {
             return false;
         }
-        until[i] = v;
+        depth[i] = v;
         i += 1;
     }
     true
@@ -83,90 +93,8 @@ fn fits(bw: usize, bh: usize, kind: u8, w: usize, h: usize, x: usize, y: usize) 
     y % 32 + h <= 32
 }
 
-fn to_usize(x: u8) -> usize
-    ensures { λ r. ⌜ r ≡ x ⌝ }
-{
-    x as usize
-}
-
-// A corner of more than one block, at (x, y), on clear columns; any other cell is passed.
-fn place_cell(
-    until: &mut [u16; 256],
-    larger: &[u8; 29],
-    wides: &[usize; 27],
-    highs: &[usize; 27],
-    bw: usize,
-    bh: usize,
-    kind: u8,
-    x: usize,
-    y: usize,
-) -> bool
-    requires { ⌜ (now larger ≡ largers) × (now wides ≡ widths) × (now highs ≡ heights) × (kind < 29) × (x < bw) × (bw ≤ 256) × (y < bh) × (bh ≤ 256) ⌝ }
-    ensures { λ r. ⌜ cond r (Until (now (until .exit))) Fault ≡ placeCell bw bh kind x y (now (until .entry)) ⌝ }
-{
-    if larger[to_usize(kind)] == 0 {
-        return true;
-    }
-    if kind < 2 {
-        return false;
-    }
-    let size = size_of(wides, highs, kind);
-    let w = size.wide;
-    let h = size.high;
-    if !fits(bw, bh, kind, w, h, x, y) {
-        return false;
-    }
-    claim(until, y as u16, x, w, (y + h) as u16)
-}
-
-// The columns of row y that are looked at, from the first: how many, and as many places of the list. No branch hangs on
-// what a cell holds, which cannot be guessed.
-fn list_row(list: &mut [u8; 256], larger: &[u8; 29], bw: usize, kinds: &[u8], y: usize) -> usize
-    requires { ⌜ (now larger ≡ largers) × (bw ≤ 256) × (y < 256) × ((y + 1) * bw ≤ length (now kinds)) × Known (now kinds) × (length (now list) ≡ 256) ⌝ }
-    ensures { λ r. ⌜ Listed (looked (blockAt (now (kinds .entry)) bw) y bw 0) r (now (list .exit)) ⌝ }
-{
-    let start = y * bw;
-    let mut n = 0;
-    let mut x = 0;
-    while x < bw {
-        list[n] = x as u8;
-        n += to_usize(larger[to_usize(kinds[start + x])]);
-        x += 1;
-    }
-    n
-}
-
-// The corners of more than one block in row y.
-pub(crate) fn place_row(
-    until: &mut [u16; 256],
-    larger: &[u8; 29],
-    wides: &[usize; 27],
-    highs: &[usize; 27],
-    bw: usize,
-    bh: usize,
-    kinds: &[u8],
-    y: usize,
-) -> bool
-    requires { ⌜ (now larger ≡ largers) × (now wides ≡ widths) × (now highs ≡ heights) × (bw ≤ 256) × (y < bh) × (bh ≤ 256) × (length (now kinds) ≡ bh * bw) × Known (now kinds) ⌝ }
-    ensures { λ r. ⌜ cond r (Until (now (until .exit))) Fault ≡ cells (place bw bh (blockAt (now (kinds .entry)) bw)) bw 0 y (Until (now (until .entry))) ⌝ }
-{
-    let start = y * bw;
-    let mut list = [0u8; 256];
-    let n = list_row(&mut list, larger, bw, kinds, y);
-    let mut i = 0;
-    while i < n {
-        let x = to_usize(list[i]);
-        let kind = kinds[start + x];
-        if !place_cell(until, larger, wides, highs, bw, bh, kind, x, y) {
-            return false;
-        }
-        i += 1;
-    }
-    true
-}
-
 // 1 for a kind within bounds, else 0.
-fn within(kind: u8, first: u8, last: u8) -> u16
+fn within(kind: u8, first: u8, last: u8) -> u8
     ensures { λ r. ⌜ (r ≡ withinOf kind first last) × (r ≤ 1) ⌝ }
 {
     if kind < first {
@@ -178,49 +106,153 @@ fn within(kind: u8, first: u8, last: u8) -> u16
     1
 }
 
-// 1 for a column that is covered below row y, else 0.
-fn below(y: u16, u: u16) -> u16
-    ensures { λ r. ⌜ r ≡ flagOf (ltb y u) ⌝ }
+// 0 for an occupied block and for a corner of one block, 1 for a free block and for a corner of more than one.
+fn larger(kind: u8) -> u8
+    ensures { λ r. ⌜ r ≡ largerOf kind ⌝ }
 {
-    if y < u {
+    if within(kind, 1, 5) + within(kind, 14, 19) == 0 {
+        return 1;
+    }
+    0
+}
+
+fn to_usize(x: u8) -> usize
+    ensures { λ r. ⌜ r ≡ x ⌝ }
+{
+    x as usize
+}
+
+// A corner of more than one block, at (x, y), on clear columns; any other cell is passed.
+fn place_cell(
+    depth: &mut [u8; 259],
+    wides: &[usize; 27],
+    highs: &[usize; 27],
+    bw: usize,
+    bh: usize,
+    kind: u8,
+    x: usize,
+    y: usize,
+) -> bool
+    requires { ⌜ (now wides ≡ widths) × (now highs ≡ heights) × (x < bw) × (bw ≤ 256) × (y < bh) × (bh ≤ 256) ⌝ }
+    ensures { λ r. ⌜ cond r (Until (now (depth .exit))) Fault ≡ placeCell bw bh kind x y (now (depth .entry)) ⌝ }
+{
+    if larger(kind) == 0 {
+        return true;
+    }
+    if kind < 2 {
+        return false;
+    }
+    let size = size_of(wides, highs, kind);
+    let w = size.wide;
+    let h = size.high;
+    if !fits(bw, bh, kind, w, h, x, y) {
+        return false;
+    }
+    claim(depth, x, w, h as u8)
+}
+
+// Which columns of row y are looked at: 1 for each of them, many at a time.
+fn flag_row(flags: &mut [u8; 256], bw: usize, kinds: &[u8], y: usize)
+    requires { ⌜ (bw ≤ 256) × (y < 256) × ((y + 1) * bw ≤ length (now kinds)) × (length (now flags) ≡ 256) ⌝ }
+    ensures { λ r. ⌜ Flagged (blockAt (now (kinds .entry)) bw) y bw (now (flags .exit)) ⌝ }
+{
+    let start = y * bw;
+    let mut x = 0;
+    while x < bw {
+        flags[x] = larger(kinds[start + x]);
+        x += 1;
+    }
+}
+
+// The columns that are flagged, from the first: how many, and as many places of the list. No branch hangs on a flag, which
+// cannot be guessed.
+fn list_row(list: &mut [u8; 256], flags: &[u8; 256], bw: usize) -> usize
+    requires { ⌜ (bw ≤ 256) × (length (now list) ≡ 256) × Flags bw (now flags) ⌝ }
+    ensures { λ r. ⌜ Listed (looked (λ x. getD (now (flags .entry)) x 0) bw 0) r (now (list .exit)) ⌝ }
+{
+    let mut n = 0;
+    let mut x = 0;
+    while x < bw {
+        list[n] = x as u8;
+        n += to_usize(flags[x]);
+        x += 1;
+    }
+    n
+}
+
+// The corners of more than one block in row y.
+pub(crate) fn place_row(
+    depth: &mut [u8; 259],
+    wides: &[usize; 27],
+    highs: &[usize; 27],
+    bw: usize,
+    bh: usize,
+    kinds: &[u8],
+    y: usize,
+) -> bool
+    requires { ⌜ (now wides ≡ widths) × (now highs ≡ heights) × (bw ≤ 256) × (y < bh) × (bh ≤ 256) × (length (now kinds) ≡ bh * bw) ⌝ }
+    ensures { λ r. ⌜ cond r (Until (now (depth .exit))) Fault ≡ cells (place bw bh (blockAt (now (kinds .entry)) bw)) bw 0 y (Until (now (depth .entry))) ⌝ }
+{
+    let start = y * bw;
+    let mut list = [0u8; 256];
+    let mut flags = [0u8; 256];
+    flag_row(&mut flags, bw, kinds, y);
+    let n = list_row(&mut list, &flags, bw);
+    let mut i = 0;
+    while i < n {
+        let x = to_usize(list[i]);
+        let kind = kinds[start + x];
+        if !place_cell(depth, wides, highs, bw, bh, kind, x, y) {
+            return false;
+        }
+        i += 1;
+    }
+    true
+}
+
+// 1 for a column that is covered, else 0.
+fn covered(v: u8) -> u8
+    ensures { λ r. ⌜ r ≡ flagOf (ltb 0 v) ⌝ }
+{
+    if 0 < v {
         return 1;
     }
     0
 }
 
 // 0 for a corner of one block on a clear column, and for any other cell on a covered one, else 1.
-fn gap(kind: u8, y: u16, u: u16) -> u16
-    ensures { λ r. ⌜ (r ≡ gapOf kind y u) × (r ≤ 1) ⌝ }
+fn gap(kind: u8, v: u8) -> u8
+    ensures { λ r. ⌜ r ≡ gapOf kind v ⌝ }
 {
     let one = within(kind, 2, 5) + within(kind, 14, 19);
-    if below(y, u) == one {
+    if covered(v) == one {
         return 1;
     }
     0
 }
 
-fn most(a: u16, b: u16) -> u16
-    ensures { λ r. ⌜ r ≡ max a b ⌝ }
+fn one_less(v: u8) -> u8
+    ensures { λ r. ⌜ r ≡ v - 1 ⌝ }
 {
-    if a < b {
-        return b;
+    if v == 0 {
+        return 0;
     }
-    a
+    v - 1
 }
 
-// Row y has no gap; its columns are all covered then. The loop has no early exit, so that many columns are taken at a time.
-pub(crate) fn close_row(until: &mut [u16; 256], bw: usize, kinds: &[u8], y: usize) -> bool
+// Row y has no gap; depths count from the next row on then. The loop has no early exit, and all in it is bytes, so that 16
+// columns are taken at a time.
+pub(crate) fn close_row(depth: &mut [u8; 259], bw: usize, kinds: &[u8], y: usize) -> bool
     requires { ⌜ (bw ≤ 256) × (y < 256) × ((y + 1) * bw ≤ length (now kinds)) ⌝ }
-    ensures { λ r. ⌜ cond r (Until (now (until .exit))) Fault ≡ cells (close (blockAt (now (kinds .entry)) bw)) bw 0 y (Until (now (until .entry))) ⌝ }
+    ensures { λ r. ⌜ cond r (Until (now (depth .exit))) Fault ≡ cells (close (blockAt (now (kinds .entry)) bw)) bw 0 y (Until (now (depth .entry))) ⌝ }
 {
     let start = y * bw;
-    let row = y as u16;
     let mut gaps = 0;
     let mut x = 0;
     while x < bw {
-        let u = until[x];
-        gaps += gap(kinds[start + x], row, u);
-        until[x] = most(u, row + 1);
+        let v = depth[x];
+        gaps = most(gaps, gap(kinds[start + x], v));
+        depth[x] = one_less(v);
         x += 1;
     }
     gaps == 0

@@ -12,9 +12,9 @@ use Rattle.refusal.specs.Answer.{Answer, gives, refuses, unless, passed, answer
 use Rattle.lent_sides.specs.Limits.{inLimits, lengthsFit}
 use Rattle.lent_cut.specs.declared.cut.CutAnswer.{CutAnswer}
 
-abbrev pub saidCut : CutAnswer → Answer Group
-saidCut (CutAnswer.Accepted g) = gives g
-saidCut (CutAnswer.Refused r) = refuses (said r)
+abbrev pub answered : CutAnswer → Answer Group
+answered (CutAnswer.Accepted g) = gives g
+answered (CutAnswer.Refused r) = refuses (said r)
 
 -- an answer, and the two lent buffers after it
 pub record Outcome : Type 0 where

@@ -1,6 +1,6 @@
 // The cut of a lent layout into pass groups, counted row by row from 0.
 use lent_check::Group;
-use lent_check::check::is_layout;
+use lent_check::check::is_lent_layout;
 use lent_sides::limits::in_limits;
 use lent_sides::limits::lengths_fit;
 use refusal::Checked;
@@ -11,10 +11,12 @@ ghost use Prim.Native.Nat.{_+_, _*_, _≤_, _<_};
 ghost use lib.ListN.{length};
 ghost use Rattle.layout.specs.Grid.{blockAt, gridOf};
 ghost use Rattle.layout.specs.Cut.{groups, groupX, groupY, hasGroup, side, groupBw, groupBh};
+ghost use Rattle.refusal.specs.Answer.{gives};
 ghost use Rattle.refusal.specs.laws.Answer.{checked};
 ghost use Rattle.lent_sides.specs.Limits.{inLimits};
 ghost use Rattle.lent_check.specs.Group.{groupOf};
-ghost use Rattle.lent_cut.specs.Calls.{saidCut, outcome, cutCheck, cutOf};
+ghost use Rattle.lent_cut.specs.Calls.{answered, outcome, cutCheck, cutOf};
+ghost use Rattle.lent_cut.specs.laws.CutSteps.{Passed, cutDone};
 
 // What the cut answers: the sides of the group.
 pub enum CutAnswer {
@@ -77,9 +79,12 @@ fn sides_of(bw: usize, bh: usize, index: usize) -> Group
 {
     let gx = group_x(bw, index);
     let gy = group_y(bw, index);
-    let wide = blocks_along(bw, gx);
-    let high = blocks_along(bh, gy);
-    Group { bw: wide, bh: high }
+    let group_bw = blocks_along(bw, gx);
+    let group_bh = blocks_along(bh, gy);
+    Group {
+        bw: group_bw,
+        bh: group_bh,
+    }
 }
 
 // What comes before the cut: sides and index (2), lengths (1), 18.
@@ -107,39 +112,71 @@ fn cut_check(
     if !lengths_fit(group.bw, group.bh, out_kinds, out_hf_mul) {
         return Checked::Refused(Refusal::Length);
     }
-    if !is_layout(bw, bh, kinds, hf_mul) {
+    if !is_lent_layout(bw, bh, kinds, hf_mul) {
         return Checked::Refused(Refusal::Layout);
     }
     Checked::Fine
 }
 
-// The wide x high cells from (left, top) on are copied.
+// The cells of a group whose first block is (left, top).
 fn copy_cells(
     bw: usize,
     kinds: &[u8],
     hf_mul: &[u32],
     left: usize,
     top: usize,
-    wide: usize,
-    high: usize,
+    group_bw: usize,
+    group_bh: usize,
     out_kinds: &mut [u8],
     out_hf_mul: &mut [u32],
 )
-    requires { ⌜ (left + wide ≤ bw) × (top + high ≤ 256) × ((top + high) * bw ≤ length (now kinds)) × (length (now «hf_mul») ≡ length (now kinds)) × (length (now «out_kinds») ≡ high * wide) × (length (now «out_hf_mul») ≡ high * wide) ⌝ }
-    ensures { λ r. ⌜ (now («out_kinds» .exit) ≡ gridOf (λ x y. blockAt (now (kinds .entry)) bw (left + x) (top + y)) wide high) × (now («out_hf_mul» .exit) ≡ gridOf (λ x y. blockAt (now («hf_mul» .entry)) bw (left + x) (top + y)) wide high) ⌝ }
+    requires { ⌜ (left + «group_bw» ≤ bw) × (top + «group_bh» ≤ 256) × ((top + «group_bh») * bw ≤ length (now kinds)) × (length (now «hf_mul») ≡ length (now kinds)) × (length (now «out_kinds») ≡ «group_bh» * «group_bw») × (length (now «out_hf_mul») ≡ «group_bh» * «group_bw») ⌝ }
+    ensures { λ r. ⌜ (now («out_kinds» .exit) ≡ gridOf (λ x y. blockAt (now (kinds .entry)) bw (left + x) (top + y)) «group_bw» «group_bh») × (now («out_hf_mul» .exit) ≡ gridOf (λ x y. blockAt (now («hf_mul» .entry)) bw (left + x) (top + y)) «group_bw» «group_bh») ⌝ }
 {
     let mut y = 0;
-    while y < high {
+    while y < group_bh {
         let mut x = 0;
-        while x < wide {
+        while x < group_bw {
             let i = (top + y) * bw + (left + x);
-            let j = y * wide + x;
+            let j = y * group_bw + x;
             out_kinds[j] = kinds[i];
             out_hf_mul[j] = hf_mul[i];
             x += 1;
         }
         y += 1;
     }
+}
+
+// The sides of a group that has passed the checks. Its cells are copied.
+fn copy_group(
+    bw: usize,
+    bh: usize,
+    kinds: &[u8],
+    hf_mul: &[u32],
+    index: usize,
+    out_kinds: &mut [u8],
+    out_hf_mul: &mut [u32],
+) -> Group
+    requires { ⌜ Passed bw bh (now kinds) (now «hf_mul») index (length (now «out_kinds»)) (length (now «out_hf_mul»)) ⌝ }
+    ensures { λ r. ⌜ outcome (gives r) (now («out_kinds» .exit)) (now («out_hf_mul» .exit)) ≡ cutDone bw bh (now (kinds .entry)) (now («hf_mul» .entry)) index ⌝ }
+{
+    let gx = group_x(bw, index);
+    let gy = group_y(bw, index);
+    let group = sides_of(bw, bh, index);
+    let group_bw = group.bw;
+    let group_bh = group.bh;
+    copy_cells(
+        bw,
+        kinds,
+        hf_mul,
+        32 * gx,
+        32 * gy,
+        group_bw,
+        group_bh,
+        out_kinds,
+        out_hf_mul,
+    );
+    group
 }
 
 // Group `index` of a lent layout: its sides, its kinds and hf_mul into buffers of exactly its blocks. A refusal writes nothing.
@@ -152,7 +189,7 @@ pub fn cut(
     out_kinds: &mut [u8],
     out_hf_mul: &mut [u32],
 ) -> CutAnswer
-    ensures { λ r. ⌜ outcome (saidCut r) (now («out_kinds» .exit)) (now («out_hf_mul» .exit)) ≡ cutOf bw bh (now (kinds .entry)) (now («hf_mul» .entry)) index (now («out_kinds» .entry)) (now («out_hf_mul» .entry)) ⌝ }
+    ensures { λ r. ⌜ outcome (answered r) (now («out_kinds» .exit)) (now («out_hf_mul» .exit)) ≡ cutOf bw bh (now (kinds .entry)) (now («hf_mul» .entry)) index (now («out_kinds» .entry)) (now («out_hf_mul» .entry)) ⌝ }
 {
     let checked = cut_check(
         bw,
@@ -166,22 +203,7 @@ pub fn cut(
     match checked {
         Checked::Refused(r) => CutAnswer::Refused(r),
         Checked::Fine => {
-            let gx = group_x(bw, index);
-            let gy = group_y(bw, index);
-            let group = sides_of(bw, bh, index);
-            let wide = group.bw;
-            let high = group.bh;
-            copy_cells(
-                bw,
-                kinds,
-                hf_mul,
-                32 * gx,
-                32 * gy,
-                wide,
-                high,
-                out_kinds,
-                out_hf_mul,
-            );
+            let group = copy_group(bw, bh, kinds, hf_mul, index, out_kinds, out_hf_mul);
             CutAnswer::Accepted(group)
         }
     }

@@ -8,10 +8,10 @@ use Rattle.refusal.specs.Answer.{Answer, gives, refuses, unless}
 use Rattle.lent_sides.specs.Limits.{inLimits, lengthsFit}
 use Rattle.lent_likeness.specs.declared.LikeAnswer.{LikeAnswer}
 
-abbrev pub saidLike : LikeAnswer → Answer Bool
-saidLike LikeAnswer.Alike = gives true
-saidLike LikeAnswer.Unlike = gives false
-saidLike (LikeAnswer.Refused r) = refuses (said r)
+abbrev pub answered : LikeAnswer → Answer Bool
+answered LikeAnswer.Alike = gives true
+answered LikeAnswer.Unlike = gives false
+answered (LikeAnswer.Refused r) = refuses (said r)
 
 abbrev pub sided : LentLayout → Bool
 sided L = inLimits 256 (L .bw) (L .bh)

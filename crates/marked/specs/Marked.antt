@@ -20,7 +20,7 @@ use Rattle.order_store.specs.Store.{PLACES, stretch}
 use Rattle.order_call.specs.Call.{parsed}
 use Rattle.coeff_call.specs.declared.CoeffAnswer.the-variants.{Accepted}
 use Rattle.refusal.specs.Answer.{gives, refuses}
-use Rattle.coeff_call.specs.Call.{leaves, outcome, refuse, readPreset, call, reading as readingWith}
+use Rattle.coeff_call.specs.Call.{leaves, outcome, refuse, presetBits, call, reading as readingWith}
 use Rattle.lister.specs.Listing.{textOf}
 use Rattle.marked.specs.Lines.{job, lines}
 use Rattle.marked.specs.Coefficients.{gains, dct8, dct16, Room}
@@ -89,7 +89,7 @@ M9 = (map log g0 g1 g2 : List ℕ) → Room 1 4 map log g0 g1 g2
 -- M10 three presets: two bits, 3 refused (14, two bits read, nothing written), 0 to 2 read with
 abbrev pub M10 : Type 0
 M10 = (map symbols log g0 g1 g2 : List ℕ) → Room 3 1 map log g0 g1 g2
-    → ((b : ℕ) (rest : List ℕ) → readPreset (dct8 3 map (b ∷ rest) symbols log g0 g1 g2) ≡ Value (b % 4) 2)
+    → ((b : ℕ) (rest : List ℕ) → presetBits (dct8 3 map (b ∷ rest) symbols log g0 g1 g2) ≡ Value (b % 4) 2)
     × ((rest : List ℕ) → call (dct8 3 map (3 ∷ rest) symbols log g0 g1 g2) ≡ refuse (dct8 3 map (3 ∷ rest) symbols log g0 g1 g2) (said (Preset 2)))
     × ((n : ℕ) (rest : List ℕ) → n < 3 → call (dct8 3 map (n ∷ rest) symbols log g0 g1 g2) ≡ outcome (readingWith (dct8 3 map (n ∷ rest) symbols log g0 g1 g2) n))
 

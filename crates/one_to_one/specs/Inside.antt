@@ -45,7 +45,7 @@ pub record CornerInside (P : Pass) (v : Varblock) : Type 0 where
   pub lf2 : P .lfThere ≡ true → v .y * P .bw + v .x < length (P .lf2)
   -- each block context's entry, among the 39 × bsize of the map that are in use
   pub context : (n : ℕ) → n < 3 → contextEntry P v n < 39 * bsizeOf (P .contexts .lengths)
-  -- each channel's order is stored whole: 63 places for each block behind the low-frequency cells
+  -- each channel's list is stored whole: 63 places for each block behind the low-frequency cells
   pub orders : (c : ℕ) → c < 3 → length (cellsIn P v c) ≡ 63 * blocksOf v
 
 module _ (shift clusters : ℕ) (presetMap : List ℕ) where

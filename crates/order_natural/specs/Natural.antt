@@ -5,20 +5,20 @@ use Prim.Native.Nat.{ℕ, _+_, _*_, _-_, _/_, _%_}
 use lib.Dec.{ltb, eqb}
 use Rattle.order_natural.specs.Places.{Place, run, joins}
 
-abbrev pub spot : ℕ → ℕ → Place
-spot y x = (x, y)
+abbrev pub inRow : ℕ → ℕ → Place
+inRow y x = (x, y)
 
 -- w × h cells row by row
 abbrev pub rows : ℕ → ℕ → List Place
-rows w h = joins (λ y. run (spot y) w 0) h 0
+rows w h = joins (λ y. run (inRow y) w 0) h 0
 
 -- cell o of the diagonal x + y + 1 = dist: odd dist upwards in x, even dist downwards
-abbrev pub cell : ℕ → ℕ → Place
-cell dist o = cond (eqb (dist % 2) 1) (o, dist - 1 - o) (dist - 1 - o, o)
+abbrev pub onDiagonal : ℕ → ℕ → Place
+onDiagonal dist o = cond (eqb (dist % 2) 1) (o, dist - 1 - o) (dist - 1 - o, o)
 
 -- the diagonal inside the b × b square: o from the margin dist - b to dist less the margin
 abbrev pub diagonal : ℕ → ℕ → List Place
-diagonal b dist = run (cell dist) (dist - (dist - b) - (dist - b)) (dist - b)
+diagonal b dist = run (onDiagonal dist) (dist - (dist - b) - (dist - b)) (dist - b)
 
 -- the b × b square, diagonal by diagonal
 abbrev pub square : ℕ → List Place

@@ -16,15 +16,15 @@ stored [] = []
 stored (l ∷ ls) = flat l ++ stored ls
 
 -- each size for channels 0, 1, 2
-abbrev pub thrice : List Place → List Place
+abbrev pub thrice : List (ℕ × ℕ) → List (ℕ × ℕ)
 thrice [] = []
 thrice (s ∷ ss) = s ∷ s ∷ s ∷ thrice ss
 
-abbrev pub area : Place → ℕ
+abbrev pub area : ℕ × ℕ → ℕ
 area s = s .0 * s .1
 
 -- places in the lists before list i
-abbrev pub before : List Place → ℕ → ℕ
+abbrev pub before : List (ℕ × ℕ) → ℕ → ℕ
 before [] i = 0
 before (s ∷ ss) zero = 0
 before (s ∷ ss) (suc i) = area s + before ss i
@@ -43,7 +43,7 @@ insideAll w h (x ∷ []) = true
 insideAll w h (x ∷ y ∷ r) = ltb x w && (ltb y h && insideAll w h r)
 
 -- lists of these sizes, one behind the other, each inside its own
-abbrev pub listsFit : List Place → List ℕ → Bool
+abbrev pub listsFit : List (ℕ × ℕ) → List ℕ → Bool
 listsFit [] store = true
 listsFit (s ∷ ss) store = insideAll (s .0) (s .1) (take (2 * area s) store) && listsFit ss (drop (2 * area s) store)
 

@@ -35,44 +35,6 @@ fn group(words: &[u32]) -> Group {
     }
 }
 
-// With the group's lists and the LF grids.
-fn write_with<'a>(
-    body: &'a [u8],
-    words: &'a [u32],
-    kinds: &'a [u8],
-    hf_mul: &'a [u32],
-    lf0: &'a [u32],
-    lf1: &'a [u32],
-    lf2: &'a [u32],
-    orders: &'a [u16],
-    cluster_map: &'a [u8],
-    log: &mut [u8],
-    g0: &mut [u32],
-    g1: &mut [u32],
-    g2: &mut [u32],
-) -> CoeffAnswer {
-    write_hf_coeff(
-        group(words),
-        kinds,
-        hf_mul,
-        record::read(body, words),
-        number(words, 7) == 1,
-        lf0,
-        lf1,
-        lf2,
-        orders,
-        number(words, 11),
-        cluster_map,
-        number(words, 13),
-        bytes(body, words, 18, 10),
-        list(words, 18, 11),
-        log,
-        g0,
-        g1,
-        g2,
-    )
-}
-
 fn write<'a>(
     body: &'a [u8],
     words: &'a [u32],
@@ -83,16 +45,21 @@ fn write<'a>(
     g1: &mut [u32],
     g2: &mut [u32],
 ) -> CoeffAnswer {
-    write_with(
-        body,
-        words,
+    write_hf_coeff(
+        group(words),
         bytes(body, words, 18, 0),
         list(words, 18, 1),
+        record::read(body, words),
+        number(words, 7) == 1,
         list(words, 18, 5),
         list(words, 18, 6),
         list(words, 18, 7),
         orders,
+        number(words, 11),
         cluster_map,
+        number(words, 13),
+        bytes(body, words, 18, 10),
+        list(words, 18, 11),
         log,
         g0,
         g1,

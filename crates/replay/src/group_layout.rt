@@ -47,11 +47,8 @@ fn lookups(words: &[u32]) -> [f32; 8] {
     ]
 }
 
-fn lay_out<'a>(
-    words: &'a [u32],
-    types: &'a [u32],
-    muls: &'a [u32],
-    sharpness: &'a [u32],
+fn make_call(
+    words: &[u32],
     kinds: &mut [u8],
     hf_mul: &mut [u32],
     sigma: &mut [u32],
@@ -60,29 +57,12 @@ fn lay_out<'a>(
         number(words, 0),
         number(words, 1),
         modes(words),
-        types,
-        muls,
-        sharpness,
-        filter(words),
-        lookups(words),
-        number(words, 15),
-        kinds,
-        hf_mul,
-        sigma,
-    )
-}
-
-fn make_call(
-    words: &[u32],
-    kinds: &mut [u8],
-    hf_mul: &mut [u32],
-    sigma: &mut [u32],
-) -> LayoutAnswer {
-    lay_out(
-        words,
         list(words, 19, 0),
         list(words, 19, 1),
         list(words, 19, 2),
+        filter(words),
+        lookups(words),
+        number(words, 15),
         kinds,
         hf_mul,
         sigma,

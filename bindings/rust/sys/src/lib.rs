@@ -19,6 +19,9 @@
 #![deny(missing_docs)]
 
 extern "C" {
+    /// The version of the library: major × 1,000,000 + minor × 1,000 + patch.
+    pub fn netbuff_version() -> u32;
+
     /// What a transform's number carries.
     pub fn netbuff_transform(
         number: u32,

@@ -7,13 +7,13 @@ use Rattle.refusal.specs.Answer.{Answer}
 use Rattle.refusal.specs.Handed.{Handed, handed}
 use Rattle.lent_check.specs.declared.Group.{Group}
 use Rattle.lent_cut.specs.declared.cut.CutAnswer.{CutAnswer}
-use Rattle.lent_cut.specs.Calls.{Outcome, outcome, saidCut}
+use Rattle.lent_cut.specs.Calls.{Outcome, outcome, answered}
 use Rattle.lent_likeness.specs.declared.LikeAnswer.{LikeAnswer}
-use Rattle.lent_likeness.specs.Calls.{saidLike}
+use Rattle.lent_likeness.specs.Calls.{answered as answeredAlike}
 use Rattle.c_groups.specs.Record.{CutLeaves}
 
 -- the call's own answer, handed on
-pub cut-leaves : (h : Handed Group) (a : CutAnswer) (k m : List ℕ) (kept : Group) (o : Outcome) → outcome (saidCut a) k m ≡ o → h ≡ handed (saidCut a) kept
+pub cut-leaves : (h : Handed Group) (a : CutAnswer) (k m : List ℕ) (kept : Group) (o : Outcome) → outcome (answered a) k m ≡ o → h ≡ handed (answered a) kept
     → CutLeaves h k m kept o
 cut-leaves h a k m kept o e f =
     record {
@@ -22,5 +22,5 @@ cut-leaves h a k m kept o e f =
       hfMulIs = ap (λ (z : Outcome). z .hfMul) e;
     }
 
-pub like-handed : (h : Handed Bool) (a : LikeAnswer) (kept : Bool) (l : Answer Bool) → saidLike a ≡ l → h ≡ handed (saidLike a) kept → h ≡ handed l kept
+pub like-handed : (h : Handed Bool) (a : LikeAnswer) (kept : Bool) (l : Answer Bool) → answeredAlike a ≡ l → h ≡ handed (answeredAlike a) kept → h ≡ handed l kept
 like-handed h a kept l e f = f ∙ ap (λ (z : Answer Bool). handed z kept) e

@@ -14,7 +14,7 @@ use Rattle.bits.specs.Bits.{Value, Ended}
 use Rattle.coeff_checks.specs.Checks.{blocks}
 use Rattle.coeff_checks.specs.laws.ChecksLaws as checks
 use Rattle.coeff_group.specs.Group.{Grids}
-use Rattle.coeff_call.specs.Call.{Lent, lengthsFit, beforeWork, Passed, readPreset, reading, outcome, refuse, call}
+use Rattle.coeff_call.specs.Call.{Lent, lengthsFit, beforeWork, Passed, presetBits, reading, outcome, refuse, call}
 
 module _ (L : Lent) where
   pub checks-pass : Passed L → beforeWork L ≡ passed
@@ -39,16 +39,16 @@ module _ (L : Lent) where
   call-refused s e = rw e
 
   module _ (p : beforeWork L ≡ passed) where
-    pub call-bits : (at : ℕ) → readPreset L ≡ Ended at → call L ≡ refuse L (said (BitsEnd at))
+    pub call-bits : (at : ℕ) → presetBits L ≡ Ended at → call L ≡ refuse L (said (BitsEnd at))
     unfolding call
     call-bits at g = rw (p, g)
 
-    pub call-preset : (preset at : ℕ) → readPreset L ≡ Value preset at → L .presets ≤ preset → call L ≡ refuse L (said (Preset at))
+    pub call-preset : (preset at : ℕ) → presetBits L ≡ Value preset at → L .presets ≤ preset → call L ≡ refuse L (said (Preset at))
     unfolding call
     call-preset preset at g h = rw (p, g, le-ltb preset (L .presets) h)
 
     -- the group is read
-    pub call-reads : (preset at : ℕ) → readPreset L ≡ Value preset at → preset < L .presets → call L ≡ outcome (reading L preset)
+    pub call-reads : (preset at : ℕ) → presetBits L ≡ Value preset at → preset < L .presets → call L ≡ outcome (reading L preset)
     unfolding call
     call-reads preset at g h = rw (p, g, lt-ltb preset (L .presets) h)
 

@@ -30,7 +30,7 @@ use Rattle.coeff_preset.specs.declared.PresetAnswer.the-variants as preset
 use Rattle.coeff_preset.specs.Preset.{presetOf}
 use Rattle.coeff_preset.specs.laws.PresetLaws as number
 use Rattle.coeff_checks.specs.laws.ChecksLaws.{sides-fit, parameters-fit, few-clusters}
-use Rattle.coeff_call.specs.Call.{Lent, beforeWork, Passed, reading, outcome, answered, leaves, refuse, readPreset, call}
+use Rattle.coeff_call.specs.Call.{Lent, beforeWork, Passed, reading, outcome, answered, leaves, refuse, presetBits, call}
 use Rattle.coeff_call.specs.laws.CallLaws.{checks-pass, passed-by, lengths-fit, call-refused}
 
 -- what the checks answered
@@ -42,7 +42,7 @@ module _ (L : Lent) (r : Checked) (e : checked r ≡ beforeWork L) where
   checks-passed f = passed-by L (sym e ∙ ap checked f)
 
 -- what the preset number answered
-module _ (L : Lent) (p : Passed L) (r : PresetAnswer) (e : number.answered r ≡ presetOf (L .presets) (readPreset L)) where
+module _ (L : Lent) (p : Passed L) (r : PresetAnswer) (e : number.answered r ≡ presetOf (L .presets) (presetBits L)) where
   pub preset-refused : (why : Refusal) → r ≡ preset.Refused why → refuse L (said why) ≡ call L
   unfolding call
   preset-refused why f = rw (checks-pass L p, sym e, f)
@@ -53,7 +53,7 @@ module _ (L : Lent) (p : Passed L) (r : PresetAnswer) (e : number.answered r ≡
     call-read = rw (checks-pass L p, sym e, f)
 
     pub below : n < L .presets
-    below = by (readPreset L) (ap number.answered (sym f) ∙ e)
+    below = by (presetBits L) (ap number.answered (sym f) ∙ e)
       where
         by : (R : Read ℕ) → gives n ≡ presetOf (L .presets) R → n < L .presets
         by (Ended at) g = absurd (let z : _≡_ {A = ℕ} 0 1 = cc in omega arith)
@@ -73,7 +73,7 @@ outcome-by r log G (going us at log₁ G₁ rows left) d = rw (d .answer, d .log
 outcome-by r log G (refused why at log₁ G₁) d = rw (d .answer, d .logged, d .cells)
 
 -- the group is read, with the preset that was chosen
-pub call-done : (L : Lent) → Passed L → (q : PresetAnswer) → number.answered q ≡ presetOf (L .presets) (readPreset L) → (n : ℕ) → q ≡ preset.Number n
+pub call-done : (L : Lent) → Passed L → (q : PresetAnswer) → number.answered q ≡ presetOf (L .presets) (presetBits L) → (n : ℕ) → q ≡ preset.Number n
     → (r : WalkEnd) (v : CoeffAnswer) (log g0 g1 g2 : List ℕ) → v ≡ answerBy r → GroupShown r log (g0 ∷ g1 ∷ g2 ∷ []) (reading L n) → leaves v log g0 g1 g2 ≡ call L
 call-done L p q e n f r v log g0 g1 g2 a d =
     ap (λ (w : CoeffAnswer). leaves w log g0 g1 g2) a ∙ outcome-by r log (g0 ∷ g1 ∷ g2 ∷ []) (reading L n) d ∙ call-read L p q e n f

@@ -8,7 +8,7 @@ use lib.ListN.{length, getD, set}
 use lib.Seq.{getD-set-same, getD-set-other}
 use Rattle.coeff_walk.specs.declared.WalkEnd.{WalkEnd}
 use Rattle.coeff_walk.specs.laws.Outcome.{isStopped}
-use Rattle.coeff_walk.specs.Item.{rowOf}
+use Rattle.laws.specs.Lists.{fillFrom}
 use Rattle.coeff_group.specs.declared.plan.Plan.{Plan}
 use Rattle.coeff_group.specs.Group.{Grids, Reading, going, refused}
 use Rattle.coeff_group.specs.laws.Steps.{rowBy, Shown}
@@ -20,10 +20,10 @@ three rows = getD rows 0 [] ∷ getD rows 1 [] ∷ getD rows 2 [] ∷ []
 
 -- the rows after the first n channels walked, by the counts of channels 0, 1, 2 over the varblock's blocks
 abbrev pub rewritten : Plan → List ℕ → Grids → ℕ → Grids
-rewritten p counts rows zero = three rows
-rewritten p counts rows (suc n) =
+rewritten p countsOver rows zero = three rows
+rewritten p countsOver rows (suc n) =
     let c = channelWalked n in
-    rowBy (rewritten p counts rows n) c (p .shape .x) (p .shape .wide) (getD counts c 0)
+    rowBy (rewritten p countsOver rows n) c (p .shape .x) (p .shape .wide) (getD countsOver c 0)
 
 -- what the counts of channels 0, 1, 2 come to over a varblock's blocks: what its reading leaves in their rows at its column x; 0 beside a refusal
 abbrev pub countsBy : ℕ → Reading → List ℕ
@@ -31,35 +31,37 @@ countsBy x (going us at log grids rows left) = getD (getD rows 0 []) x 0 ∷ get
 countsBy x (refused why at log grids) = 0 ∷ 0 ∷ 0 ∷ []
 
 -- what the reading R of a varblock hands back: how it ended, the counts, log and grids; the rows are rewritten by the counts
-pub record VarblockShown (p : Plan) (symbols : List ℕ) (most : ℕ) (w : WalkEnd) (counts : List ℕ) (rows : Grids) (log : List ℕ) (G : Grids) (R : Reading) : Type 0 where
-  pub shown : Shown symbols most w (rewritten p counts rows 3) log G R
-  pub none : isStopped w ≡ true → counts ≡ 0 ∷ 0 ∷ 0 ∷ []
+pub record VarblockShown (p : Plan) (symbols : List ℕ) (most : ℕ) (w : WalkEnd) (countsOver : List ℕ) (rows : Grids) (log : List ℕ) (G : Grids) (R : Reading) : Type 0 where
+  pub shown : Shown symbols most w (rewritten p countsOver rows 3) log G R
+  pub none : isStopped w ≡ true → countsOver ≡ 0 ∷ 0 ∷ 0 ∷ []
   -- of rows that have a number in that column, as rows of 32 do
-  pub counted : ((c : ℕ) → c < 3 → p .shape .x < length (getD rows c [])) → counts ≡ countsBy (p .shape .x) R
+  pub counted : ((c : ℕ) → c < 3 → p .shape .x < length (getD rows c [])) → countsOver ≡ countsBy (p .shape .x) R
 
-module _ (p : Plan) (counts : List ℕ) (rows : Grids) where
+module _ (p : Plan) (countsOver : List ℕ) (rows : Grids) where
   -- a channel's own row is still as it was when the channel is walked
-  pub row-kept : (n : ℕ) → n < 3 → getD (rewritten p counts rows n) (channelWalked n) [] ≡ getD rows (channelWalked n) []
+  pub row-kept : (n : ℕ) → n < 3 → getD (rewritten p countsOver rows n) (channelWalked n) [] ≡ getD rows (channelWalked n) []
   row-kept zero h = refl
   row-kept (suc zero) h = refl
   row-kept (suc (suc zero)) h = refl
   row-kept (suc (suc (suc n))) h = absurd (omega arith)
 
   -- its count joins those of the channels before
-  pub row-joins : (n v : ℕ) → n < 3 → length counts ≡ 3
-      → rewritten p (set counts (channelWalked n) v) rows (n + 1) ≡ rowBy (rewritten p counts rows n) (channelWalked n) (p .shape .x) (p .shape .wide) v
-  row-joins zero v h e = rw (getD-set-same counts 1 v 0 (omega arith))
-  row-joins (suc zero) v h e = rw (getD-set-same counts 0 v 0 (omega arith), getD-set-other counts 0 1 v 0 (λ e. omega arith))
+  pub row-joins : (n v : ℕ) → n < 3 → length countsOver ≡ 3
+      → rewritten p (set countsOver (channelWalked n) v) rows (n + 1) ≡ rowBy (rewritten p countsOver rows n) (channelWalked n) (p .shape .x) (p .shape .wide) v
+  row-joins zero v h e = rw (getD-set-same countsOver 1 v 0 (omega arith))
+  row-joins (suc zero) v h e = rw (getD-set-same countsOver 0 v 0 (omega arith), getD-set-other countsOver 0 1 v 0 (λ e. omega arith))
   row-joins (suc (suc zero)) v h e =
-      rw (getD-set-same counts 2 v 0 (omega arith), getD-set-other counts 2 0 v 0 (λ e. omega arith), getD-set-other counts 2 1 v 0 (λ e. omega arith))
+      rw (getD-set-same countsOver 2 v 0 (omega arith), getD-set-other countsOver 2 0 v 0 (λ e. omega arith), getD-set-other countsOver 2 1 v 0 (λ e. omega arith))
   row-joins (suc (suc (suc n))) v h e = absurd (omega arith)
 
 -- a number of a row before those that are rewritten, and the first of these
-row-before : (row : List ℕ) (x n v j : ℕ) → j < x → getD (rowOf row x n v) j 0 ≡ getD row j 0
+row-before : (row : List ℕ) (x n v j : ℕ) → j < x → getD (fillFrom row x n v) j 0 ≡ getD row j 0
+unfolding fillFrom
 row-before row x zero v j h = refl
 row-before row x (suc n) v j h = row-before (set row x v) (x + 1) n v j (omega arith) ∙ getD-set-other row x j v 0 (omega arith)
 
-row-first : (row : List ℕ) (x n v : ℕ) → 1 ≤ n → x < length row → getD (rowOf row x n v) x 0 ≡ v
+row-first : (row : List ℕ) (x n v : ℕ) → 1 ≤ n → x < length row → getD (fillFrom row x n v) x 0 ≡ v
+unfolding fillFrom
 row-first row x zero v h l = absurd (omega arith)
 row-first row x (suc n) v h l = row-before (set row x v) (x + 1) n v x (omega arith) ∙ getD-set-same row x v 0 l
 
@@ -69,9 +71,9 @@ module _ (p : Plan) (symbols : List ℕ) (most : ℕ) (w : WalkEnd) (log : List 
   counts-none rows (refused why at log′ G′) s e = refl
   counts-none rows (going us at log′ G′ rows′ left) s e = absurd (let f = s .it .answer in let z : _≡_ {A = Bool} true false = sym e ∙ ap isStopped f in true≢false z)
 
-  module _ (counts : List ℕ) (rows : Grids) (some : 1 ≤ p .shape .wide) (inside : (c : ℕ) → c < 3 → p .shape .x < length (getD rows c [])) where
-    at-column : (c : ℕ) → c < 3 → getD (rowOf (getD rows c []) (p .shape .x) (p .shape .wide) (getD counts c 0)) (p .shape .x) 0 ≡ getD counts c 0
-    at-column c h = row-first (getD rows c []) (p .shape .x) (p .shape .wide) (getD counts c 0) some (inside c h)
+  module _ (countsOver : List ℕ) (rows : Grids) (some : 1 ≤ p .shape .wide) (inside : (c : ℕ) → c < 3 → p .shape .x < length (getD rows c [])) where
+    at-column : (c : ℕ) → c < 3 → getD (fillFrom (getD rows c []) (p .shape .x) (p .shape .wide) (getD countsOver c 0)) (p .shape .x) 0 ≡ getD countsOver c 0
+    at-column c h = row-first (getD rows c []) (p .shape .x) (p .shape .wide) (getD countsOver c 0) some (inside c h)
 
     listed : (l : List ℕ) → length l ≡ 3 → l ≡ getD l 0 0 ∷ getD l 1 0 ∷ getD l 2 0 ∷ []
     listed (a ∷ b ∷ c ∷ []) e = refl
@@ -80,10 +82,10 @@ module _ (p : Plan) (symbols : List ℕ) (most : ℕ) (w : WalkEnd) (log : List 
     listed (a ∷ b ∷ []) e = absurd (omega arith)
     listed (a ∷ b ∷ c ∷ d ∷ l) e = absurd (omega arith)
 
-    pub counts-read : (R : Reading) → length counts ≡ 3 → Shown symbols most w (rewritten p counts rows 3) log G R → isStopped w ≡ false → counts ≡ countsBy (p .shape .x) R
+    pub counts-read : (R : Reading) → length countsOver ≡ 3 → Shown symbols most w (rewritten p countsOver rows 3) log G R → isStopped w ≡ false → countsOver ≡ countsBy (p .shape .x) R
     counts-read (refused why at log′ G′) e s f = absurd (let g = s .it .answer in let z : _≡_ {A = Bool} true false = sym (ap isStopped g) ∙ f in true≢false z)
     counts-read (going us at log′ G′ rows′ left) e s f =
-        rw (s .it .counts, at-column 0 (omega arith), at-column 1 (omega arith), at-column 2 (omega arith)) (listed counts e)
+        rw (s .it .counts, at-column 0 (omega arith), at-column 1 (omega arith), at-column 2 (omega arith)) (listed countsOver e)
 
 -- three rows as a list of three
 pub three-is : (rows : Grids) → length rows ≡ 3 → three rows ≡ rows
@@ -94,12 +96,12 @@ three-is (a ∷ b ∷ []) e = absurd (omega arith)
 three-is (a ∷ b ∷ c ∷ d ∷ l) e = absurd (omega arith)
 
 -- the three rows, rewritten one after the other
-pub rows-are : (p : Plan) (counts : List ℕ) (rows : Grids) → length rows ≡ 3 → (r₀ r₁ r₂ : List ℕ) → r₁ ≡ rowOf (getD rows 1 []) (p .shape .x) (p .shape .wide) (getD counts 1 0)
-    → r₀ ≡ rowOf (getD (set rows 1 r₁) 0 []) (p .shape .x) (p .shape .wide) (getD counts 0 0)
-    → r₂ ≡ rowOf (getD (set (set rows 1 r₁) 0 r₀) 2 []) (p .shape .x) (p .shape .wide) (getD counts 2 0)
-    → set (set (set rows 1 r₁) 0 r₀) 2 r₂ ≡ rewritten p counts rows 3
-rows-are p counts rows f r₀ r₁ r₂ e₁ e₀ e₂ =
-    subst (λ (l : Grids). r₁ ≡ rowOf (getD l 1 []) (p .shape .x) (p .shape .wide) (getD counts 1 0)
-    → r₀ ≡ rowOf (getD (set l 1 r₁) 0 []) (p .shape .x) (p .shape .wide) (getD counts 0 0)
-    → r₂ ≡ rowOf (getD (set (set l 1 r₁) 0 r₀) 2 []) (p .shape .x) (p .shape .wide) (getD counts 2 0)
-    → set (set (set l 1 r₁) 0 r₀) 2 r₂ ≡ rewritten p counts rows 3) (three-is rows f) (λ a b d. rw (d, b, a)) e₁ e₀ e₂
+pub rows-are : (p : Plan) (countsOver : List ℕ) (rows : Grids) → length rows ≡ 3 → (r₀ r₁ r₂ : List ℕ) → r₁ ≡ fillFrom (getD rows 1 []) (p .shape .x) (p .shape .wide) (getD countsOver 1 0)
+    → r₀ ≡ fillFrom (getD (set rows 1 r₁) 0 []) (p .shape .x) (p .shape .wide) (getD countsOver 0 0)
+    → r₂ ≡ fillFrom (getD (set (set rows 1 r₁) 0 r₀) 2 []) (p .shape .x) (p .shape .wide) (getD countsOver 2 0)
+    → set (set (set rows 1 r₁) 0 r₀) 2 r₂ ≡ rewritten p countsOver rows 3
+rows-are p countsOver rows f r₀ r₁ r₂ e₁ e₀ e₂ =
+    subst (λ (l : Grids). r₁ ≡ fillFrom (getD l 1 []) (p .shape .x) (p .shape .wide) (getD countsOver 1 0)
+    → r₀ ≡ fillFrom (getD (set l 1 r₁) 0 []) (p .shape .x) (p .shape .wide) (getD countsOver 0 0)
+    → r₂ ≡ fillFrom (getD (set (set l 1 r₁) 0 r₀) 2 []) (p .shape .x) (p .shape .wide) (getD countsOver 2 0)
+    → set (set (set l 1 r₁) 0 r₀) 2 r₂ ≡ rewritten p countsOver rows 3) (three-is rows f) (λ a b d. rw (d, b, a)) e₁ e₀ e₂

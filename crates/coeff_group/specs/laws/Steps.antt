@@ -8,7 +8,7 @@ use Rattle.coeff_walk.specs.declared.WalkEnd.{WalkEnd}
 use Rattle.coeff_walk.specs.declared.WalkEnd.the-variants.{Done, Stopped}
 use Rattle.coeff_walk.specs.Walk.{Walked}
 use Rattle.coeff_walk.specs.laws.Outcome.{answerOf, logOf, gridOf, WalkShown}
-use Rattle.coeff_walk.specs.Item.{rowOf}
+use Rattle.laws.specs.Lists.{fillFrom}
 use Rattle.coeff_group.specs.Group.{Grids, Reading, going, refused}
 
 -- a walk in grid c of three
@@ -19,7 +19,7 @@ pub record InGrid (c : ℕ) (G : Grids) (r : WalkEnd) (log : List ℕ) (G′ : G
 
 -- row c with v from x on, n times
 abbrev pub rowBy : Grids → ℕ → ℕ → ℕ → ℕ → Grids
-rowBy rows c x n v = set rows c (rowOf (getD rows c []) x n v)
+rowBy rows c x n v = set rows c (fillFrom (getD rows c []) x n v)
 
 -- what the code holds of a reading that goes on, at most `most` symbols read
 pub record Going (symbols : List ℕ) (most : ℕ) (w : WalkEnd) (rows : Grids) (log : List ℕ) (G : Grids) (us : List ℕ) (at : ℕ) (log′ : List ℕ) (G′ rows′ : Grids) : Type 0 where

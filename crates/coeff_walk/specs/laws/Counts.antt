@@ -9,7 +9,8 @@ use borrow.Author.Tests.{le-leb, lt-leb}
 use lib.Dec.{leb}
 use lib.Pow.{pow-mono}
 use lib.ListN.{getD, set}
-use Rattle.coeff_walk.specs.Item.{predicted, countIndex, countOver, rowOf}
+use Rattle.laws.specs.Lists.{fillFrom}
+use Rattle.coeff_walk.specs.Item.{predicted, countIndex, countOver}
 
 pub count-over : (n blocks : ℕ) → 0 < blocks → n ≤ 63 * blocks → countOver n blocks ≤ 63
 count-over n blocks h l =
@@ -40,17 +41,19 @@ predicted-both row x zero e f = absurd (e refl)
 predicted-both row zero (suc y) e f = absurd (f refl)
 predicted-both row (suc x) (suc y) e f = let z : suc x - 1 ≡ x = omega arith in rw z
 
--- rewriting, turn by turn
-pub row-start : (row : List ℕ) (x n v : ℕ) → rowOf row (x + 0) (n - 0) v ≡ rowOf row x n v
+-- rewriting, step by step
+pub row-start : (row : List ℕ) (x n v : ℕ) → fillFrom row (x + 0) (n - 0) v ≡ fillFrom row x n v
 row-start row x n v = let e : x + 0 ≡ x = omega arith in let f : n - 0 ≡ n = omega arith in rw (e, f)
 
-pub row-step : (row : List ℕ) (x n k v : ℕ) → k < n → rowOf row (x + k) (n - k) v ≡ rowOf (set row (x + k) v) (x + (k + 1)) (n - (k + 1)) v
+pub row-step : (row : List ℕ) (x n k v : ℕ) → k < n → fillFrom row (x + k) (n - k) v ≡ fillFrom (set row (x + k) v) (x + (k + 1)) (n - (k + 1)) v
+unfolding fillFrom
 row-step row x n k v h =
     let e : n - k ≡ suc (n - (k + 1)) = omega arith in
     let f : x + k + 1 ≡ x + (k + 1) = omega arith in
-    ap (λ (m : ℕ). rowOf row (x + k) m v) e ∙ ap (λ (p : ℕ). rowOf (set row (x + k) v) p (n - (k + 1)) v) f
+    ap (λ (m : ℕ). fillFrom row (x + k) m v) e ∙ ap (λ (p : ℕ). fillFrom (set row (x + k) v) p (n - (k + 1)) v) f
 
-pub row-end : (row : List ℕ) (x n k v : ℕ) → k ≡ n → rowOf row (x + k) (n - k) v ≡ row
+pub row-end : (row : List ℕ) (x n k v : ℕ) → k ≡ n → fillFrom row (x + k) (n - k) v ≡ row
+unfolding fillFrom
 row-end row x n k v h = let e : n - k ≡ 0 = omega arith in rw e
 
 pub few-yes : (n m : ℕ) → n ≤ m → _≡_ {A = ℕ} 1 (cond (leb n m) 1 0)

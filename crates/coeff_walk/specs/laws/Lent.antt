@@ -31,7 +31,7 @@ lentFits spot list start coeffMap shift log =
     && eqb coeffMap 458
     && leb (list / 2) (log - start))
 
--- the reading behind a count, `few` if it is at most four for each block; nothing is read where what is lent does not fit
+-- the reading behind a count, `firstPrev` if it is at most four for each block; nothing is read where what is lent does not fit
 abbrev pub placesRead : Spot → (list symbols : List ℕ) (start count : ℕ) → Bool → (coeffMap : List ℕ) (shift : ℕ) (log g : List ℕ) → Walked
 placesRead spot list symbols start count firstPrev coeffMap shift log g =
     cond (lentFits spot (length list) start (length coeffMap) shift (length log))

@@ -90,7 +90,7 @@ returns-4 c =
 
 pub by-lists-spec : {M : Type 1} → statement M
 by-lists-spec =
-    tie.close (tie.spec (λ c κs. search needs) (λ c. search needs) ended-requires (λ c. search needs) (λ c κs. search needs)
-    (λ c. search needs) ended-requires-2 (λ c. search needs) (λ c κs. search needs) (λ c. search needs)
-    ended-requires-3 (λ c. search needs) (λ c κs. search needs) with-qf-requires returns returns-2 returns-3
-    returns-4)
+    tie.close (tie.spec (λ c κs. search needs) (λ c. search needs) ended-requires (λ c. search needs)
+    (λ c κs. search needs) (λ c. search needs) ended-requires-2 (λ c. search needs) (λ c κs. search needs)
+    (λ c. search needs) ended-requires-3 (λ c. search needs) (λ c κs. search needs) with-qf-requires returns returns-2
+    returns-3 returns-4)

@@ -69,5 +69,5 @@ returns-3 c =
 pub parse-into-spec : {M : Type 1} → statement M
 parse-into-spec =
     tie.close (tie.spec (λ c κs. search needs) (λ c κs. search needs) (λ c. search needs) (λ c. search needs)
-    (λ c κs. search needs) (λ c. search needs) (λ c κs. search needs) (λ c κs. search needs) returns
-    by-lists-requires returns-2 returns-3)
+    (λ c κs. search needs) (λ c. search needs) (λ c κs. search needs) (λ c κs. search needs) returns by-lists-requires
+    returns-2 returns-3)

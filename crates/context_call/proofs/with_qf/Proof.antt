@@ -48,5 +48,5 @@ returns-2 c =
 
 pub with-qf-spec : {M : Type 1} → statement M
 with-qf-spec =
-    tie.close (tie.spec (λ c κs. search needs) (λ c. search needs) ended-requires (λ c. search needs) (λ c κs. search needs)
-    judge-requires returns returns-2)
+    tie.close (tie.spec (λ c κs. search needs) (λ c. search needs) ended-requires (λ c. search needs)
+    (λ c κs. search needs) judge-requires returns returns-2)

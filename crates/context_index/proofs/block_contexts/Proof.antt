@@ -17,7 +17,7 @@ returns c =
     let n = getD (a .t1) in
     let size = lf-size-is (a .lf-thresholds .now) (n 0 0) (n 1 0) (n 2 0) (omega arith) in
     contexts-are C (a .order) (a .hf-mul) (a .lf-there) (a .q0) (a .q1) (a .q2)
-    (sizes .before .used .result + 1) (sizes .lf-size .result) (index .before .before .qf-index .result) (index .lf-index-of .result)
+    (sizes .before .capped .result + 1) (sizes .lf-size .result) (index .before .before .qf-index .result) (index .lf-index-of .result)
     (c .before .before .before .before .context-at .result) (c .before .before .context-at2 .result) (c .context-at3 .result)
     (omega (arith, length-take (n 3 0) (a .qf-thresholds .now)))
     (sizes .lf-size .ensures .0 ∙ sym size)

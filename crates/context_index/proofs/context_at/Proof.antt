@@ -1,5 +1,5 @@
 use lib.ListN.{List·getD-eq-default}
-use Rattle.context_index.specs.Contexts.{placeOf}
+use Rattle.context_index.specs.Contexts.{entryOf}
 use Rattle.context_index.specs.laws.Laws.{place-le, place-ge}
 use borrow.Author.Needs.{needs}
 use native.Mathlib.Omega.{arith}
@@ -12,7 +12,7 @@ returns : tie.Need-returns
 returns c =
     let a = c .before .before .args in
     let k = place-ge (a .qf-size) (a .lf-size) (a .n) (a .order) (a .qf) (a .lf) (omega arith) (omega arith) in
-    sym (List·getD-eq-default (a .block-ctx-map .now) 0 {n = placeOf (a .qf-size) (a .lf-size) (a .n) (a .order) (a .qf) (a .lf)} (omega arith))
+    sym (List·getD-eq-default (a .block-ctx-map .now) 0 {n = entryOf (a .qf-size) (a .lf-size) (a .n) (a .order) (a .qf) (a .lf)} (omega arith))
 
 mul-index-2 : tie.Need-mul-index-2
 mul-index-2 c =
@@ -39,13 +39,13 @@ add-index-3 c =
     (arith, place-le {qfs = a .qf-size} {lfs = a .lf-size} {n = a .n} {order = a .order} {qf = a .qf} (omega arith) (omega arith) (omega arith) (omega arith) (omega arith))
 
 returns-2 : tie.Need-returns-2
-unfolding placeOf
+unfolding entryOf
 returns-2 c =
     let a = c .before .before .before .args in
     sym (List·getD-eq-default (a .block-ctx-map .now) 0 {n = ((a .n * 13 + a .order) * a .qf-size + a .qf) * a .lf-size + a .lf} (omega arith))
 
 returns-3 : tie.Need-returns-3
-unfolding placeOf
+unfolding entryOf
 returns-3 c = c .to-usize .ensures
 
 pub context-at-spec : {M : Type 1} → statement M

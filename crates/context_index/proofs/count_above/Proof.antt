@@ -24,7 +24,7 @@ add-count c =
 loop-again : tie.Need-loop-again Inv-loop μ-loop
 loop-again c =
     let l = c .before .before .before .loop in
-    let e = c .before .before .before .before .used .result in
+    let e = c .before .before .before .before .capped .result in
     let a = c .before .before .before .before .before .before .args in
     let t = getD (a .thresholds .now) (a .first + l .k) 0 in
     let one = one-at-most (greater (a .q) t) in
@@ -34,12 +34,12 @@ loop-again c =
 returns : tie.Need-returns Inv-loop μ-loop
 returns c =
     let l = c .before .loop in
-    let e = c .before .before .used .result in
+    let e = c .before .before .capped .result in
     let a = c .before .before .before .before .args in
     let whole : l .count ≡ above (take e (drop (a .first) (a .thresholds .now))) (a .q) =
     omega (arith, above-end (a .thresholds .now) (a .first) e (a .q) (omega arith) (l .k) (omega arith))
     in (
-      whole ∙ ap (λ (n : ℕ). above (take n (drop (a .first) (a .thresholds .now))) (a .q)) (c .before .before .used .ensures)
+      whole ∙ ap (λ (n : ℕ). above (take n (drop (a .first) (a .thresholds .now))) (a .q)) (c .before .before .capped .ensures)
           ∙ ap (λ (t : List ℕ). above t (a .q)) (take-min (a .n) 15 (drop (a .first) (a .thresholds .now))),
       omega arith,
     )

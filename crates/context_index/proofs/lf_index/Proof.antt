@@ -11,28 +11,28 @@ mul-result c =
     let i0 = c .before .before .before .before .count-above .result in
     let i2 = c .before .before .before .count-above2 .result in
     omega
-    (arith, digits-le {a = i0} {b = i2} {s = c .before .used .result + 1} {t = c .used2 .result + 1} (omega arith) (omega arith) (omega arith) (omega arith))
+    (arith, digits-le {a = i0} {b = i2} {s = c .before .capped .result + 1} {t = c .capped2 .result + 1} (omega arith) (omega arith) (omega arith) (omega arith))
 
 add-result : tie.Need-add-result
 add-result c =
     let i0 = c .before .before .before .before .count-above .result in
     let i2 = c .before .before .before .count-above2 .result in
     omega
-    (arith, digits-le {a = i0} {b = i2} {s = c .before .used .result + 1} {t = c .used2 .result + 1} (omega arith) (omega arith) (omega arith) (omega arith))
+    (arith, digits-le {a = i0} {b = i2} {s = c .before .capped .result + 1} {t = c .capped2 .result + 1} (omega arith) (omega arith) (omega arith) (omega arith))
 
 mul-result-2 : tie.Need-mul-result-2
 mul-result-2 c =
     let i0 = c .before .before .before .before .count-above .result in
     let i2 = c .before .before .before .count-above2 .result in
     omega
-    (arith, digits-le {a = i0} {b = i2} {s = c .before .used .result + 1} {t = c .used2 .result + 1} (omega arith) (omega arith) (omega arith) (omega arith))
+    (arith, digits-le {a = i0} {b = i2} {s = c .before .capped .result + 1} {t = c .capped2 .result + 1} (omega arith) (omega arith) (omega arith) (omega arith))
 
 add-result-2 : tie.Need-add-result-2
 add-result-2 c =
     let i0 = c .before .before .before .before .count-above .result in
     let i2 = c .before .before .before .count-above2 .result in
     omega
-    (arith, digits-le {a = i0} {b = i2} {s = c .before .used .result + 1} {t = c .used2 .result + 1} (omega arith) (omega arith) (omega arith) (omega arith))
+    (arith, digits-le {a = i0} {b = i2} {s = c .before .capped .result + 1} {t = c .capped2 .result + 1} (omega arith) (omega arith) (omega arith) (omega arith))
 
 returns : tie.Need-returns
 returns c =
@@ -41,9 +41,9 @@ returns c =
     let r0 = c .before .before .before .before .count-above in
     let r2 = c .before .before .before .count-above2 in
     let r1 = c .before .before .count-above3 in
-    let d = digits-le {a = r0 .result} {b = r2 .result} {s = c .before .used .result + 1} {t = c .used2 .result + 1} (omega arith) (omega arith) (omega arith) (omega arith) in (
+    let d = digits-le {a = r0 .result} {b = r2 .result} {s = c .before .capped .result + 1} {t = c .capped2 .result + 1} (omega arith) (omega arith) (omega arith) (omega arith) in (
       lf-index-is (a .lf-thresholds .now) (getD t 0 0) (getD t 1 0) (getD t 2 0) (a .q0) (a .q1) (a .q2) (r0 .result) (r1 .result) (r2 .result)
-          (c .used2 .result) (c .before .used .result) (omega arith) (r0 .ensures .0) (r1 .ensures .0) (r2 .ensures .0) (c .used2 .ensures) (c .before .used .ensures),
+          (c .capped2 .result) (c .before .capped .result) (omega arith) (r0 .ensures .0) (r1 .ensures .0) (r2 .ensures .0) (c .capped2 .ensures) (c .before .capped .ensures),
       omega (arith, d),
     )
 

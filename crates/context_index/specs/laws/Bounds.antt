@@ -18,8 +18,8 @@ use borrow.Author.Tests.{lt-ltb, le-ltb}
 use Rattle.laws.specs.laws.Cases.{le-or-lt}
 use Rattle.context_record.specs.declared.HfBlockContext.{HfBlockContext}
 use Rattle.context_record.specs.laws.Bounds.{is-fit, fit-byte}
-use Rattle.context_index.specs.Contexts.{Contexts, sizeOf, lfSize, bsize, greater, above, qfIndex, lfIndexIn, lfIndex, lfIndexOf, placeOf, contextIndex, blockContext}
-use Rattle.context_index.specs.Lists.{used}
+use Rattle.context_index.specs.Contexts.{Contexts, sizeOf, lfSize, greater, above, qfIndex, lfIndexIn, lfIndex, lfIndexOf, entryOf, entryIn, blockContext, bsize}
+use Rattle.context_index.specs.Lists.{inUse}
 use Rattle.context_record.specs.Record.{bsizeOf, fit}
 
 more : (b : Bool) {m n : ℕ} → m ≤ n → cond b 1 0 + m ≤ suc n
@@ -55,18 +55,18 @@ lf-index-of-lt C true q0 q1 q2 = lf-index-lt C q0 q1 q2
 lf-index-of-lt C false q0 q1 q2 = lf-size-pos C
 
 -- the index of any varblock lies in the used part of the map
-pub index-lt : (C : Contexts) (n order qf lf : ℕ) → n < 3 → order < 13 → qf < length (C .qf) + 1 → lf < lfSize C
-    → contextIndex C n order qf lf < 39 * bsize C
-unfolding placeOf sizeOf bsizeOf
-index-lt C n order qf lf hn ho hq hl =
-    subst (λ (m : ℕ). contextIndex C n order qf lf < m)
+pub entry-lt : (C : Contexts) (n order qf lf : ℕ) → n < 3 → order < 13 → qf < length (C .qf) + 1 → lf < lfSize C
+    → entryIn C n order qf lf < 39 * bsize C
+unfolding entryOf sizeOf bsizeOf
+entry-lt C n order qf lf hn ho hq hl =
+    subst (λ (m : ℕ). entryIn C n order qf lf < m)
     (mul-assoc 39 (length (C .qf) + 1) (lfSize C) ∙ ap (λ (m : ℕ). 39 * m) (mul-comm (length (C .qf) + 1) (lfSize C)))
     (digits-lt (digits-lt {q = n * 13 + order} {m = 39} {r = qf} {c = length (C .qf) + 1} (omega arith) hq) hl)
 
-pub block-index-lt : (C : Contexts) (n order hfMul : ℕ) (there : Bool) (q0 q1 q2 : ℕ) → n < 3 → order < 13
-    → contextIndex C n order (qfIndex C hfMul) (lfIndexOf C there q0 q1 q2) < 39 * bsize C
-block-index-lt C n order hfMul there q0 q1 q2 hn ho =
-    index-lt C n order (qfIndex C hfMul) (lfIndexOf C there q0 q1 q2) hn ho (qf-index-lt C hfMul) (lf-index-of-lt C there q0 q1 q2)
+pub block-entry-lt : (C : Contexts) (n order hfMul : ℕ) (there : Bool) (q0 q1 q2 : ℕ) → n < 3 → order < 13
+    → entryIn C n order (qfIndex C hfMul) (lfIndexOf C there q0 q1 q2) < 39 * bsize C
+block-entry-lt C n order hfMul there q0 q1 q2 hn ho =
+    entry-lt C n order (qfIndex C hfMul) (lfIndexOf C there q0 q1 q2) hn ho (qf-index-lt C hfMul) (lf-index-of-lt C there q0 q1 q2)
 
 ltb-same : (x y u v : ℕ) → (x < y → u < v) → (y ≤ x → v ≤ u) → ltb x y ≡ ltb u v
 ltb-same x y u v f g =
@@ -94,16 +94,16 @@ greater-signed a b ha hb =
 take-le : (n : ℕ) (xs : List ℕ) → length (take n xs) + 1 ≤ n + 1
 take-le n xs = omega (arith, length-take n xs)
 
-pub used-size-le : (R : HfBlockContext) → bsize (used R) ≤ bsizeOf (R .lengths)
+pub in-use-size-le : (R : HfBlockContext) → bsize (inUse R) ≤ bsizeOf (R .lengths)
 unfolding bsizeOf
-used-size-le R =
+in-use-size-le R =
     mul-le-mul
     (mul-le-mul (mul-le-mul (take-le _ (take 15 (R .«lf_thresholds»))) (take-le _ (take 15 (drop 15 (R .«lf_thresholds»))))) (take-le _ (take 15 (drop 30 (R .«lf_thresholds»)))))
     (take-le _ (R .«qf_thresholds»))
 
 -- the block context of any varblock is one of the record's clusters
 pub context-lt : (R : HfBlockContext) (n order hfMul : ℕ) (there : Bool) (q0 q1 q2 : ℕ) → fit R ≡ true → n < 3 → order < 13
-    → blockContext (used R) n order hfMul there q0 q1 q2 < R .«num_block_clusters»
+    → blockContext (inUse R) n order hfMul there q0 q1 q2 < R .«num_block_clusters»
 context-lt R n order hfMul there q0 q1 q2 e hn ho =
     let f = is-fit R e in
-    fit-byte (R .«num_block_clusters») (R .lengths) (R .«qf_thresholds») (R .«block_ctx_map») f _ (omega (arith, block-index-lt (used R) n order hfMul there q0 q1 q2 hn ho, used-size-le R))
+    fit-byte (R .«num_block_clusters») (R .lengths) (R .«qf_thresholds») (R .«block_ctx_map») f _ (omega (arith, block-entry-lt (inUse R) n order hfMul there q0 q1 q2 hn ho, in-use-size-le R))

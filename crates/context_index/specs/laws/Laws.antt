@@ -10,7 +10,7 @@ use lib.ListN.{length, getD, take, drop, length-take, length-drop, drop-of-lengt
 use mathlib.Core.Logic.{⊎-elim}
 use Rattle.laws.specs.laws.Cases.{le-or-lt}
 use lib.Seq.{take-all, take-take, drop-cons, getD-take, getD-drop}
-use Rattle.context_index.specs.Contexts.{Contexts, greater, above, lfIndexIn, sizeOf, lfSize, qfIndex, lfIndexOf, placeOf}
+use Rattle.context_index.specs.Contexts.{Contexts, greater, above, lfIndexIn, sizeOf, lfSize, qfIndex, lfIndexOf, entryOf}
 use Rattle.context_index.specs.laws.Contexts.{blockContexts}
 use Rattle.context_index.specs.Lists.{lfList}
 
@@ -64,8 +64,8 @@ place-le {qfs} {lfs} {n} {order} {qf} hq hl hn ho hf =
     let m : (n * 13 + order) * qfs + qf ≤ 40351 = omega arith in
     (h, mul-le-mul m hl)
 
-pub place-ge : (qfs lfs n order qf lf : ℕ) → 1 ≤ qfs → 1 ≤ lfs → order ≤ placeOf qfs lfs n order qf lf
-unfolding placeOf
+pub place-ge : (qfs lfs n order qf lf : ℕ) → 1 ≤ qfs → 1 ≤ lfs → order ≤ entryOf qfs lfs n order qf lf
+unfolding entryOf
 place-ge qfs lfs n order qf lf hq hl =
     let a : n * 13 + order ≤ (n * 13 + order) * qfs = le-mul-of-pos-right (n * 13 + order) hq in
     let b : (n * 13 + order) * qfs + qf ≤ ((n * 13 + order) * qfs + qf) * lfs = le-mul-of-pos-right ((n * 13 + order) * qfs + qf) hl in
@@ -88,8 +88,8 @@ lf-size-is xs n0 n1 n2 long =
 -- the three block contexts of a varblock, by the sizes that the code computes
 module _ (C : Contexts) (order hfMul : ℕ) (there : Bool) (q0 q1 q2 : ℕ) (qfs lfs qf lf a b c : ℕ) where
   pub contexts-are : qfs ≡ length (C .qf) + 1 → lfs ≡ lfSize C → qf ≡ qfIndex C hfMul → lf ≡ lfIndexOf C there q0 q1 q2
-      → a ≡ getD (C .map) (placeOf qfs lfs 0 order qf lf) 0
-      → b ≡ getD (C .map) (placeOf qfs lfs 1 order qf lf) 0
-      → c ≡ getD (C .map) (placeOf qfs lfs 2 order qf lf) 0
+      → a ≡ getD (C .map) (entryOf qfs lfs 0 order qf lf) 0
+      → b ≡ getD (C .map) (entryOf qfs lfs 1 order qf lf) 0
+      → c ≡ getD (C .map) (entryOf qfs lfs 2 order qf lf) 0
       → a ∷ b ∷ c ∷ [] ≡ blockContexts C order hfMul there q0 q1 q2
   contexts-are e f g h x y z = rw (x, y, z, e, f, g, h)

@@ -8,19 +8,19 @@ use Rattle.context_sizes.proofs.lf_size.Tie as tie
 mul-result : tie.Need-mul-result
 mul-result c =
     omega
-    (arith, sizes-le {a = c .before .before .used .result + 1} {b = c .before .used2 .result + 1} {c = c .used3 .result + 1} (omega arith) (omega arith) (omega arith))
+    (arith, sizes-le {a = c .before .before .capped .result + 1} {b = c .before .capped2 .result + 1} {c = c .capped3 .result + 1} (omega arith) (omega arith) (omega arith))
 
 mul-result-2 : tie.Need-mul-result-2
 mul-result-2 c =
     omega
-    (arith, sizes-le {a = c .before .before .used .result + 1} {b = c .before .used2 .result + 1} {c = c .used3 .result + 1} (omega arith) (omega arith) (omega arith))
+    (arith, sizes-le {a = c .before .before .capped .result + 1} {b = c .before .capped2 .result + 1} {c = c .capped3 .result + 1} (omega arith) (omega arith) (omega arith))
 
 returns : tie.Need-returns
 returns c =
-    let s0 = c .before .before .used .result + 1 in
-    let s1 = c .before .used2 .result + 1 in
-    let s2 = c .used3 .result + 1 in (
-      rw (c .before .before .used .ensures, c .before .used2 .ensures, c .used3 .ensures),
+    let s0 = c .before .before .capped .result + 1 in
+    let s1 = c .before .capped2 .result + 1 in
+    let s2 = c .capped3 .result + 1 in (
+      rw (c .before .before .capped .ensures, c .before .capped2 .ensures, c .capped3 .ensures),
       sizes-pos {a = s0} {b = s1} {c = s2} (omega arith) (omega arith) (omega arith),
       sizes-le {a = s0} {b = s1} {c = s2} (omega arith) (omega arith) (omega arith) .1,
     )

@@ -16,7 +16,7 @@ use Rattle.layout.specs.Walk.{cells, rows, rowByRow}
 use Rattle.layout.specs.laws.Walk.{beside}
 use Rattle.laws.specs.laws.Cases.{eq-or-ne}
 use Rattle.layout.specs.laws.Stretch.{Place, left, inside, right, place}
-use Rattle.layout.specs.Grid.{fillFrom}
+use Rattle.laws.specs.Lists.{fillFrom}
 use Rattle.layout.specs.laws.Grid.{length-fill, fill-left, fill-in, fill-right}
 use Rattle.layout.specs.Valid.{Cells, Fits, Valid}
 use Rattle.layout.specs.Check.{Covering, Fault, Until, passes, visit, visitCell}

@@ -5,7 +5,7 @@ use mathlib.Core.Bool.{false}
 use mathlib.Core.List.{[], _∷_}
 use Rattle.dct_select.specs.Transforms.{TRANSFORMS, wide, high}
 use Rattle.layout.specs.Walk.{cells, rows}
-use Rattle.layout.specs.Grid.{fillFrom}
+use Rattle.laws.specs.Lists.{fillFrom}
 use Rattle.layout.specs.Check.{clear, fitting, visitCell, checkRun, isLayout}
 use Rattle.layout.specs.Varblocks.{varblocksOf, area, cornersRow, cornersFrom}
 

@@ -11,7 +11,7 @@ use borrow.Author.Tests.{ltb-true, ltb-false, leb-true, eqb-true, lt-ltb, le-ltb
 use Rattle.layout.specs.Kinds.{wideOf, highOf}
 use Rattle.laws.specs.laws.Cases.{eq-or-ne, and-true}
 use Rattle.layout.specs.Walk.{rowByRow}
-use Rattle.layout.specs.Grid.{fillFrom}
+use Rattle.laws.specs.Lists.{fillFrom}
 use Rattle.layout.specs.Valid.{Cells, Fits}
 use Rattle.layout.specs.Check.{Covering, Fault, Until, clear, fitting, visitCell, visit}
 

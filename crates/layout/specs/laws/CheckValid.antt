@@ -10,7 +10,7 @@ use Rattle.layout.specs.Kinds.{wideOf, highOf}
 use Rattle.layout.specs.Walk.{rowByRow}
 use Rattle.layout.specs.laws.Walk.{backward}
 use Rattle.layout.specs.laws.Stretch.{Place, left, inside, right, place}
-use Rattle.layout.specs.Grid.{fillFrom}
+use Rattle.laws.specs.Lists.{fillFrom}
 use Rattle.layout.specs.laws.Grid.{length-fill, fill-left, fill-in, fill-right}
 use Rattle.layout.specs.Valid.{Cells, Covers, Fits, Valid}
 use Rattle.layout.specs.laws.Order.{From, Here, split, weaken, here, from-row, new-row, old-row, from-start, from-end, not-back, self}

@@ -9,7 +9,8 @@ use lib.Arith.{digits-lt, digits-div, digits-mod}
 use lib.ListN.{length, getD, set, length-set, length-append, List·getD-append}
 use lib.Seq.{getD-set-same, getD-set-other, getD-append-add, ext-getD}
 use Rattle.laws.specs.laws.Cases.{eq-or-ne}
-use Rattle.layout.specs.Grid.{blockAt, fillFrom, gridFrom, gridOf, rowOf}
+use Rattle.laws.specs.Lists.{fillFrom}
+use Rattle.layout.specs.Grid.{blockAt, gridFrom, gridOf, rowOf}
 
 pub length-fill : (l : List ℕ) (i n v : ℕ) → length (fillFrom l i n v) ≡ length l
 unfolding fillFrom

@@ -11,7 +11,7 @@ use Rattle.layout.specs.Walk.{rowByRow, Before}
 use Rattle.layout.specs.laws.Walk.{forward}
 use Rattle.laws.specs.laws.Cases.{eq-or-ne, le-or-lt}
 use Rattle.layout.specs.laws.Stretch.{Place, left, inside, right, place}
-use Rattle.layout.specs.Grid.{fillFrom}
+use Rattle.laws.specs.Lists.{fillFrom}
 use Rattle.layout.specs.laws.Grid.{length-fill, fill-left, fill-in, fill-right}
 use Rattle.layout.specs.Valid.{Cells, Covers, Fits, Owned, Valid}
 use Rattle.layout.specs.laws.Order.{Here, never, later, last, self}

@@ -17,7 +17,7 @@ use Rattle.layout.specs.laws.Grid.{place-lt}
 use Rattle.layout.specs.Valid.{Cells, Covers, Fits, Owned, Layout}
 use Rattle.layout.specs.Walk.{Before}
 use Rattle.layout.specs.laws.Order.{Here, later, last}
-use Rattle.layout_reading.specs.Reading.{Job, Placed, Placing, Going, Stopped, nextType, nextHfMul, column, visit, start, reading}
+use Rattle.layout_placing.specs.Reading.{Job, Placed, Placing, Going, Stopped, nextType, nextHfMul, column, visit, start, reading}
 use Rattle.layout_accepted.specs.laws.Took.{InRect}
 use Rattle.layout_accepted.specs.laws.Puts.{Puts, Column, Spot, corner, body, beyond, spot, column-put}
 use Rattle.layout_accepted.specs.Refused.{Part, Sofar}

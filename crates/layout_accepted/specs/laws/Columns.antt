@@ -19,7 +19,7 @@ use Rattle.layout.specs.Walk.{Before}
 use Rattle.layout.specs.laws.Order.{Here, From, from-start}
 use Rattle.layout.specs.Varblocks.{Varblock, addVarblock, cornersRow, cornersFrom, varblocksOf}
 use Rattle.layout_column.specs.Columns.{lowEight, hfMulOf}
-use Rattle.layout_reading.specs.Reading.{Job, Placed, Placing, Going, Stopped, nextType, nextHfMul, column, visit, start, reading}
+use Rattle.layout_placing.specs.Reading.{Job, Placed, Placing, Going, Stopped, nextType, nextHfMul, column, visit, start, reading}
 use Rattle.refusal.specs.Answer.{gives}
 use Rattle.layout_call.specs.Call.{outcomeOf, Inputs, jobOf, lengthsFit, layoutOf}
 use Rattle.layout_sizes.specs.laws.Counts.{counts}

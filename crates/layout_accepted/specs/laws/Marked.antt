@@ -12,8 +12,8 @@ use Rattle.layout_sizes.specs.Blocks.{bwIn, bhIn}
 use Rattle.layout_filter.specs.declared.Filter.the-variants.{On}
 use Rattle.layout_filter.specs.Strength.{zero32, scaledBy, dividedBy}
 use Rattle.layout_filter.specs.Limits.{inLimits}
-use Rattle.layout_reading.specs.Scan.{takeCell, scan}
-use Rattle.layout_reading.specs.Reading.{place, column, reading}
+use Rattle.layout_placing.specs.Scan.{takeCell, scan}
+use Rattle.layout_placing.specs.Reading.{place, column, reading}
 use Rattle.refusal.specs.Answer.{gives, refuses}
 use Rattle.layout_call.specs.Call.{inputs, layoutOf}
 use Rattle.layout_accepted.specs.Marked.{off}

@@ -18,9 +18,9 @@ use Rattle.layout.specs.laws.Grid.{set-same, set-other}
 use Rattle.layout.specs.laws.Order.{Here}
 use Rattle.layout_filter.specs.Strength.{dividedBy}
 use Rattle.layout_column.specs.laws.Judged.{Fitting, fitting}
-use Rattle.layout_reading.specs.Scan.{Scan, Taking, Left, scan}
-use Rattle.layout_reading.specs.Reading.{Job, Placed, Going, stopAt, placed, placeIn, nextType, nextHfMul, nextChecks, column}
-use Rattle.layout_reading.specs.Reading as reading
+use Rattle.layout_placing.specs.Scan.{Scan, Taking, Left, scan}
+use Rattle.layout_placing.specs.Reading.{Job, Placed, Going, stopAt, placed, placeIn, nextType, nextHfMul, nextChecks, column}
+use Rattle.layout_placing.specs.Reading as reading
 use Rattle.layout_accepted.specs.laws.Took.{InRect, Took, took}
 
 -- a varblock of type t and hf_mul h is put at (x, y)

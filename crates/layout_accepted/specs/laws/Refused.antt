@@ -18,8 +18,8 @@ use Rattle.layout_sizes.specs.Blocks.{sizeFits}
 use Rattle.layout_filter.specs.declared.DividedFilter.{DividedFilter}
 use Rattle.layout_filter.specs.Strength.{dividedBy}
 use Rattle.layout_column.specs.Columns.{positive}
-use Rattle.layout_reading.specs.Scan.{Scan, Taking, Left, isOn, takeCell, scan}
-use Rattle.layout_reading.specs.Reading.{Job, Placed, Placing, Going, Stopped, stopAt, placed, place, placeIn, nextType, nextHfMul, column, visit, start, reading}
+use Rattle.layout_placing.specs.Scan.{Scan, Taking, Left, isOn, takeCell, scan}
+use Rattle.layout_placing.specs.Reading.{Job, Placed, Placing, Going, Stopped, stopAt, placed, place, placeIn, nextType, nextHfMul, column, visit, start, reading}
 use Rattle.layout_call.specs.Call.{Outcome, outcomeOf, Inputs, jobOf, parametersFit, lengthsFit, refuse, layoutOf}
 use Rattle.layout_accepted.specs.laws.Puts.{column-put}
 use Rattle.layout_accepted.specs.laws.Accepted.{passing, placing, turned, begun}

@@ -33,15 +33,15 @@ use Rattle.layout_filter.specs.Limits.{paramsFit}
 use Rattle.layout_filter.specs.Finite.{SIGMA-MOST, Within}
 use Rattle.layout_filter.specs.laws.Finite.{within-finite, sigma-within, sigma-back}
 use Rattle.layout_sizes.specs.Blocks.{modesFit}
-use Rattle.layout_reading.specs.Scan.{Scan, Taking, Left, isOn, sigmaWith, takeCell, scan}
-use Rattle.layout_reading.specs.Reading.{Job, Placed, start}
+use Rattle.layout_placing.specs.Scan.{Scan, Taking, Left, isOn, sigmaWith, takeCell, scan}
+use Rattle.layout_placing.specs.Reading.{Job, Placed, start}
 use Rattle.refusal.specs.Answer.{gives}
 use Rattle.layout_call.specs.Call.{Inputs, jobOf, layoutOf}
 use Rattle.layout_accepted.specs.laws.Took.{InRect, passed, cell-took}
 use Rattle.layout_accepted.specs.laws.Puts.{Column, Spot, corner, body, beyond, spot}
 use Rattle.layout_accepted.specs.Refused.{Sofar}
 use Rattle.layout_accepted.specs.laws.Accepted.{after, blank, along}
-use Rattle.layout_accepted.specs.Outcome.{bhOf, bwOf, sigmaAt, strengthAt}
+use Rattle.layout_accepted.specs.Outcome.{bhOf, bwOf, strengthAt}
 use Rattle.layout_accepted.specs.laws.Theorems.{Read, accepted-read, accepted-layout}
 
 -- sigma of a block of a varblock whose filter is given; filter off: as it was
@@ -91,9 +91,9 @@ module _ (bw bh : ℕ) (filter : DividedFilter) (lookups : List Float) (sharpnes
 
     record SigmaSofar (dx dy : ℕ) (s′ : List ℕ) : Type 0 where
       lengthS : length s′ ≡ bh * bw
-      now : Taken dx dy → sigmaAt s′ bw a b ≡ cellSigma filter lookups (blockAt sharpness bw a b) (sigmaAt s bw a b)
+      now : Taken dx dy → blockAt s′ bw a b ≡ cellSigma filter lookups (blockAt sharpness bw a b) (blockAt s bw a b)
       sharp : Taken dx dy → isOn filter ≡ true → blockAt sharpness bw a b < 8
-      kept : (Taken dx dy → ⊥) → sigmaAt s′ bw a b ≡ sigmaAt s bw a b
+      kept : (Taken dx dy → ⊥) → blockAt s′ bw a b ≡ blockAt s bw a b
 
     Sound : ℕ → ℕ → Scan → Type 0
     Sound dx dy (Taking k s′) = SigmaSofar dx dy s′
@@ -121,8 +121,8 @@ module _ (bw bh : ℕ) (filter : DividedFilter) (lookups : List Float) (sharpnes
           kept = λ t. same ∙ r .kept (λ u. t (before u));
         }
           where
-            same : sigmaAt s₂ bw a b ≡ sigmaAt s₁ bw a b
-            same = ap (λ (z : List ℕ). sigmaAt z bw a b) (c .0)
+            same : blockAt s₂ bw a b ≡ blockAt s₁ bw a b
+            same = ap (λ (z : List ℕ). blockAt z bw a b) (c .0)
                 ∙ with-other lookups sharpness s₁ ((y + dy) * bw + (x + dx)) filter (b * bw + a) (λ e. n (place-col bw (x + dx) (y + dy) a b hx ha e, place-row bw (x + dx) (y + dy) a b hx ha e))
 
             was : Taken (dx + 1) dy → Taken dx dy
@@ -140,14 +140,14 @@ module _ (bw bh : ℕ) (filter : DividedFilter) (lookups : List Float) (sharpnes
           kept = λ t. absurd (t (omega arith, omega arith, omega arith, inr (f, omega arith)));
         }
           where
-            old : sigmaAt s₁ bw a b ≡ sigmaAt s bw a b
+            old : blockAt s₁ bw a b ≡ blockAt s bw a b
             old = r .kept (λ t. never (x + dx) (y + dy) (rw (e, f) at (t .3)))
 
             at-place : b * bw + a ≡ (y + dy) * bw + (x + dx)
             at-place = rw (e, f)
 
-            is : sigmaAt s₂ bw a b ≡ cellSigma filter lookups (blockAt sharpness bw a b) (sigmaAt s bw a b)
-            is = ap (λ (z : List ℕ). sigmaAt z bw a b) (c .0 ∙ ap (λ (j : ℕ). sigmaWith filter lookups sharpness s₁ j) (sym at-place))
+            is : blockAt s₂ bw a b ≡ cellSigma filter lookups (blockAt sharpness bw a b) (blockAt s bw a b)
+            is = ap (λ (z : List ℕ). blockAt z bw a b) (c .0 ∙ ap (λ (j : ℕ). sigmaWith filter lookups sharpness s₁ j) (sym at-place))
                 ∙ with-same lookups sharpness s₁ (b * bw + a) filter (let l = r .lengthS in omega (arith, place-lt bw bh a b ha hb))
                 ∙ ap (λ (z : ℕ). cellSigma filter lookups (blockAt sharpness bw a b) z) old
 
@@ -208,9 +208,9 @@ module _ (bw bh : ℕ) (filter : DividedFilter) (lookups : List Float) (sharpnes
     -- by the rectangle
     record Scanned (s′ : List ℕ) : Type 0 where
       lengthS : length s′ ≡ bh * bw
-      now : InRect x y w h a b → sigmaAt s′ bw a b ≡ cellSigma filter lookups (blockAt sharpness bw a b) (sigmaAt s bw a b)
+      now : InRect x y w h a b → blockAt s′ bw a b ≡ cellSigma filter lookups (blockAt sharpness bw a b) (blockAt s bw a b)
       sharp : InRect x y w h a b → isOn filter ≡ true → blockAt sharpness bw a b < 8
-      kept : (InRect x y w h a b → ⊥) → sigmaAt s′ bw a b ≡ sigmaAt s bw a b
+      kept : (InRect x y w h a b → ⊥) → blockAt s′ bw a b ≡ blockAt s bw a b
 
     scanned : (k k′ s′ : List ℕ) → scan bw bh filter lookups sharpness x y w h (Taking k s) ≡ Taking k′ s′ → Scanned s′
     scanned k k′ s′ f =
@@ -240,9 +240,9 @@ module _ (J : Job) where
   -- blocks that are free have +0.0, the others the filter strength by the hf_mul of their varblock's corner
   record Strengths (p : Placed) : Type 0 where
     lengthS : length (p .sigma) ≡ J .bh * J .bw
-    free : (a b : ℕ) → a < J .bw → b < J .bh → blockAt (p .kinds) (J .bw) a b ≡ 0 → sigmaAt (p .sigma) (J .bw) a b ≡ 0
+    free : (a b : ℕ) → a < J .bw → b < J .bh → blockAt (p .kinds) (J .bw) a b ≡ 0 → blockAt (p .sigma) (J .bw) a b ≡ 0
     taken : (a b c d : ℕ) → a < J .bw → b < J .bh → Covers (blockAt (p .kinds) (J .bw)) c d a b
-        → sigmaAt (p .sigma) (J .bw) a b ≡ cellSigma (dividedBy (J .filter) (blockAt (p .hfMul) (J .bw) c d)) (J .lookups) (blockAt (J .sharpness) (J .bw) a b) 0
+        → blockAt (p .sigma) (J .bw) a b ≡ cellSigma (dividedBy (J .filter) (blockAt (p .hfMul) (J .bw) c d)) (J .lookups) (blockAt (J .sharpness) (J .bw) a b) 0
     sharp : (a b : ℕ) → a < J .bw → b < J .bh → 0 < blockAt (p .kinds) (J .bw) a b → isScaledOn (J .filter) ≡ true → blockAt (J .sharpness) (J .bw) a b < 8
 
   begin : Strengths (start J)
@@ -262,13 +262,13 @@ module _ (J : Job) where
     was-free : blockAt (p .kinds) (J .bw) x y ≡ 0
     was-free = c .free x y (let w = wide-some t (c .fits .known) in let v = high-some t (c .fits .known) in (omega arith, omega arith, omega arith, omega arith))
 
-    now-free : (a b : ℕ) → a < J .bw → b < J .bh → blockAt (q .kinds) (J .bw) a b ≡ 0 → Spot x y (wide t) (high t) a b → sigmaAt (q .sigma) (J .bw) a b ≡ 0
+    now-free : (a b : ℕ) → a < J .bw → b < J .bh → blockAt (q .kinds) (J .bw) a b ≡ 0 → Spot x y (wide t) (high t) a b → blockAt (q .sigma) (J .bw) a b ≡ 0
     now-free a b i j e (corner m) = absurd (let z = c .puts .atCorner in let u : blockAt (q .kinds) (J .bw) a b ≡ blockAt (q .kinds) (J .bw) x y = rw (m .0, m .1) in omega arith)
     now-free a b i j e (body n m) = absurd (let z = c .puts .inBody a b n m in omega arith)
     now-free a b i j e (beyond n) = seen a b i j .kept n ∙ r .free a b i j (sym (c .puts .elsewhere a b i n) ∙ e)
 
     now-taken : (a b u v : ℕ) → a < J .bw → b < J .bh → (Here x y u v × InRect x y (wide t) (high t) a b) ⊎ Covers (blockAt (p .kinds) (J .bw)) u v a b
-        → sigmaAt (q .sigma) (J .bw) a b ≡ cellSigma (dividedBy (J .filter) (blockAt (q .hfMul) (J .bw) u v)) (J .lookups) (blockAt (J .sharpness) (J .bw) a b) 0
+        → blockAt (q .sigma) (J .bw) a b ≡ cellSigma (dividedBy (J .filter) (blockAt (q .hfMul) (J .bw) u v)) (J .lookups) (blockAt (J .sharpness) (J .bw) a b) 0
     now-taken a b u v i j (inl m) =
         seen a b i j .now (m .1)
         ∙ ap (λ (z : ℕ). cellSigma (dividedBy (J .filter) h) (J .lookups) (blockAt (J .sharpness) (J .bw) a b) z) (r .free a b i j (c .free a b (m .1)))
@@ -319,7 +319,7 @@ module _ (i : Inputs) (kinds hfMul sigma : List ℕ) where
     accepted-sigmas = ap length (read .sigmaAre) ∙ strengths .1 .lengthS
 
     -- its bit pattern is what is left
-    pub accepted-sigma : (cx cy x y : ℕ) → x < bwOf i → y < bhOf i → Covers (blockAt (layoutOf i kinds hfMul sigma .kinds) (bwOf i)) cx cy x y → sigmaAt (layoutOf i kinds hfMul sigma .sigma) (bwOf i) x y ≡ pattern (strengthAt i kinds hfMul sigma cx cy x y)
+    pub accepted-sigma : (cx cy x y : ℕ) → x < bwOf i → y < bhOf i → Covers (blockAt (layoutOf i kinds hfMul sigma .kinds) (bwOf i)) cx cy x y → blockAt (layoutOf i kinds hfMul sigma .sigma) (bwOf i) x y ≡ pattern (strengthAt i kinds hfMul sigma cx cy x y)
     accepted-sigma cx cy x y hx hy v =
         let r = read in
         rw (r .sigmaAre, r .hfMulAre)
@@ -332,7 +332,7 @@ module _ (i : Inputs) (kinds hfMul sigma : List ℕ) where
 
     -- it is finite, no NaN and no infinity, at most 65,504 × 65,536 × 65,504 in size, and the bit pattern reads back as it
     pub accepted-finite : (cx cy x y : ℕ) → x < bwOf i → y < bhOf i → Covers (blockAt (layoutOf i kinds hfMul sigma .kinds) (bwOf i)) cx cy x y
-        → T (finite (strengthAt i kinds hfMul sigma cx cy x y)) × Within SIGMA-MOST (strengthAt i kinds hfMul sigma cx cy x y) × (ofBits binary32 (sigmaAt (layoutOf i kinds hfMul sigma .sigma) (bwOf i) x y) ≡ strengthAt i kinds hfMul sigma cx cy x y)
+        → T (finite (strengthAt i kinds hfMul sigma cx cy x y)) × Within SIGMA-MOST (strengthAt i kinds hfMul sigma cx cy x y) × (ofBits binary32 (blockAt (layoutOf i kinds hfMul sigma .sigma) (bwOf i) x y) ≡ strengthAt i kinds hfMul sigma cx cy x y)
     accepted-finite cx cy x y hx hy v =
         let h = blockAt (layoutOf i kinds hfMul sigma .hfMul) (bwOf i) cx cy in
         let s = blockAt (i .sharpness) (bwOf i) x y in

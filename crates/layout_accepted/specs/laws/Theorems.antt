@@ -15,7 +15,7 @@ use Rattle.layout.specs.Varblocks.{varblocksOf, area}
 use Rattle.layout.specs.laws.Theorems.{disjoint, covered, layout-area}
 use Rattle.lent_cut.specs.Calls.{cutOf}
 use Rattle.lent_cut.specs.laws.Theorems.{cut-not-18}
-use Rattle.layout_reading.specs.Reading.{Placed, Placing, Going, Stopped, reading}
+use Rattle.layout_placing.specs.Reading.{Placed, Placing, Going, Stopped, reading}
 use Rattle.layout_call.specs.Call.{Outcome, outcomeOf, Inputs, jobOf, parametersFit, lengthsFit, beforeWork, refuse, layoutOf}
 use Rattle.layout_accepted.specs.laws.Accepted.{read-layout}
 use Rattle.layout_accepted.specs.Outcome.{bhOf, bwOf}

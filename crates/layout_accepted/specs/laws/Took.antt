@@ -17,8 +17,8 @@ use Rattle.layout.specs.Walk.{Before}
 use Rattle.layout.specs.laws.Order.{Here, last}
 use Rattle.layout_filter.specs.declared.DividedFilter.{DividedFilter}
 use Rattle.layout_filter.specs.declared.DividedFilter.the-variants.{Off}
-use Rattle.layout_reading.specs.laws.ScanSteps.{cell-off}
-use Rattle.layout_reading.specs.Scan.{Scan, Taking, Left, isOn, sigmaWith, takeCell, scan}
+use Rattle.layout_placing.specs.laws.Cells.{cell-off}
+use Rattle.layout_placing.specs.Scan.{Scan, Taking, Left, isOn, sigmaWith, takeCell, scan}
 
 -- a cell (a, b) of the rectangle of w x h blocks at (x, y)
 abbrev pub InRect : ℕ → ℕ → ℕ → ℕ → ℕ → ℕ → Type 0

@@ -14,8 +14,8 @@ use Rattle.layout.specs.Grid.{blockAt}
 use Rattle.layout_filter.specs.declared.Filter.the-variants.{Off}
 use Rattle.layout_filter.specs.declared.DividedFilter.the-variants.{Off as DividedOff}
 use Rattle.layout_filter.specs.Strength.{scaledBy, dividedBy}
-use Rattle.layout_reading.specs.Scan.{Scan, Taking, Left, takeCell, scan}
-use Rattle.layout_reading.specs.Reading.{Job, Placed, Placing, Going, Stopped, stopAt, placed, place, placeIn, nextType, nextHfMul, nextChecks, column, visit, start, reading}
+use Rattle.layout_placing.specs.Scan.{Scan, Taking, Left, takeCell, scan}
+use Rattle.layout_placing.specs.Reading.{Job, Placed, Placing, Going, Stopped, stopAt, placed, place, placeIn, nextType, nextHfMul, nextChecks, column, visit, start, reading}
 use Rattle.layout_call.specs.Call.{outcomeOf, Inputs, jobOf, layoutOf}
 use Rattle.layout_accepted.specs.Outcome.{withSharpness}
 

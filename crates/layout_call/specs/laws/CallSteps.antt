@@ -11,7 +11,7 @@ use Rattle.layout_sizes.specs.Blocks.{sizeFits, modesFit, bwIn, bhIn}
 use Rattle.layout_sizes.specs.laws.Bounds.{blocksOf, bw-most, bh-most}
 use Rattle.layout_reading.specs.declared.column.Step.{Step}
 use Rattle.layout_reading.specs.declared.column.Step.the-variants.{Going as GoesOn, Stopped as Stops}
-use Rattle.layout_reading.specs.Reading.{Job, jobBy}
+use Rattle.layout_placing.specs.Reading.{Job, jobBy}
 use Rattle.refusal.specs.laws.Answer.{answered-by}
 use Rattle.layout_reading.specs.laws.Outcome.{Told, handed, readChecks, readOf}
 use Rattle.layout_call.specs.declared.LayoutAnswer.{LayoutAnswer}

@@ -12,10 +12,5 @@ slice-aggregate-write-all c =
 
 pub run-spec : {M : Type 1} → statement M
 run-spec =
-    tie.close
-    (tie.spec
-    (λ c κs. search needs)
-    (λ c. c .list-whole .ensures .0)
-    slice-aggregate-write-all
-    (λ c κs. search needs)
-    (λ c. search needs))
+    tie.close (tie.spec (λ c κs. search needs) (λ c. c .list-whole .ensures .0) slice-aggregate-write-all
+    (λ c κs. search needs) (λ c. search needs))

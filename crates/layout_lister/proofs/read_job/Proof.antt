@@ -84,23 +84,6 @@ loop-again c =
 
 pub read-job-spec : {M : Type 1} → statement M
 read-job-spec =
-    tie.close
-    (tie.spec
-    Inv-loop
-    μ-loop
-    (λ c. search needs)
-    (λ c. search needs)
-    slice-aggregate-needed
-    (λ c κs. search needs)
-    (λ c. search needs)
-    (λ c. search needs)
-    add-end
-    (λ c. search needs)
-    (λ c. search needs)
-    part-read-full-end
-    (λ c κs. search needs)
-    add-n
-    (λ c. search needs)
-    returns-2
-    loop-less
-    loop-again)
+    tie.close (tie.spec Inv-loop μ-loop (λ c. search needs) (λ c. search needs) slice-aggregate-needed
+    (λ c κs. search needs) (λ c. search needs) (λ c. search needs) add-end (λ c. search needs) (λ c. search needs)
+    part-read-full-end (λ c κs. search needs) add-n (λ c. search needs) returns-2 loop-less loop-again)

@@ -12,8 +12,8 @@ use Rattle.layout_filter.specs.Limits.{paramsFit}
 use Rattle.layout_sizes.specs.Blocks.{countsFit}
 use Rattle.layout_reading.specs.declared.column.Step.{Step}
 use Rattle.layout_reading.specs.declared.column.Step.the-variants.{Going as GoesOn, Stopped as Stops}
-use Rattle.layout_reading.specs.Reading.{Job, Placed, Placing, Going, Stopped, reading}
-use Rattle.layout_reading.specs.Outcome.{Outcome, outcome, outcomeOf}
+use Rattle.layout_placing.specs.Reading.{Job, Placed, Placing, Going, Stopped, reading}
+use Rattle.layout_placing.specs.Outcome.{Outcome, outcome, outcomeOf}
 
 -- what was placed, by its fields
 abbrev pub stateOf : ℕ → List ℕ → List ℕ → List ℕ → Placed
@@ -45,15 +45,15 @@ abbrev pub handed : Step → List ℕ → List ℕ → List ℕ → Told
 handed (GoesOn used) kinds hfMul sigma = told used (outcome (gives used) kinds hfMul sigma)
 handed (Stops n r) kinds hfMul sigma = told n (outcome (refuses (said r)) kinds hfMul sigma)
 
-module _ (J : Job) (kinds hfMul sigma : List ℕ) where
-  -- at most 256 blocks each way, and lent lengths that fit
-  abbrev pub fits : Bool
-  fits =
-      leb (J .bw) 256 && leb (J .bh) 256
-      && countsFit (length (J .types)) (length (J .muls)) (length (J .sharpness)) (length kinds) (length hfMul) (length sigma) (J .bh * J .bw)
+-- before work: the filter's numbers (11); at most 256 blocks each way, and lent lengths that fit (1)
+abbrev pub checksOf : Bool → ℕ → ℕ → ℕ → ℕ → ℕ → ℕ → ℕ → ℕ → Answer Unit
+checksOf params bw bh types muls sharpness kinds hfMul sigma =
+    unless 11 params (unless 1 (leb bw 256 && leb bh 256 && countsFit types muls sharpness kinds hfMul sigma (bh * bw)) passed)
 
+module _ (J : Job) (kinds hfMul sigma : List ℕ) where
   abbrev pub readChecks : Filter → ℕ → Answer Unit
-  readChecks filter scale = unless 11 (paramsFit filter (J .lookups) scale) (unless 1 fits passed)
+  readChecks filter scale =
+      checksOf (paramsFit filter (J .lookups) scale) (J .bw) (J .bh) (length (J .types)) (length (J .muls)) (length (J .sharpness)) (length kinds) (length hfMul) (length sigma)
 
   -- the job of this filter and scale, whatever the lent buffers held; refused before work, nothing is written
   unfoldable pub readOf : Filter → ℕ → Told

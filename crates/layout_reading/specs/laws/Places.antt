@@ -1,67 +1,55 @@
--- Laws on the reading (document 01, Layout): a varblock placed, a block visited.
-use mathlib.Core.Path.{_≡_, ap, sym, _∙_}
+-- A varblock placed, by what the scan answers and leaves.
+use mathlib.Core.Bool.{true, false}
+use mathlib.Core.Path.{_≡_, refl, ap, sym, _∙_}
 use mathlib.Core.List.{List}
-use Prim.Native.Nat.{ℕ, _≤_, _<_}
+use Prim.Native.Nat.{ℕ, _+_, _*_}
 use native.Mathlib.Omega.{arith}
-use lib.ListN.{length}
+use lib.ListN.{set}
 use lib.Ieee.{Float}
-use borrow.Author.Tests.{lt-ltb, le-ltb, eq-eqb, ne-eqb}
-use Rattle.refusal.specs.declared.Said.{Said}
-use Rattle.refusal.specs.Said as refusals
-use Rattle.refusal.specs.Answer.{Answer, gives, refuses, answeredBy}
-use Rattle.refusal.specs.laws.Answer.{answered-by}
 use Rattle.refusal.specs.declared.Refusal.{Refusal}
-use Rattle.layout.specs.Grid.{blockAt}
+use Rattle.refusal.specs.declared.Refusal.the-variants as why
 use Rattle.layout_filter.specs.declared.ScaledFilter.{ScaledFilter}
 use Rattle.layout_filter.specs.declared.DividedFilter.{DividedFilter}
 use Rattle.layout_filter.specs.Strength.{dividedBy}
+use Rattle.layout_placing.specs.Scan.{Scan, Taking, scan}
+use Rattle.layout_placing.specs.Reading.{Job, Placed, placed, place, visit}
 use Rattle.layout_reading.specs.declared.scan.Scanned.{Scanned}
-use Rattle.layout_column.specs.declared.Judged.{Judged}
+use Rattle.layout_reading.specs.declared.scan.Scanned.the-variants.{Taken, Outside, Overlap, Sharpness}
 use Rattle.layout_reading.specs.declared.column.Step.{Step}
-use Rattle.layout_reading.specs.declared.column.Step.the-variants.{Stopped as Stops}
-use Rattle.layout_column.specs.declared.JudgedColumn.{JudgedColumn}
-use Rattle.layout_column.specs.Columns.{columnChecks}
-use Rattle.layout_column.specs.laws.Judged.{saidJudged, judgedColumn, judgedOf}
-use Rattle.layout_reading.specs.Scan.{Scan, Taking, scan}
-use Rattle.layout_reading.specs.laws.Scan.{scanned}
-use Rattle.layout_reading.specs.Reading.{Job, Placed, Placing, Going, Stopped, stopAt, placed, place, placeIn, nextType, nextHfMul, column, visit}
+use Rattle.layout_reading.specs.declared.column.Step.the-variants.{Going as GoesOn, Stopped as Stops}
+use Rattle.layout_reading.specs.laws.Scan.{scanned, refuses}
+use Rattle.layout_reading.specs.laws.ScanSteps.{taken-is}
 use Rattle.layout_reading.specs.laws.Outcome.{stepped}
 
+-- the step that a scan makes of a column at the free block (x, y)
+abbrev pub stepOf : Scanned → ℕ → ℕ → ℕ → Step
+stepOf Taken used x y = GoesOn (used + 1)
+stepOf (Outside cx cy) used x y = Stops used (why.Outside x y)
+stepOf (Overlap cx cy) used x y = Stops used (why.Overlap x y)
+stepOf (Sharpness cx cy) used x y = Stops used (why.Sharpness x y)
+
 module _ (bw bh : ℕ) (filter : ScaledFilter) (lookups : List Float) (sharpness : List ℕ) (kind h w n x y : ℕ) (p : Placed) where
-  pub place-by : (f g : Scanned) (divided : DividedFilter) (k s : List ℕ) → divided ≡ dividedBy filter h
-      → scanned f k s ≡ scan bw bh divided lookups sharpness x y w n (Taking (p .kinds) (p .sigma)) → f ≡ g
-      → placed bw kind h x y p (scanned g k s) ≡ place bw bh filter lookups sharpness kind h w n x y p
-  unfolding place
-  place-by f g divided k s q e d =
-      ap (λ (z : Scan). placed bw kind h x y p z)
-      (sym (ap (λ (z : Scanned). scanned z k s) d) ∙ e
-      ∙ ap (λ (z : DividedFilter). scan bw bh z lookups sharpness x y w n (Taking (p .kinds) (p .sigma))) q)
+  left : (f : Scanned) (k s k′ m′ s′ : List ℕ) → refuses f ≡ true → stepped (stepOf f (p .used) x y) k′ m′ s′ ≡ placed bw kind h x y p (scanned f k s)
+  left Taken k s k′ m′ s′ e = absurd (let z : _≡_ {A = ℕ} 0 1 = cc in omega arith)
+  left (Outside cx cy) k s k′ m′ s′ e = refl
+  left (Overlap cx cy) k s k′ m′ s′ e = refl
+  left (Sharpness cx cy) k s k′ m′ s′ e = refl
 
-module _ (J : Job) (x y : ℕ) (p : Placed) where
-  abbrev pub byAsking : Answer JudgedColumn → Placing
-  byAsking a =
-      answeredBy a (λ (s : Said). Stopped (p .used) s) (λ (v : JudgedColumn). placeIn J (v .kind) (v .«hf_mul») (v .wide) (v .high) x y p)
+  -- what the scan of the column's rectangle answered and left
+  module _ (f : Scanned) (t : Step) (divided : DividedFilter) (k s : List ℕ) (q : divided ≡ dividedBy filter h)
+      (e : scanned f k s ≡ scan bw bh divided lookups sharpness x y w n (Taking (p .kinds) (p .sigma))) (d : t ≡ stepOf f (p .used) x y) where
+    by-scan : placed bw kind h x y p (scanned f k s) ≡ place bw bh filter lookups sharpness kind h w n x y p
+    unfolding place
+    by-scan = ap (λ (z : Scan). placed bw kind h x y p z) (e ∙ ap (λ (z : DividedFilter). scan bw bh z lookups sharpness x y w n (Taking (p .kinds) (p .sigma))) q)
 
-  abbrev pub byJudged : Judged → Placing
-  byJudged j = byAsking (saidJudged j)
+    pub place-left : refuses f ≡ true → (m : List ℕ) → stepped t k m s ≡ place bw bh filter lookups sharpness kind h w n x y p
+    place-left r m = ap (λ (z : Step). stepped z k m s) d ∙ left f k s k m s r ∙ by-scan
 
-  pub visit-taken : 0 < blockAt (p .kinds) (J .bw) x y → Going p ≡ visit J x y (Going p)
-  visit-taken h = rw (ne-eqb (blockAt (p .kinds) (J .bw) x y) 0 (omega arith))
-
-  module _ (free : blockAt (p .kinds) (J .bw) x y ≤ 0) where
-    is-free : blockAt (p .kinds) (J .bw) x y ≡ 0
-    is-free = omega arith
-
-    pub visit-ends : length (J .types) ≤ p .used → stopAt 4 x y p ≡ visit J x y (Going p)
-    unfolding column
-    visit-ends l = rw (eq-eqb (blockAt (p .kinds) (J .bw) x y) 0 is-free, le-ltb (p .used) (length (J .types)) l)
-
-    pub visit-judged : (j : Judged) → p .used < length (J .types) → saidJudged j ≡ judgedOf (nextType J p) (nextHfMul J p) x y → byJudged j ≡ visit J x y (Going p)
-    unfolding column judgedOf
-    visit-judged j l e =
-        rw (eq-eqb (blockAt (p .kinds) (J .bw) x y) 0 is-free, lt-ltb (p .used) (length (J .types)) l)
-        (ap byAsking e
-        ∙ answered-by byAsking (columnChecks (nextType J p) (nextHfMul J p) x y) (λ (s : Said). refuses (refusals.saidAt (s .number) x y)) (λ (u : Unit). gives (judgedColumn (nextType J p) (nextHfMul J p))))
+    pub place-taken : refuses f ≡ false → stepped t (set k (y * bw + x) kind) (set (p .hfMul) (y * bw + x) h) s ≡ place bw bh filter lookups sharpness kind h w n x y p
+    place-taken r =
+        let g = taken-is f r in
+        ap (λ (z : Step). stepped z (set k (y * bw + x) kind) (set (p .hfMul) (y * bw + x) h) s) (d ∙ ap (λ (z : Scanned). stepOf z (p .used) x y) g)
+        ∙ ap (λ (z : Scanned). placed bw kind h x y p (scanned z k s)) (sym g) ∙ by-scan
 
 -- a reading that was stopped stays so
 pub stop-stays : (J : Job) (s : Step) (n : ℕ) (r : Refusal) (k m g : List ℕ) → s ≡ Stops n r → (a b : ℕ) → visit J a b (stepped s k m g) ≡ stepped s k m g

@@ -4,7 +4,7 @@ use mathlib.Core.List.{List}
 use Prim.Native.Nat.{ℕ}
 use Rattle.layout_reading.specs.declared.scan.Scanned.{Scanned}
 use Rattle.layout_reading.specs.declared.scan.Scanned.the-variants.{Taken, Outside, Overlap, Sharpness}
-use Rattle.layout_reading.specs.Scan.{Left, Scan, Taking}
+use Rattle.layout_placing.specs.Scan.{Left, Scan, Taking}
 
 -- a scan from what the code answers and what it left in kinds and sigma
 abbrev pub scanned : Scanned → List ℕ → List ℕ → Scan

@@ -39,9 +39,6 @@ pub record Sound (k m : ℕ) : Type 0 where
   pub other : (k ≡ 1 → ⊥) → 1 ≤ m
   pub signed : m < 2 ^ 31
 
-abbrev pub Known : List ℕ → Type 0
-Known ks = (i : ℕ) → i < length ks → getD ks i 0 < 29
-
 sound-of : (k m : ℕ) → k < 29 → flawOf k m ≡ 0 → Sound k m
 unfolding flawOf
 sound-of k m h e = go (eqb k 1) refl (eqb m 0) refl (ltb 2147483647 m) refl e
@@ -104,10 +101,6 @@ module _ (ks ms : List ℕ) where
   flaws-step n = let e : n + 1 ≡ suc n = omega arith in rw e
 
 module _ (bw bh : ℕ) (ks ms : List ℕ) (a : length ks ≡ bh * bw) (b : length ms ≡ bh * bw) where
-  pub sound-kinds : isSound ks ms ≡ true → Known ks
-  unfolding isSound
-  sound-kinds e = below-each 29 ks (and-true (bytesBelow 29 ks) _ e .0)
-
   pub sound-cells : isSound ks ms ≡ true → (x y : ℕ) → x < bw → y < bh → Sound (blockAt ks bw x y) (blockAt ms bw x y)
   unfolding isSound
   sound-cells e x y i j =

@@ -17,37 +17,37 @@ use Rattle.layout.specs.laws.CutLaws.{starts-x, starts-y}
 use Rattle.refusal.specs.Answer.{gives, refuses}
 use Rattle.lent_sides.specs.Limits.{inLimits, lengthsFit}
 use Rattle.lent_sides.specs.laws.Limits.{in-limits, lengths-fit}
-use Rattle.lent_check.specs.Group.{groupOf}
-use Rattle.lent_cut.specs.Calls.{outcome, cutCheck, cutOf}
+use Rattle.lent_cut.specs.Calls.{Outcome, outcome, cutCheck, cutOf}
 use Rattle.refusal.specs.laws.Answer.{pass}
 use Rattle.lent_check.specs.declared.Group.{Group}
+use Rattle.lent_check.specs.Group.{groupOf}
 
 module _ (bw bh : ℕ) (kinds hfMul : List ℕ) (g ok om : ℕ) where
-  pub cut-size : inLimits 256 bw bh ≡ false → cutCheck bw bh kinds hfMul g ok om ≡ refuses (saidAt 2 0 0)
+  pub cut-size : inLimits 256 bw bh ≡ false → refuses (saidAt 2 0 0) ≡ cutCheck bw bh kinds hfMul g ok om
   unfolding cutCheck
   cut-size e = rw e
 
   module _ (e : inLimits 256 bw bh ≡ true) where
-    pub cut-index : hasGroup bw bh g ≡ false → cutCheck bw bh kinds hfMul g ok om ≡ refuses (saidAt 2 0 0)
+    pub cut-index : hasGroup bw bh g ≡ false → refuses (saidAt 2 0 0) ≡ cutCheck bw bh kinds hfMul g ok om
     unfolding cutCheck
     cut-index f = rw (e, f)
 
     module _ (f : hasGroup bw bh g ≡ true) where
-      pub cut-lent : lengthsFit bw bh (length kinds) (length hfMul) ≡ false → cutCheck bw bh kinds hfMul g ok om ≡ refuses (saidAt 1 0 0)
+      pub cut-lent : lengthsFit bw bh (length kinds) (length hfMul) ≡ false → refuses (saidAt 1 0 0) ≡ cutCheck bw bh kinds hfMul g ok om
       unfolding cutCheck
       cut-lent h = rw (e, f, h)
 
       module _ (h : lengthsFit bw bh (length kinds) (length hfMul) ≡ true) where
-        pub cut-buffers : lengthsFit (groupBw bw g) (groupBh bw bh g) ok om ≡ false → cutCheck bw bh kinds hfMul g ok om ≡ refuses (saidAt 1 0 0)
+        pub cut-buffers : lengthsFit (groupBw bw g) (groupBh bw bh g) ok om ≡ false → refuses (saidAt 1 0 0) ≡ cutCheck bw bh kinds hfMul g ok om
         unfolding cutCheck
         cut-buffers i = rw (e, f, h, i)
 
         module _ (i : lengthsFit (groupBw bw g) (groupBh bw bh g) ok om ≡ true) where
-          pub cut-fault : isLayout bw bh kinds hfMul ≡ false → cutCheck bw bh kinds hfMul g ok om ≡ refuses (saidAt 18 0 0)
+          pub cut-fault : isLayout bw bh kinds hfMul ≡ false → refuses (saidAt 18 0 0) ≡ cutCheck bw bh kinds hfMul g ok om
           unfolding cutCheck
           cut-fault j = rw (e, f, h, i, j)
 
-          pub cut-fine : isLayout bw bh kinds hfMul ≡ true → cutCheck bw bh kinds hfMul g ok om ≡ gives tt
+          pub cut-fine : isLayout bw bh kinds hfMul ≡ true → gives tt ≡ cutCheck bw bh kinds hfMul g ok om
           unfolding cutCheck
           cut-fine j = rw (e, f, h, i, j)
 
@@ -69,13 +69,16 @@ module _ (bw bh : ℕ) (kinds hfMul : List ℕ) (g ok om : ℕ) where
       let f = pass 18 (isLayout bw bh kinds hfMul) (gives tt) tt (d .1) in
       record { sides = a .0; index = b .0; lent = c .0; buffers = d .0; layout = f .0 }
 
+-- the outcome of a cut that is not refused
+abbrev pub cutDone : ℕ → ℕ → List ℕ → List ℕ → ℕ → Outcome
+cutDone bw bh kinds hfMul g = outcome (gives (groupOf (groupBw bw g) (groupBh bw bh g))) (cut bw bh g kinds) (cut bw bh g hfMul)
+
 module _ (bw bh : ℕ) (kinds hfMul : List ℕ) (g : ℕ) (outKinds outHfMul : List ℕ) where
   pub cut-refused : (s : Said) → cutCheck bw bh kinds hfMul g (length outKinds) (length outHfMul) ≡ refuses s → cutOf bw bh kinds hfMul g outKinds outHfMul ≡ outcome (refuses s) outKinds outHfMul
   unfolding cutOf
   cut-refused s e = rw e
 
-  pub cut-done : cutCheck bw bh kinds hfMul g (length outKinds) (length outHfMul) ≡ gives tt
-      → cutOf bw bh kinds hfMul g outKinds outHfMul ≡ outcome (gives (groupOf (groupBw bw g) (groupBh bw bh g))) (cut bw bh g kinds) (cut bw bh g hfMul)
+  pub cut-done : cutCheck bw bh kinds hfMul g (length outKinds) (length outHfMul) ≡ gives tt → cutOf bw bh kinds hfMul g outKinds outHfMul ≡ cutDone bw bh kinds hfMul g
   unfolding cutOf
   cut-done e = rw e
 
@@ -102,10 +105,10 @@ module _ (bw bh : ℕ) (kinds hfMul : List ℕ) (g : ℕ) (outKinds outHfMul : L
           let m = mul-le-mul-right bw h in
           record { fitsX = omega arith; fitsY = omega arith; fits = omega arith; same = omega arith; outKindsFit = b .0; outHfMulFit = b .1 }
 
-  pub copied : (l : List ℕ) (gx gy : ℕ) (r : Group) → gx ≡ groupX bw g → gy ≡ groupY bw g → r ≡ groupOf (groupBw bw g) (groupBh bw bh g)
-      → gridOf (λ x y. cellAt l bw (32 * gx + x) (32 * gy + y)) (r .bw) (r .bh) ≡ cut bw bh g l
-  unfolding cut
-  copied l gx gy r ex ey er = rw (ex, ey, er)
+pub copied : (bw bh g : ℕ) (l : List ℕ) (gx gy : ℕ) (r : Group) → gx ≡ groupX bw g → gy ≡ groupY bw g → r ≡ groupOf (groupBw bw g) (groupBh bw bh g)
+    → gridOf (λ x y. cellAt l bw (32 * gx + x) (32 * gy + y)) (r .bw) (r .bh) ≡ cut bw bh g l
+unfolding cut
+copied bw bh g l gx gy r ex ey er = rw (ex, ey, er)
 
 -- copying cell by cell gives the grid
 pub copy-start : (f : ℕ → ℕ → ℕ) (w h : ℕ) (l : List ℕ) → length l ≡ h * w → gridOf f w h ≡ rowsLeft (write f w h) w h 0 l

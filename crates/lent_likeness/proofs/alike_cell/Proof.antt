@@ -33,12 +33,6 @@ sized2 c =
     let p = c .before .before .before .before .before .pre in
     c .size-of2 .ensures ∙ size-corner (a .wides .now) (a .highs .now) (a .kind2) (p .0) (p .1) (omega arith)
 
-size-of-requires : tie.Need-size-of-requires
-size-of-requires c κs = search needs
-
-size-of-requires-2 : tie.Need-size-of-requires-2
-size-of-requires-2 c κs = search needs
-
 returns-4 : tie.Need-returns-4
 returns-4 c =
     let a = c .before .before .before .before .before .before .before .before .args in
@@ -57,5 +51,4 @@ returns-5 c =
 
 pub alike-cell-spec : {M : Type 1} → statement M
 alike-cell-spec =
-    tie.close
-    (tie.spec returns returns-2 returns-3 size-of-requires size-of-requires-2 returns-4 returns-5)
+    tie.close (tie.spec returns returns-2 returns-3 (λ c κs. search needs) (λ c κs. search needs) returns-4 returns-5)

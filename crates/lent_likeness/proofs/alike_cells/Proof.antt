@@ -20,24 +20,6 @@ abbrev μ-loop : tie.MeasureT-loop
 loop-holds : tie.Need-loop-holds Inv-loop μ-loop
 loop-holds c = let a = c .before .before .before .before .args in (omega arith, like-start (a .kinds .now) (a .hf-mul .now) (a .kinds2 .now) (a .hf-mul2 .now))
 
-shared-slice-read-alike-cell : tie.Need-shared-slice-read-alike-cell Inv-loop μ-loop
-shared-slice-read-alike-cell c = search needs
-
-mul-alike-cell : tie.Need-mul-alike-cell Inv-loop μ-loop
-mul-alike-cell c = search needs
-
-shared-slice-read-alike-cell-2 : tie.Need-shared-slice-read-alike-cell-2 Inv-loop μ-loop
-shared-slice-read-alike-cell-2 c = search needs
-
-shared-slice-read-alike-cell-3 : tie.Need-shared-slice-read-alike-cell-3 Inv-loop μ-loop
-shared-slice-read-alike-cell-3 c = search needs
-
-mul-alike-cell-2 : tie.Need-mul-alike-cell-2 Inv-loop μ-loop
-mul-alike-cell-2 c = search needs
-
-shared-slice-read-alike-cell-4 : tie.Need-shared-slice-read-alike-cell-4 Inv-loop μ-loop
-shared-slice-read-alike-cell-4 c = search needs
-
 alike-cell-requires : tie.Need-alike-cell-requires Inv-loop μ-loop
 unfolding widths heights TRANSFORMS
 alike-cell-requires c κs = (refl, refl)
@@ -46,12 +28,6 @@ returns : tie.Need-returns Inv-loop μ-loop
 returns c =
     let a = c .before .before .before .before .before .before .before .before .before .before .before .before .before .before .args in
     sym (c .before .before .before .before .before .before .before .before .before .loop .inv .1 ∙ like-stop (a .kinds .now) (a .hf-mul .now) (a .kinds2 .now) (a .hf-mul2 .now) (c .before .before .before .before .before .before .before .before .before .loop .i) (omega arith) (sym (c .before .alike-cell .ensures) ∙ not-true (c .before .alike-cell .result) (c .if1 .taken)))
-
-add-i : tie.Need-add-i Inv-loop μ-loop
-add-i c = search needs
-
-loop-less : tie.Need-loop-less Inv-loop μ-loop
-loop-less c = search needs
 
 loop-again : tie.Need-loop-again Inv-loop μ-loop
 loop-again c =
@@ -65,20 +41,6 @@ returns-2 c =
 
 pub alike-cells-spec : {M : Type 1} → statement M
 alike-cells-spec =
-    tie.close
-    (tie.spec
-    Inv-loop
-    μ-loop
-    loop-holds
-    shared-slice-read-alike-cell
-    mul-alike-cell
-    shared-slice-read-alike-cell-2
-    shared-slice-read-alike-cell-3
-    mul-alike-cell-2
-    shared-slice-read-alike-cell-4
-    alike-cell-requires
-    returns
-    add-i
-    loop-less
-    loop-again
-    returns-2)
+    tie.close (tie.spec Inv-loop μ-loop loop-holds (λ c. search needs) (λ c. search needs) (λ c. search needs)
+    (λ c. search needs) (λ c. search needs) (λ c. search needs) alike-cell-requires returns (λ c. search needs)
+    (λ c. search needs) loop-again returns-2)

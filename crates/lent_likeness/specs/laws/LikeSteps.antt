@@ -8,12 +8,15 @@ use native.Mathlib.Omega.{arith}
 use lib.Dec.{ltb, leb, eqb}
 use lib.ListN.{length, getD}
 use borrow.Author.Tests.{lt-ltb, le-ltb, le-leb, lt-leb, eq-eqb, ne-eqb}
-use Rattle.laws.specs.laws.Cases.{le-or-lt}
+use Rattle.laws.specs.laws.Cases.{le-or-lt, and-true}
 use Rattle.refusal.specs.Said.{saidAt}
 use Rattle.layout.specs.Kinds.{wideOf, highOf}
 use Rattle.layout.specs.laws.WalkSteps.{left-suc}
 use Rattle.layout.specs.Like.{LentLayout, bySort, alikeCorners, alikeCell, alikeFrom, alike}
 use Rattle.refusal.specs.Answer.{gives, refuses}
+use Rattle.lent_sides.specs.laws.Limits.{lengths-fit}
+use Rattle.lent_check.specs.laws.Laws.{isLentLayout}
+use Rattle.lent_check.specs.laws.Laws.{lent-cells}
 use Rattle.lent_likeness.specs.Calls.{sided, filled, holdsLayout, likeOf}
 
 module _ (k m k′ m′ : ℕ) where
@@ -64,48 +67,63 @@ module _ (kinds hfMul kinds′ hfMul′ : List ℕ) where
   unfolding alikeFrom
   like-end i h = ap (λ (n : ℕ). alikeFrom kinds hfMul kinds′ hfMul′ n i) (let e : length kinds - i ≡ 0 = omega arith in e)
 
+-- two tests, the second where the first holds
+module _ (r a b : Bool) (e : r ≡ a) where
+  pub both-second : (s : Bool) → s ≡ b → r ≡ true → s ≡ a && b
+  both-second s f t = rw (f, ← e, t)
+
+  pub both-first : r ≡ false → false ≡ a && b
+  both-first t = rw (← e, t)
+
+-- a layout that is lent in full, as the code tests it
+abbrev pub isLent : LentLayout → Bool
+isLent L = isLentLayout (L .bw) (L .bh) (L .kinds) (L .hfMul)
+
+is-lent : (L : LentLayout) → sided L ≡ true → filled L ≡ true → isLent L ≡ holdsLayout L
+is-lent L = lent-cells (L .bw) (L .bh) (L .kinds) (L .hfMul)
+
 module _ (L N : LentLayout) where
-  pub like-size : sided L ≡ false → likeOf L N ≡ refuses (saidAt 2 0 0)
+  pub like-size : (sided L && sided N) ≡ false → refuses (saidAt 2 0 0) ≡ likeOf L N
   unfolding likeOf
   like-size a = rw a
 
-  module _ (a : sided L ≡ true) where
-    pub like-size-2 : sided N ≡ false → likeOf L N ≡ refuses (saidAt 2 0 0)
+  module _ (a : (sided L && sided N) ≡ true) where
+    pub like-length : (filled L && filled N) ≡ false → refuses (saidAt 1 0 0) ≡ likeOf L N
     unfolding likeOf
-    like-size-2 b = rw (a, b)
+    like-length b = rw (a, b)
 
-    module _ (b : sided N ≡ true) where
-      pub like-length : filled L ≡ false → likeOf L N ≡ refuses (saidAt 1 0 0)
+    module _ (b : (filled L && filled N) ≡ true) where
+      pub like-fault : (holdsLayout L && holdsLayout N) ≡ false → refuses (saidAt 18 0 0) ≡ likeOf L N
       unfolding likeOf
-      like-length c = rw (a, b, c)
+      like-fault c = rw (a, b, c)
 
-      module _ (c : filled L ≡ true) where
-        pub like-length-2 : filled N ≡ false → likeOf L N ≡ refuses (saidAt 1 0 0)
-        unfolding likeOf
-        like-length-2 d = rw (a, b, c, d)
+      pub like-says : (holdsLayout L && holdsLayout N) ≡ true → (r : Bool) → alike L N ≡ r → gives r ≡ likeOf L N
+      unfolding likeOf
+      like-says c r e = rw (a, b, c, e)
 
-        module _ (d : filled N ≡ true) where
-          pub like-fault : holdsLayout L ≡ false → likeOf L N ≡ refuses (saidAt 18 0 0)
-          unfolding likeOf
-          like-fault e = rw (a, b, c, d, e)
+      pub both-lent : (isLent L && isLent N) ≡ (holdsLayout L && holdsLayout N)
+      both-lent =
+          let p = and-true (sided L) (sided N) a in
+          let q = and-true (filled L) (filled N) b in
+          rw (is-lent L (p .0) (q .0), is-lent N (p .1) (q .1))
 
-          module _ (e : holdsLayout L ≡ true) where
-            pub like-fault-2 : holdsLayout N ≡ false → likeOf L N ≡ refuses (saidAt 18 0 0)
-            unfolding likeOf
-            like-fault-2 f = rw (a, b, c, d, e, f)
-
-            pub like-says : holdsLayout N ≡ true → (r : Bool) → alike L N ≡ r → likeOf L N ≡ gives r
-            unfolding likeOf
-            like-says f r g = rw (a, b, c, d, e, f, g)
-
-  pub unlike-wide : (L .bw ≡ N .bw → ⊥) → alike L N ≡ false
+  pub unlike-wide : (L .bw ≡ N .bw → ⊥) → false ≡ alike L N
   unfolding alike
   unlike-wide n = rw (ne-eqb (L .bw) (N .bw) n)
 
-  pub unlike-high : L .bw ≡ N .bw → (L .bh ≡ N .bh → ⊥) → alike L N ≡ false
+  pub unlike-high : L .bw ≡ N .bw → (L .bh ≡ N .bh → ⊥) → false ≡ alike L N
   unfolding alike
   unlike-high e n = rw (eq-eqb (L .bw) (N .bw) e, ne-eqb (L .bh) (N .bh) n)
 
-  pub alike-cells : L .bw ≡ N .bw → L .bh ≡ N .bh → alike L N ≡ alikeFrom (L .kinds) (L .hfMul) (N .kinds) (N .hfMul) (L .bh * L .bw) 0
+  pub alike-cells : L .bw ≡ N .bw → L .bh ≡ N .bh → filled L ≡ true → alikeFrom (L .kinds) (L .hfMul) (N .kinds) (N .hfMul) (length (L .kinds)) 0 ≡ alike L N
   unfolding alike
-  alike-cells e f = rw (eq-eqb (L .bw) (N .bw) e, eq-eqb (L .bh) (N .bh) f)
+  alike-cells e f l = rw (eq-eqb (L .bw) (N .bw) e, eq-eqb (L .bh) (N .bh) f, lengths-fit (L .bw) (L .bh) (length (L .kinds)) (length (L .hfMul)) l .0)
+
+  -- as many cells in each list
+  pub same-lengths : filled L ≡ true → filled N ≡ true → L .bw ≡ N .bw → L .bh ≡ N .bh
+      → (length (L .hfMul) ≡ length (L .kinds)) × (length (N .kinds) ≡ length (L .kinds)) × (length (N .hfMul) ≡ length (L .kinds))
+  same-lengths l n e f =
+      let p = lengths-fit (L .bw) (L .bh) (length (L .kinds)) (length (L .hfMul)) l in
+      let q = lengths-fit (N .bw) (N .bh) (length (N .kinds)) (length (N .hfMul)) n in
+      let m : N .bh * N .bw ≡ L .bh * L .bw = rw (e, f) in
+      (omega arith, omega arith, omega arith)

@@ -13,7 +13,6 @@ use Rattle.refusal.specs.Answer.{gives}
 use Rattle.lent_likeness.specs.Calls.{sided, filled, holdsLayout, likeOf}
 use Rattle.refusal.specs.laws.Answer.{pass}
 use Rattle.lent_sides.specs.laws.Limits.{in-limits, lengths-fit, fit-lengths, limits-in}
-use Rattle.lent_likeness.specs.laws.LikeSteps.{like-says}
 use Rattle.lent_likeness.specs.Theorems.{Sound}
 
 sound : (L : LentLayout) → sided L ≡ true → filled L ≡ true → holdsLayout L ≡ true → Sound L
@@ -34,12 +33,17 @@ module _ (L N : LentLayout) where
       (sound L (p .0) (q .0) (s .0), sound N (p .1) (q .1) (s .1), (let d = c .1 in cc))
 
   says : (r : Bool) → Sound L → Sound N → alike L N ≡ r → likeOf L N ≡ gives r
+  unfolding likeOf
   says r s t e =
-      like-says L N (limits-in 256 (L .bw) (L .bh) (s .sides)) (limits-in 256 (N .bw) (N .bh) (t .sides))
-      (fit-lengths (L .bw) (L .bh) (length (L .kinds)) (length (L .hfMul)) (s .layout .kindsLength) (s .layout .hfMulLength))
-      (fit-lengths (N .bw) (N .bh) (length (N .kinds)) (length (N .hfMul)) (t .layout .kindsLength) (t .layout .hfMulLength))
-      (layout-iff (L .bw) (L .bh) (L .kinds) (L .hfMul) (s .layout .kindsLength) (s .layout .hfMulLength) .1 (s .layout))
-      (layout-iff (N .bw) (N .bh) (N .kinds) (N .hfMul) (t .layout .kindsLength) (t .layout .hfMulLength) .1 (t .layout)) r e
+      rw (
+        limits-in 256 (L .bw) (L .bh) (s .sides),
+        limits-in 256 (N .bw) (N .bh) (t .sides),
+        fit-lengths (L .bw) (L .bh) (length (L .kinds)) (length (L .hfMul)) (s .layout .kindsLength) (s .layout .hfMulLength),
+        fit-lengths (N .bw) (N .bh) (length (N .kinds)) (length (N .hfMul)) (t .layout .kindsLength) (t .layout .hfMulLength),
+        layout-iff (L .bw) (L .bh) (L .kinds) (L .hfMul) (s .layout .kindsLength) (s .layout .hfMulLength) .1 (s .layout),
+        layout-iff (N .bw) (N .bh) (N .kinds) (N .hfMul) (t .layout .kindsLength) (t .layout .hfMulLength) .1 (t .layout),
+        e,
+      )
 
   same-alike : Sound L → Sound N → SameRectangles L N → alike L N ≡ true
   same-alike s t r =

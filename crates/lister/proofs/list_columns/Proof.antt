@@ -10,12 +10,5 @@ list-buffers-requires c κs =
 
 pub list-columns-spec : {M : Type 1} → statement M
 list-columns-spec =
-    tie.close
-    (tie.spec
-    (λ c. search needs)
-    (λ c. search needs)
-    (λ c. search needs)
-    (λ c. search needs)
-    list-buffers-requires
-    (λ c. search needs)
-    (λ c. search needs))
+    tie.close (tie.spec (λ c. search needs) (λ c. search needs) (λ c. search needs) (λ c. search needs)
+    list-buffers-requires (λ c. search needs) (λ c. search needs))

@@ -92,20 +92,6 @@ returns-3 c =
 
 pub list-job-spec : {M : Type 1} → statement M
 list-job-spec =
-    tie.close
-    (tie.spec
-    (λ c κs. search needs)
-    mul-end
-    add-end
-    (λ c κs. search needs)
-    (λ c. search needs)
-    returns
-    (λ c. search needs)
-    (λ c κs. search needs)
-    (λ c. search needs)
-    returns-2
-    slice-aggregate-list-columns
-    slice-aggregate-list-columns-2
-    (λ c κs. search needs)
-    (λ c. search needs)
-    returns-3)
+    tie.close (tie.spec (λ c κs. search needs) mul-end add-end (λ c κs. search needs) (λ c. search needs) returns
+    (λ c. search needs) (λ c κs. search needs) (λ c. search needs) returns-2 slice-aggregate-list-columns
+    slice-aggregate-list-columns-2 (λ c κs. search needs) (λ c. search needs) returns-3)

@@ -15,9 +15,6 @@ use Prim.Native.Nat.{ℕ}
 use Rattle.lister.proofs.list_layout.Statement.{statement}
 use Rattle.lister.proofs.list_layout.Tie as tie
 
-enum-told : tie.Need-enum-told
-enum-told c = search needs
-
 put-accepted-requires : tie.Need-put-accepted-requires
 put-accepted-requires c κs =
     let a = c .before .before .before .before .before .before .before .before .before .before .before .before .before .before .before .before .before .before .before .before .before .before .args in
@@ -50,21 +47,7 @@ returns-2 c =
 
 pub list-layout-spec : {M : Type 1} → statement M
 list-layout-spec =
-    tie.close
-    (tie.spec
-    (λ c κs. search needs)
-    enum-told
-    put-accepted-requires
-    (λ c. search needs)
-    (λ c κs. search needs)
-    (λ c κs. search needs)
-    (λ c. search needs)
-    (λ c. search needs)
-    (λ c. search needs)
-    (λ c. search needs)
-    returns
-    (λ c. search needs)
-    (λ c. search needs)
-    (λ c. search needs)
-    (λ c. search needs)
+    tie.close (tie.spec (λ c κs. search needs) (λ c. search needs) put-accepted-requires (λ c. search needs)
+    (λ c κs. search needs) (λ c κs. search needs) (λ c. search needs) (λ c. search needs) (λ c. search needs)
+    (λ c. search needs) returns (λ c. search needs) (λ c. search needs) (λ c. search needs) (λ c. search needs)
     returns-2)

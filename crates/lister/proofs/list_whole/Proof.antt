@@ -11,4 +11,5 @@ returns c =
     text-whole (a .job .now) (a .out .now) (b .last .1 .0) (b .result) (omega arith) (b .ensures)
 
 pub list-whole-spec : {M : Type 1} → statement M
-list-whole-spec = tie.close (tie.spec (λ c κs. search needs) returns)
+list-whole-spec =
+    tie.close (tie.spec (λ c κs. search needs) returns)

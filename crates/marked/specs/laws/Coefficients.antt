@@ -14,7 +14,7 @@ use Rattle.bits.specs.Bits.{Value, readBits, bitsOf, valueOf}
 use Rattle.coded_numbers.specs.Exponent.{exponent, exponentFrom}
 use Rattle.dct_select.specs.Transforms.{TRANSFORMS, wide, high}
 use Rattle.layout.specs.Walk.{cells, rows}
-use Rattle.layout.specs.Grid.{fillFrom}
+use Rattle.laws.specs.Lists.{fillFrom}
 use Rattle.layout.specs.Check.{clear, fitting, visitCell, checkRun}
 use Rattle.layout.specs.Varblocks.{cornersRow, cornersFrom}
 use Rattle.lent_sides.specs.Limits.{inLimits}
@@ -27,7 +27,7 @@ use Rattle.coeff_group.specs.Group.{Reading, going, readItem, readItems, zeroRo
 use Rattle.coeff_group.specs.laws.GroupLaws.{group-items}
 use Rattle.coeff_group.specs.Pass.{Pass, varblocks, itemOf, itemsOf}
 use Rattle.coeff_checks.specs.Checks.{layoutFits, sidesFit}
-use Rattle.coeff_call.specs.Call.{Outcome, leaves, lengthsFit, presetMap, reading, outcome, refuse, readPreset, call, Passed}
+use Rattle.coeff_call.specs.Call.{Outcome, leaves, lengthsFit, presetMap, reading, outcome, refuse, presetBits, call, Passed}
 use Rattle.coeff_call.specs.laws.CallLaws.{checks-pass, call-preset, call-reads}
 use Rattle.coeff_call.specs.declared.CoeffAnswer.the-variants.{Accepted}
 use Rattle.one_to_one.specs.Plain.{store, plain}
@@ -188,7 +188,7 @@ module _ (map symbols log g0 g1 g2 : List ℕ) (room : Room 3 1 map log g0 g1 g2
   passed bytes = dct8-passed 3 (omega arith) map bytes symbols log g0 g1 g2 (room .entries) (room .bytes) (room .cells0) (room .cells1) (room .cells2)
 
   -- the two lowest bits of the first byte are the preset number
-  pub reads-two-bits : (b : ℕ) (rest : List ℕ) → readPreset (dct8 3 map (b ∷ rest) symbols log g0 g1 g2) ≡ Value (b % 4) 2
+  pub reads-two-bits : (b : ℕ) (rest : List ℕ) → presetBits (dct8 3 map (b ∷ rest) symbols log g0 g1 g2) ≡ Value (b % 4) 2
   reads-two-bits b rest = two-bits b rest
 
   -- 3 is refused

@@ -15,13 +15,14 @@ use Rattle.order_natural.specs.Places.{paired}
 use Rattle.order_natural.specs.Natural.{natural}
 use Rattle.layout.specs.Walk.{cells, rows}
 use Rattle.layout.specs.Varblocks.{cornersRow, cornersFrom}
-use Rattle.layout.specs.Grid.{rowOf, gridFrom, fillFrom}
+use Rattle.laws.specs.Lists.{fillFrom}
+use Rattle.layout.specs.Grid.{rowOf, gridFrom}
 use Rattle.layout.specs.Cut.{cut, groupX, groupY}
 use Rattle.layout.specs.Check.{clear, fitting, visitCell, checkRun}
 use Rattle.layout_sizes.specs.Blocks.{bwIn, bhIn}
 use Rattle.lent_sides.specs.Limits.{inLimits, lengthsFit}
 use Rattle.lent_cut.specs.Calls.{cutCheck}
-use Rattle.context_index.specs.Contexts.{sizeOf, above, lfIndexIn, placeOf}
+use Rattle.context_index.specs.Contexts.{sizeOf, above, lfIndexIn, entryOf}
 use Rattle.context_call.specs.Call.{contextsOf}
 use Rattle.coeff_walk.specs.Walk.{walk, coeffContext, FREQ, NUM-NONZERO}
 use Rattle.coeff_walk.specs.Places.{cellsOf}
@@ -45,7 +46,7 @@ unfolding itemsOf itemOf cellsOf paired natural cornersRow cornersFrom orderOf t
 items-compute = true
 
 unfoldable pub reading-computes : Bool
-unfolding items-compute readItems readItem counted walk coeffContext FREQ NUM-NONZERO unpackSigned contextsOf sizeOf above lfIndexIn placeOf
+unfolding items-compute readItems readItem counted fillFrom walk coeffContext FREQ NUM-NONZERO unpackSigned contextsOf sizeOf above lfIndexIn entryOf
 reading-computes = true
 
 unfoldable pub sequence-computes : Bool

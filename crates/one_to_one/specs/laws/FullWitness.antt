@@ -24,7 +24,7 @@ use Rattle.order_call.specs.Call.{Wrote}
 use Rattle.context_record.specs.Record.{bsizeOf}
 use Rattle.context_thresholds.specs.Thresholds.{lfValue, qfValue, readValues, readList, readLists}
 use Rattle.context_call.specs.Call as context
-use Rattle.coeff_call.specs.Call.{lengthsFit, readPreset}
+use Rattle.coeff_call.specs.Call.{lengthsFit, presetBits}
 use Rattle.refusal.specs.Answer.{gives}
 use Rattle.lent_check.specs.Group.{groupOf}
 use Rattle.lent_cut.specs.Calls.{outcome, cutOf}
@@ -85,7 +85,7 @@ lengths-fit : lengthsFit full ≡ true
 unfolding context.contextsOf
 lengths-fit = rw (eq-eqb (length store) (2 * PLACES) store-long)
 
-two-bits : readPreset full ≡ Value 2 2
+two-bits : presetBits full ≡ Value 2 2
 unfolding bits-compute
 two-bits = refl
 

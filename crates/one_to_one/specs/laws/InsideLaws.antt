@@ -13,7 +13,8 @@ use Rattle.refusal.specs.declared.Refusal.the-variants.{Count}
 use Rattle.coeff_walk.specs.Walk.{FREQ, NUM-NONZERO, Walked, stopped, walk, coeffContext, flag, less, gain}
 use Rattle.coeff_walk.specs.laws.Kept.{length-gain}
 use Rattle.coeff_walk.specs.laws.Counts.{count-over}
-use Rattle.coeff_walk.specs.Item.{Item, predicted, countIndex, countOver, rowOf, newRow, countCluster, coeffMapOf, counted, countEntry}
+use Rattle.laws.specs.Lists.{fillFrom}
+use Rattle.coeff_walk.specs.Item.{Item, predicted, countIndex, countOver, newRow, countCluster, coeffMapOf, counted, countEntry}
 use Rattle.coeff_group.specs.Group.{Grids, Reading, going, refused, after, readItem}
 use Rattle.coeff_walk.specs.laws.Walks.{End, ends, stops, walkedBy, gains, length-gains, run}
 use Rattle.coeff_group.specs.laws.Cells.{set-below, put-all, In}
@@ -71,11 +72,13 @@ index-most p h = go (leb 8 p) refl
     go true e = omega arith
     go false e = omega (arith, leb-false 8 p e)
 
-row-small : (row : List ℕ) (x n v : ℕ) → v ≤ 63 → Small row → Small (rowOf row x n v)
+row-small : (row : List ℕ) (x n v : ℕ) → v ≤ 63 → Small row → Small (fillFrom row x n v)
+unfolding fillFrom
 row-small row x zero v h s = s
 row-small row x (suc n) v h s = row-small (set row x v) (x + 1) n v h (λ i. set-below row x v i 64 (omega arith) (s i))
 
-row-long : (row : List ℕ) (x n v : ℕ) → length (rowOf row x n v) ≡ length row
+row-long : (row : List ℕ) (x n v : ℕ) → length (fillFrom row x n v) ≡ length row
+unfolding fillFrom
 row-long row x zero v = refl
 row-long row x (suc n) v = row-long (set row x v) (x + 1) n v ∙ length-set row x v
 
@@ -92,17 +95,17 @@ pub record Sound (width cells clusters : ℕ) (it : Item) : Type 0 where
   pub places : (p : ℕ) → In p (it .cells) → p < cells
 
 -- a reading with three grids of so many cells, three rows so wide, and room in the log for so many more symbols
-pub record Sane (width many due at : ℕ) (log : List ℕ) (grids rows : Grids) : Type 0 where
+pub record Sane (width gridCells due at : ℕ) (log : List ℕ) (grids rows : Grids) : Type 0 where
   pub three : 3 ≤ length grids
-  pub cells : (c : ℕ) → c < 3 → length (getD grids c []) ≡ many
+  pub cells : (c : ℕ) → c < 3 → length (getD grids c []) ≡ gridCells
   pub rows3 : length rows ≡ 3
   pub wide : (c : ℕ) → c < 3 → length (getD rows c []) ≡ width
   pub small : (c : ℕ) → c < 3 → Small (getD rows c [])
   pub room : at + due ≤ length log
 
 abbrev pub Fine : ℕ → ℕ → ℕ → Reading → Type 0
-Fine width many due (refused why at log grids) = Unit
-Fine width many due (going us at log grids rows left) = Sane width many due at log grids rows
+Fine width gridCells due (refused why at log grids) = Unit
+Fine width gridCells due (going us at log grids rows left) = Sane width gridCells due at log grids rows
 
 module _ (shift clusters : ℕ) (presetMap : List ℕ) (whole : length presetMap ≡ 495 * clusters) (width cells : ℕ) where
   module _ (it : Item) (s : Sound width cells clusters it) where
@@ -196,7 +199,7 @@ module _ (shift clusters : ℕ) (presetMap : List ℕ) (whole : length presetMap
             let r = run (it .blocks) (coeffMapOf clusters presetMap it) (it .cells) 0 flag₀ n us in
             let k = r .few in
             rw (r .is shift (at + 1) log₁ g)
-            (after-fine rest at grids rows left (rowOf row (it .x) (it .wide) v) log (r .end) (at + 1 + length (r .clusters)) (sets log₁ (at + 1) (r .clusters)) (gains shift g (it .cells) (r .ds)) f (omega arith)
+            (after-fine rest at grids rows left (fillFrom row (it .x) (it .wide) v) log (r .end) (at + 1 + length (r .clusters)) (sets log₁ (at + 1) (r .clusters)) (gains shift g (it .cells) (r .ds)) f (omega arith)
             (length-sets log₁ (at + 1) (r .clusters) ∙ length-set log at (countCluster clusters presetMap it row)) (length-gains shift g (it .cells) (r .ds) ∙ f .cells c (s .channel))
             (row-long row (it .x) (it .wide) v ∙ f .wide c (s .channel))
             (row-small row (it .x) (it .wide) v (count-over n (it .blocks) (s .blocks) (leb-true n (63 * it .blocks) e)) (f .small c (s .channel))))

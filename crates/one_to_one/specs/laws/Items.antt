@@ -29,7 +29,7 @@ use Rattle.coeff_walk.specs.Item.{Item}
 use Rattle.coeff_group.specs.Group.{Grids}
 use Rattle.coeff_group.specs.Pass.{Pass, varblocks, blocksOf, cellsIn, itemOf, itemsOf}
 use Rattle.dct_select.specs.laws.Sides.{order-lt}
-use Rattle.one_to_one.specs.Filling.{many, Place as PlaceOf, LaidOut, Sized, Low, LowKept}
+use Rattle.one_to_one.specs.Filling.{gridCells, ReadAt, LaidOut, Sized, Low, LowKept}
 use Rattle.coeff_group.specs.laws.Cells.{Distinct, distinct-both, distinct-map, Fit, In}
 use Rattle.one_to_one.specs.laws.Spread.{Spread, spread-of, place-in, in-place, cell-row, cell-column, distinct-places}
 use Rattle.coeff_group.specs.Sequence.{cell, GridCell, readCells}
@@ -118,7 +118,7 @@ module _ (P : Pass) (lay : LaidOut P) (ord : Ordered P) where
     cells-distinct : Distinct (map {B = GridCell} (λ (p : ℕ). (c, p)) (cellsIn P v c))
     cells-distinct = distinct-map (λ (p : ℕ). (c, p)) (cellsIn P v c) (λ p q j k e. ap (λ (x : GridCell). x .1) e) (distinct-places turn (8 * P .bw) (8 * v .x) (8 * v .y) rest in-row (spread .distinct))
 
-    places-inside : (p : ℕ) → In p (cellsIn P v c) → p < many P
+    places-inside : (p : ℕ) → In p (cellsIn P v c) → p < gridCells P
     places-inside p j =
         let r = in-place turn (8 * P .bw) (8 * v .x) (8 * v .y) rest p j in
         let d = spread .inside (r .0) (r .1) .1 in
@@ -144,7 +144,7 @@ module _ (P : Pass) (lay : LaidOut P) (ord : Ordered P) where
         covers lay v i (p % (8 * P .bw) / 8) (p / (8 * P .bw) / 8) (omega arith) (omega arith) (omega arith) (omega arith)
 
   -- the block of a cell
-  in-block : (p : ℕ) → p < many P → (p % (8 * P .bw) / 8 < P .bw) × (p / (8 * P .bw) / 8 < P .bh)
+  in-block : (p : ℕ) → p < gridCells P → (p % (8 * P .bw) / 8 < P .bw) × (p / (8 * P .bw) / 8 < P .bh)
   in-block p h = go (ℕ-discrete (P .bw) 0)
     where
       go : Dec (P .bw ≡ 0) → (p % (8 * P .bw) / 8 < P .bw) × (p / (8 * P .bw) / 8 < P .bh)
@@ -156,7 +156,7 @@ module _ (P : Pass) (lay : LaidOut P) (ord : Ordered P) where
           (omega arith, omega arith)
 
   -- rectangles with the block of one cell are one
-  one-corner : (u v : Varblock) (p : ℕ) → p < many P → Covers K (u .x) (u .y) (p % (8 * P .bw) / 8) (p / (8 * P .bw) / 8)
+  one-corner : (u v : Varblock) (p : ℕ) → p < gridCells P → Covers K (u .x) (u .y) (p % (8 * P .bw) / 8) (p / (8 * P .bw) / 8)
       → Covers K (v .x) (v .y) (p % (8 * P .bw) / 8) (p / (8 * P .bw) / 8) → (u .x ≡ v .x) × (u .y ≡ v .y)
   one-corner u v p h a b =
       let k = in-block p h in
@@ -207,7 +207,7 @@ module _ (P : Pass) (lay : LaidOut P) (ord : Ordered P) where
   cells-apart = distinct-from (varblocks P) (λ v i. i) (corners-apart K (blockAt (P .hfMul) (P .bw)) (P .bw) (P .bh))
 
   -- every cell is low-frequency or read
-  pub low-or-held : (c p : ℕ) → c < 3 → p < many P → Low P p ⊎ PlaceOf P c p
+  pub low-or-held : (c p : ℕ) → c < 3 → p < gridCells P → Low P p ⊎ ReadAt P c p
   low-or-held c p hc h =
       let b = in-block p h in
       let o = lay .valid .owned (p % (8 * P .bw) / 8) (p / (8 * P .bw) / 8) (b .0) (b .1) in
@@ -216,7 +216,7 @@ module _ (P : Pass) (lay : LaidOut P) (ord : Ordered P) where
       in-it (varblock (o .ox) (o .oy) (K (o .ox) (o .oy) - 2) (blockAt (P .hfMul) (P .bw) (o .ox) (o .oy))) (at-corner lay (o .ox) (o .oy) (omega arith) (omega arith) (w .corner)) (w .fromX) (w .toX) (w .fromY) (w .toY)
     where
       in-it : (v : Varblock) → Among v (varblocks P) → v .x ≤ p % (8 * P .bw) / 8 → p % (8 * P .bw) / 8 < v .x + wide (v .type)
-          → v .y ≤ p / (8 * P .bw) / 8 → p / (8 * P .bw) / 8 < v .y + high (v .type) → Low P p ⊎ PlaceOf P c p
+          → v .y ≤ p / (8 * P .bw) / 8 → p / (8 * P .bw) / 8 < v .y + high (v .type) → Low P p ⊎ ReadAt P c p
       in-it v i l r u d = cases (decLt dx (wide (v .type))) (decLt dy (high (v .type)))
         where
           dx : ℕ
@@ -225,7 +225,7 @@ module _ (P : Pass) (lay : LaidOut P) (ord : Ordered P) where
           dy : ℕ
           dy = p / (8 * P .bw) - 8 * v .y
 
-          place : (dx < wide (v .type) → dy < high (v .type) → ⊥) → PlaceOf P c p
+          place : (dx < wide (v .type) → dy < high (v .type) → ⊥) → ReadAt P c p
           place n =
               let t = turns (v .type) in
               let s = spread v i c hc .whole dx dy (omega arith) (omega arith) n in
@@ -235,13 +235,13 @@ module _ (P : Pass) (lay : LaidOut P) (ord : Ordered P) where
               holds P (varblocks P) v c p i hc
               (Memᴰ·cast (sym (ap₂ (λ (a b : ℕ). a * (8 * P .bw) + b) ey ex ∙ div-add-mod' p (8 * P .bw))) (place-in t (8 * P .bw) (8 * v .x) (8 * v .y) (rest v i c hc) (s .0) (s .1)))
 
-          cases : Dec (dx < wide (v .type)) → Dec (dy < high (v .type)) → Low P p ⊎ PlaceOf P c p
+          cases : Dec (dx < wide (v .type)) → Dec (dy < high (v .type)) → Low P p ⊎ ReadAt P c p
           cases (yes a) (yes b) = inl (record { of = v; there = i; left = omega arith; right = omega arith; top = omega arith; bottom = omega arith })
           cases (yes a) (no b) = inr (place (λ x y. b y))
           cases (no a) b = inr (place (λ x y. a x))
 
   -- and never both
-  pub low-not-held : (c p : ℕ) → Low P p → PlaceOf P c p → ⊥
+  pub low-not-held : (c p : ℕ) → Low P p → ReadAt P c p → ⊥
   low-not-held c p l h =
       let s = held P (varblocks P) c p h in
       let v = s .0 in let i = s .1 in let u = l .of in
@@ -255,10 +255,10 @@ module _ (P : Pass) (lay : LaidOut P) (ord : Ordered P) where
       spread v i c (s .2) .upper (r .0) (r .1) (omega arith) (omega arith)
 
   -- so, of grids that agree in the low-frequency cells, each cell is read or the same in both
-  pub place-or-same : (G W : Grids) → Sized P G → Sized P W → LowKept P G W → (c p : ℕ) → PlaceOf P c p ⊎ ((PlaceOf P c p → ⊥) × (cell W c p ≡ cell G c p))
+  pub place-or-same : (G W : Grids) → Sized P G → Sized P W → LowKept P G W → (c p : ℕ) → ReadAt P c p ⊎ ((ReadAt P c p → ⊥) × (cell W c p ≡ cell G c p))
   place-or-same G W sg sw kept c p = channel (decLt c 3)
     where
-      at-cell : c < 3 → Dec (p < many P) → PlaceOf P c p ⊎ ((PlaceOf P c p → ⊥) × (cell W c p ≡ cell G c p))
+      at-cell : c < 3 → Dec (p < gridCells P) → ReadAt P c p ⊎ ((ReadAt P c p → ⊥) × (cell W c p ≡ cell G c p))
       at-cell hc (yes h) = elim (low-or-held c p hc h) [ inl l ↦ inr (low-not-held c p l, kept c p hc l) | inr i ↦ inl i ]
       at-cell hc (no m) =
           let a = sw .cells c hc in let b = sg .cells c hc in
@@ -267,8 +267,8 @@ module _ (P : Pass) (lay : LaidOut P) (ord : Ordered P) where
             List·getD-eq-default (getD W c []) 0 (omega arith) ∙ sym (List·getD-eq-default (getD G c []) 0 (omega arith)),
           )
 
-      channel : Dec (c < 3) → PlaceOf P c p ⊎ ((PlaceOf P c p → ⊥) × (cell W c p ≡ cell G c p))
-      channel (yes hc) = at-cell hc (decLt p (many P))
+      channel : Dec (c < 3) → ReadAt P c p ⊎ ((ReadAt P c p → ⊥) × (cell W c p ≡ cell G c p))
+      channel (yes hc) = at-cell hc (decLt p (gridCells P))
       channel (no m) =
           let a = sw .three in let b = sg .three in
           inr ((λ i. m (held P (varblocks P) c p i .2)), rw (List·getD-eq-default W [] {n = c} (omega arith), List·getD-eq-default G [] {n = c} (omega arith)))

@@ -12,7 +12,7 @@ use Rattle.coeff_group.specs.Group.{Grids}
 use Rattle.coeff_group.specs.Pass.{Pass, varblocks, itemsOf}
 use Rattle.coeff_call.specs.Call.{Lent, Outcome, outcome, call}
 use Rattle.coeff_call.specs.laws.CallLaws.{lengths-fit}
-use Rattle.one_to_one.specs.Filling.{many, put, Place, LaidOut, Low, LowKept, Fixed, Filling}
+use Rattle.one_to_one.specs.Filling.{gridCells, put, ReadAt, LaidOut, Low, LowKept, Fixed, Filling}
 use Rattle.coeff_group.specs.laws.Cells.{set-below, adds, adds-off, put-cell, put-shape}
 use Rattle.coeff_group.specs.laws.Reads.{joined}
 use Rattle.one_to_one.specs.laws.Items.{wrote-ordered, Ordered, low-or-held, low-not-held}
@@ -42,13 +42,13 @@ module _ (L : Lent) (fixed : Fixed L) where
   P = L .pass
 
   -- each cell of the group is low-frequency or a place, and never both
-  pub low-or-place : (c p : ℕ) → c < 3 → p < many (L .pass) → (Low (L .pass) p × (Place (L .pass) c p → ⊥)) ⊎ (Place (L .pass) c p × (Low (L .pass) p → ⊥))
+  pub low-or-place : (c p : ℕ) → c < 3 → p < gridCells (L .pass) → (Low (L .pass) p × (ReadAt (L .pass) c p → ⊥)) ⊎ (ReadAt (L .pass) c p × (Low (L .pass) p → ⊥))
   low-or-place c p hc h = go (low-or-held P (fixed .layout) ordered c p hc h)
     where
       ordered : Ordered P
       ordered = wrote-ordered P (fixed .orders)
 
-      go : Low P p ⊎ Place (L .pass) c p → (Low P p × (Place (L .pass) c p → ⊥)) ⊎ (Place (L .pass) c p × (Low P p → ⊥))
+      go : Low P p ⊎ ReadAt (L .pass) c p → (Low P p × (ReadAt (L .pass) c p → ⊥)) ⊎ (ReadAt (L .pass) c p × (Low P p → ⊥))
       go (inl l) = inl (l, low-not-held P (fixed .layout) ordered c p l)
       go (inr i) = inr (i, λ (l : Low P p). low-not-held P (fixed .layout) ordered c p l i)
 

@@ -20,8 +20,8 @@ use Rattle.layout.specs.Listed.{Among, first, later}
 use Rattle.layout.specs.laws.Rectangles.{has, known, right, bottom}
 use Rattle.layout.specs.laws.Theorems.{layout-iff}
 use Rattle.context_record.specs.Record.{bsizeOf, fit}
-use Rattle.context_index.specs.Lists.{used}
-use Rattle.context_index.specs.laws.Bounds.{block-index-lt, context-lt, used-size-le}
+use Rattle.context_index.specs.Lists.{inUse}
+use Rattle.context_index.specs.laws.Bounds.{block-entry-lt, context-lt, in-use-size-le}
 use Rattle.order_store.specs.Store.{PLACES, stretch, placesFit}
 use Rattle.order_places.specs.Places.{Inside}
 use Rattle.order_places.specs.laws.Places.{fits-at}
@@ -94,8 +94,8 @@ module _ (P : Pass) (lay : LaidOut P) (narrow : P .bw ≤ 32) (contexts : fit (P
 -- Entries of the map of block contexts: the lists as far as they are used are no longer than the record says.
 entry-inside : (P : Pass) (v : Varblock) → orderOf (v .type) < 13 → (n : ℕ) → n < 3 → contextEntry P v n < 39 * bsizeOf (P .contexts .lengths)
 entry-inside P v o n h =
-    let a = block-index-lt (used (P .contexts)) n (orderOf (v .type)) (v .hfMul) (P .lfThere) (blockAt (P .lf0) (P .bw) (v .x) (v .y)) (blockAt (P .lf1) (P .bw) (v .x) (v .y)) (blockAt (P .lf2) (P .bw) (v .x) (v .y)) h o in
-    omega (arith, used-size-le (P .contexts))
+    let a = block-entry-lt (inUse (P .contexts)) n (orderOf (v .type)) (v .hfMul) (P .lfThere) (blockAt (P .lf0) (P .bw) (v .x) (v .y)) (blockAt (P .lf1) (P .bw) (v .x) (v .y)) (blockAt (P .lf2) (P .bw) (v .x) (v .y)) h o in
+    omega (arith, in-use-size-le (P .contexts))
 
 -- From items to the group.
 module _ (shift clusters : ℕ) (presetMap₀ : List ℕ) where

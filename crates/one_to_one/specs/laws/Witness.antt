@@ -18,7 +18,7 @@ use Rattle.refusal.specs.Answer.{gives}
 use Rattle.coeff_group.specs.Group.{Grids, Reading, going, leftOf, readItems, zeroRows}
 use Rattle.coeff_group.specs.laws.GroupLaws.{group-items}
 use Rattle.coeff_group.specs.Pass.{varblocks, itemsOf}
-use Rattle.coeff_call.specs.Call.{Lent, Outcome, lengthsFit, readPreset, presetMap, reading, outcome as outcomeOf, leftoverAt, leftover, call}
+use Rattle.coeff_call.specs.Call.{Lent, Outcome, lengthsFit, presetBits, presetMap, reading, outcome as outcomeOf, leftoverAt, leftover, call}
 use Rattle.coeff_call.specs.laws.CallLaws.{checks-pass, call-reads}
 use Rattle.order_call.specs.laws.Wrote.{wrote-fits}
 use Rattle.lent_check.specs.Group.{groupOf}
@@ -53,7 +53,7 @@ cut-accepted : cutOf (bwOf columns) (bhOf columns) (2 ∷ []) (1 ∷ []) 0 (0 �
 unfolding cut-computes
 cut-accepted = cut-done (bwOf columns) (bhOf columns) (2 ∷ []) (1 ∷ []) 0 (0 ∷ []) (0 ∷ []) refl
 
-pub no-bits : readPreset one ≡ Value 0 0
+pub no-bits : presetBits one ≡ Value 0 0
 unfolding bits-compute
 no-bits = refl
 

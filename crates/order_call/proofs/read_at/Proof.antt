@@ -40,5 +40,5 @@ returns c =
 
 pub read-at-spec : {M : Type 1} → statement M
 read-at-spec =
-    tie.close (tie.spec (λ c κs. search needs) (λ c κs. search needs) mul-next mul-next-2 add-next mul-read-list (λ c. search needs)
-    (λ c. search needs) part-read-list-end read-list-requires (λ c. search needs) returns)
+    tie.close (tie.spec (λ c κs. search needs) (λ c κs. search needs) mul-next mul-next-2 add-next mul-read-list
+    (λ c. search needs) (λ c. search needs) part-read-list-end read-list-requires (λ c. search needs) returns)

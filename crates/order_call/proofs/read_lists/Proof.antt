@@ -45,6 +45,6 @@ returns-2 c =
 
 pub read-lists-spec : {M : Type 1} → statement M
 read-lists-spec =
-    tie.close (tie.spec Inv-loop μ-loop loop-holds (λ c κs. search needs) (λ c κs. search needs) (λ c κs. search needs)
-    (λ c. search needs) returns (λ c κs. search needs) (λ c. search needs) (λ c. search needs) loop-again
-    same-length-2 returns-2)
+    tie.close (tie.spec Inv-loop μ-loop loop-holds (λ c κs. search needs) (λ c κs. search needs)
+    (λ c κs. search needs) (λ c. search needs) returns (λ c κs. search needs) (λ c. search needs) (λ c. search needs)
+    loop-again same-length-2 returns-2)

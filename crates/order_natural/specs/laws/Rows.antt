@@ -10,7 +10,7 @@ use lib.Dec.{ltb}
 use lib.ListN.{length, length-append}
 use borrow.Author.Tests.{lt-ltb, le-ltb}
 use Rattle.order_natural.specs.Places.{Place, run, joins, tally, count, Lists}
-use Rattle.order_natural.specs.Natural.{spot, rows}
+use Rattle.order_natural.specs.Natural.{inRow, rows}
 use Rattle.order_natural.specs.laws.Counts.{run-none, run-once, joins-none, joins-once}
 use Rattle.order_natural.specs.laws.Bools.{and-false}
 
@@ -43,13 +43,13 @@ length-joins g w (suc n) o h =
     omega (arith, length-append (g o) (joins g n (suc o)), h o, length-joins g w n (suc o) h, suc-mul n w)
 
 pub rows-length : (w h : ℕ) → length (rows w h) ≡ h * w
-rows-length w h = length-joins (λ y. run (spot y) w 0) w h 0 (λ j. length-run (spot j) w 0)
+rows-length w h = length-joins (λ y. run (inRow y) w 0) w h 0 (λ j. length-run (inRow j) w 0)
 
 pub rows-lists : (w h : ℕ) → Lists w h (rows w h)
 rows-lists w h x y =
     by-inside (count x y (rows w h)) x y w h
-    (λ a b. joins-once x y (λ y. run (spot y) w 0) h 0 y (omega arith) (omega arith)
-    (run-once x y (spot y) w 0 x (omega arith) (omega arith) (refl, refl) (λ j c d t. sym (t .0)))
-    (λ j c d n. run-none x y (spot j) w 0 (λ i e f t. n (sym (t .1)))))
-    (λ a. joins-none x y (λ y. run (spot y) w 0) h 0 (λ j c d. run-none x y (spot j) w 0 (λ i e f t. omega arith)))
-    (λ a. joins-none x y (λ y. run (spot y) w 0) h 0 (λ j c d. run-none x y (spot j) w 0 (λ i e f t. omega arith)))
+    (λ a b. joins-once x y (λ y. run (inRow y) w 0) h 0 y (omega arith) (omega arith)
+    (run-once x y (inRow y) w 0 x (omega arith) (omega arith) (refl, refl) (λ j c d t. sym (t .0)))
+    (λ j c d n. run-none x y (inRow j) w 0 (λ i e f t. n (sym (t .1)))))
+    (λ a. joins-none x y (λ y. run (inRow y) w 0) h 0 (λ j c d. run-none x y (inRow j) w 0 (λ i e f t. omega arith)))
+    (λ a. joins-none x y (λ y. run (inRow y) w 0) h 0 (λ j c d. run-none x y (inRow j) w 0 (λ i e f t. omega arith)))

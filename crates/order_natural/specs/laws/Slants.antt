@@ -12,7 +12,7 @@ use lib.ListN.{length, length-append}
 use borrow.Author.Tests.{eqb-true, eqb-false, eq-eqb, ne-eqb, lt-ltb, le-ltb}
 use Rattle.laws.specs.laws.Cases.{le-or-lt}
 use Rattle.order_natural.specs.Places.{Place, run, flat}
-use Rattle.order_natural.specs.Natural.{cell, diagonal, listed, keep}
+use Rattle.order_natural.specs.Natural.{onDiagonal, diagonal, listed, keep}
 use Rattle.order_natural.specs.laws.Turns.{keep-append, flat-append}
 
 -- how many multiples of s are below u
@@ -224,7 +224,7 @@ abbrev way : Bool → ℕ → ℕ → Place
 way t d o = cond t (o, d - 1 - o) (d - 1 - o, o)
 
 module _ (w s b d : ℕ) (some : 0 < s) (in-b : 2 * w ≤ b) where
-  whole : d < 2 * w → diagonal b d ≡ run (cell d) d 0
+  whole : d < 2 * w → diagonal b d ≡ run (onDiagonal d) d 0
   whole h =
       let z : d - b ≡ 0 = omega arith in
       let y : d - 0 - 0 ≡ d = omega arith in
@@ -236,7 +236,7 @@ module _ (w s b d : ℕ) (some : 0 < s) (in-b : 2 * w ≤ b) where
 
   -- a short one lies in the corner
   pub short-none : 0 < w → d ≤ w → flat (keep w s (diagonal b d)) ≡ []
-  short-none v h = ap (λ (l : List Place). flat (keep w s l)) (whole (omega arith)) ∙ ap flat (inside-none w s (cell d) d 0 (cell-in (eqb (d % 2) 1) h))
+  short-none v h = ap (λ (l : List Place). flat (keep w s l)) (whole (omega arith)) ∙ ap flat (inside-none w s (onDiagonal d) d 0 (cell-in (eqb (d % 2) 1) h))
 
   module _ (long : w < d) (short : d < 2 * w) where
     sides : d - w + (2 * w - d + (d - w)) ≡ d

@@ -5,7 +5,7 @@ use Prim.Native.Nat.{ℕ, _+_, _*_, _-_, _%_, _<_, _≤_}
 use native.Mathlib.Omega.{arith}
 use lib.Dec.{eqb}
 use Rattle.order_natural.specs.Places.{Place, run, count, Lists}
-use Rattle.order_natural.specs.Natural.{cell, diagonal, square}
+use Rattle.order_natural.specs.Natural.{onDiagonal, diagonal, square}
 use Rattle.order_natural.specs.Order.{Hit}
 use Rattle.order_natural.specs.laws.Counts.{run-none, run-once, joins-none, joins-once}
 use Rattle.order_natural.specs.laws.Rows.{by-inside}
@@ -34,11 +34,11 @@ diagonal-once x y b d p q e = once (eqb (d % 2) 1) x y b d p q e
 
 diagonal-other : (x y b d : ℕ) → (x + y + 1 ≡ d → ⊥) → count x y (diagonal b d) ≡ 0
 diagonal-other x y b d n =
-    run-none x y (cell d) (d - (d - b) - (d - b)) (d - b) (λ j p q t. n (on-one (eqb (d % 2) 1) x y d j (omega arith) t))
+    run-none x y (onDiagonal d) (d - (d - b) - (d - b)) (d - b) (λ j p q t. n (on-one (eqb (d % 2) 1) x y d j (omega arith) t))
 
 diagonal-out : (x y b d : ℕ) → ((x < b) × (y < b) → ⊥) → count x y (diagonal b d) ≡ 0
 diagonal-out x y b d n =
-    run-none x y (cell d) (d - (d - b) - (d - b)) (d - b) (λ j p q t. n (in-square (eqb (d % 2) 1) x y d j b p q t))
+    run-none x y (onDiagonal d) (d - (d - b) - (d - b)) (d - b) (λ j p q t. n (in-square (eqb (d % 2) 1) x y d j b p q t))
 
 pub square-lists : (b : ℕ) → Lists b b (square b)
 square-lists b x y =

@@ -9,7 +9,7 @@ use lib.ListN.{length, length-append, drop-of-length-le}
 use lib.Seq.{sets, sets-eq}
 use Rattle.laws.specs.laws.Lists.{sets-append}
 use Rattle.order_natural.specs.Places.{Place, run, joins, flat}
-use Rattle.order_natural.specs.Natural.{spot, diagonal, square, listed, keep, rows, natural}
+use Rattle.order_natural.specs.Natural.{inRow, diagonal, square, listed, keep, rows, natural}
 use Rattle.order_natural.specs.Order.{Size}
 use Rattle.order_natural.specs.laws.Order.{natural-facts}
 
@@ -47,10 +47,10 @@ unfoldable pub restOfSquare : ℕ → ℕ → ℕ → ℕ → List ℕ
 restOfSquare w s b d = flat (keep w s (joins (diagonal b) (2 * b - d) d))
 
 unfoldable pub restOfRow : ℕ → ℕ → ℕ → List ℕ
-restOfRow w y x = flat (run (spot y) (w - x) x)
+restOfRow w y x = flat (run (inRow y) (w - x) x)
 
 unfoldable pub restOfRows : ℕ → ℕ → ℕ → List ℕ
-restOfRows w h y = flat (joins (λ y. run (spot y) w 0) (h - y) y)
+restOfRows w h y = flat (joins (λ y. run (inRow y) w 0) (h - y) y)
 
 -- a piece written, then the rest
 pub laid : (st st' : List ℕ) (at r : ℕ) (piece rest whole : List ℕ) → whole ≡ piece ++ rest → r ≡ at + length piece → st' ≡ sets st at piece → sets st' r rest ≡ sets st at whole
@@ -85,20 +85,20 @@ all-laid st st₀ at start rest whole e n s = (omega (arith, ap length e), rw e 
 
 pub row-turn : (w y x : ℕ) → x < w → restOfRow w y x ≡ (x ∷ y ∷ []) ++ restOfRow w y (x + 1)
 unfolding restOfRow
-row-turn w y x h = ap flat (run-from (spot y) x w h)
+row-turn w y x h = ap flat (run-from (inRow y) x w h)
 
 pub row-end : (w y x : ℕ) → w ≤ x → restOfRow w y x ≡ []
 unfolding restOfRow
-row-end w y x h = ap flat (run-end (spot y) x w h)
+row-end w y x h = ap flat (run-end (inRow y) x w h)
 
-row-whole : (w y : ℕ) → restOfRow w y 0 ≡ flat (run (spot y) w 0)
+row-whole : (w y : ℕ) → restOfRow w y 0 ≡ flat (run (inRow y) w 0)
 unfolding restOfRow
 row-whole w y = let e : w - 0 ≡ w = omega arith in rw e
 
 pub rows-turn : (w h y : ℕ) → y < h → restOfRows w h y ≡ restOfRow w y 0 ++ restOfRows w h (y + 1)
 unfolding restOfRows
 rows-turn w h y k =
-    let g : ℕ → List Place = λ y. run (spot y) w 0 in
+    let g : ℕ → List Place = λ y. run (inRow y) w 0 in
     ap flat (joins-from g y h k) ∙ flat-append (g y) (joins g (h - (y + 1)) (y + 1)) ∙ rw (row-whole w y)
 
 pub rows-start : (w h : ℕ) → restOfRows w h 0 ≡ flat (rows w h)
@@ -107,7 +107,7 @@ rows-start w h = let e : h - 0 ≡ h = omega arith in rw e
 
 pub rows-end : (w h y : ℕ) → h ≤ y → restOfRows w h y ≡ []
 unfolding restOfRows
-rows-end w h y k = ap flat (joins-end (λ y. run (spot y) w 0) y h k)
+rows-end w h y k = ap flat (joins-end (λ y. run (inRow y) w 0) y h k)
 
 -- the corner, then the square
 pub natural-parts : (width height : ℕ) → flat (natural width height) ≡ flat (rows (width / 8) (height / 8)) ++ flat (keep (width / 8) (width / height) (square width))

@@ -31,5 +31,5 @@ loop-again c =
 
 pub back-spec : {M : Type 1} → statement M
 back-spec =
-    tie.close (tie.spec Inv-loop μ-loop loop-holds sub-b (λ c. search needs) (λ c. search needs) (λ c κs. search needs)
-    sub-sum loop-less loop-again (λ c. search needs))
+    tie.close (tie.spec Inv-loop μ-loop loop-holds sub-b (λ c. search needs) (λ c. search needs)
+    (λ c κs. search needs) sub-sum loop-less loop-again (λ c. search needs))

@@ -62,5 +62,5 @@ pub draw-spec : {M : Type 1} → statement M
 draw-spec =
     tie.close (tie.spec Inv-loop μ-loop (λ c. search needs) (λ c κs. search needs) (λ c. search needs) loop-holds
     (λ c. search needs) (λ c. search needs) (λ c κs. search needs) (λ c. search needs) sub-take-out
-    part-take-out-start (λ c. search needs) take-out-requires (λ c. search needs) (λ c. search needs)
-    slice-write-list (λ c. search needs) (λ c. omega arith) loop-again same-length returns)
+    part-take-out-start (λ c. search needs) take-out-requires (λ c. search needs) (λ c. search needs) slice-write-list
+    (λ c. search needs) (λ c. omega arith) loop-again same-length returns)

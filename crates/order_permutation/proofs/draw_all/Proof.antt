@@ -1,5 +1,4 @@
 use borrow.Author.Needs.{needs}
-use native.Mathlib.Omega.{arith}
 use mathlib.Core.Path.{_∙_}
 use Rattle.order_permutation.specs.laws.Drawing.{drawn-all}
 use Rattle.order_permutation.proofs.draw_all.Statement.{statement}
@@ -14,5 +13,5 @@ returns c =
 
 pub draw-all-spec : {M : Type 1} → statement M
 draw-all-spec =
-    tie.close (tie.spec (λ c κs. search needs) (λ c κs. search needs) (λ c. search needs) (λ c. search needs) (λ c κs. search needs)
-    (λ c. search needs) returns)
+    tie.close (tie.spec (λ c κs. search needs) (λ c κs. search needs) (λ c. search needs) (λ c. search needs)
+    (λ c κs. search needs) (λ c. search needs) returns)

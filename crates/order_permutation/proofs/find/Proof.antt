@@ -39,5 +39,5 @@ loop-again c =
 
 pub find-spec : {M : Type 1} → statement M
 find-spec =
-    tie.close (tie.spec Inv-loop μ-loop loop-holds mul-short-to-usize element-copy-out-short-to-usize (λ c κs. search needs)
-    (λ c. search needs) returns (λ c. search needs) add-b loop-less loop-again)
+    tie.close (tie.spec Inv-loop μ-loop loop-holds mul-short-to-usize element-copy-out-short-to-usize
+    (λ c κs. search needs) (λ c. search needs) returns (λ c. search needs) add-b loop-less loop-again)

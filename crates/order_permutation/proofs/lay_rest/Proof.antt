@@ -46,5 +46,4 @@ returns c =
 pub lay-rest-spec : {M : Type 1} → statement M
 lay-rest-spec =
     tie.close (tie.spec Inv-loop μ-loop loop-holds (λ c. search needs) (λ c. search needs) (λ c κs. search needs)
-    lay-requires add-to add-start (λ c. search needs) (λ c. search needs) loop-again (λ c. search needs)
-    returns)
+    lay-requires add-to add-start (λ c. search needs) (λ c. search needs) loop-again (λ c. search needs) returns)

@@ -1,5 +1,4 @@
 use borrow.Author.Needs.{needs}
-use native.Mathlib.Omega.{arith}
 use Rattle.order_permutation.specs.laws.Drawing.{packed-fixed}
 use Rattle.order_permutation.proofs.pack_fixed.Statement.{statement}
 use Rattle.order_permutation.proofs.pack_fixed.Tie as tie

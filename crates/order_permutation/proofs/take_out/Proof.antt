@@ -83,8 +83,8 @@ returns c =
 
 pub take-out-spec : {M : Type 1} → statement M
 take-out-spec =
-    tie.close (tie.spec (λ c κs. search needs) (λ c κs. search needs) (λ c. search needs) (λ c. search needs) (λ c. search needs)
-    (λ c κs. search needs) (λ c. search needs) (λ c. search needs) mul-start add-value mul-value slice-read-value
-    add-at-most (λ c κs. search needs) mul-close sub-close part-close-start (λ c. search needs) sub-close-2
-    sub-close-3 close-requires (λ c. search needs) cast-count (λ c. search needs) (λ c. search needs)
+    tie.close (tie.spec (λ c κs. search needs) (λ c κs. search needs) (λ c. search needs) (λ c. search needs)
+    (λ c. search needs) (λ c κs. search needs) (λ c. search needs) (λ c. search needs) mul-start add-value mul-value
+    slice-read-value add-at-most (λ c κs. search needs) mul-close sub-close part-close-start (λ c. search needs)
+    sub-close-2 sub-close-3 close-requires (λ c. search needs) cast-count (λ c. search needs) (λ c. search needs)
     (λ c. search needs) returns)

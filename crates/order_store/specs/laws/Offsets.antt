@@ -8,11 +8,10 @@ use lib.Dec.{eqb, eqb→eq}
 use lib.ListN.{length, getD}
 use Rattle.laws.specs.laws.Tables.{each-at}
 use Rattle.order_sizes.specs.BlockSizes.{BLOCK-SIZES, widthOf, heightOf}
-use Rattle.order_natural.specs.Places.{Place}
 use Rattle.order_store.specs.Store.{PLACES, thrice, area, before, from}
 
 -- order k, channel c begins behind c lists of its own size
-pub before-by : (ss : List Place) (k c : ℕ) → k < length ss → c < 3 → before (thrice ss) (3 * k + c) ≡ 3 * before ss k + c * area (getD ss k (0, 0))
+pub before-by : (ss : List (ℕ × ℕ)) (k c : ℕ) → k < length ss → c < 3 → before (thrice ss) (3 * k + c) ≡ 3 * before ss k + c * area (getD ss k (0, 0))
 before-by [] k c h l = absurd (not-suc-le-zero h)
 before-by (s ∷ ss) zero zero h l = omega arith
 before-by (s ∷ ss) zero (suc zero) h l = omega arith
@@ -23,7 +22,7 @@ before-by (s ∷ ss) (suc k) c h l =
     let r = before-by ss k c (le-of-suc-le-suc h) l in
     rw i (omega arith)
 
-thrice-at : (ss : List Place) (k c : ℕ) → k < length ss → c < 3 → getD (thrice ss) (3 * k + c) (0, 0) ≡ getD ss k (0, 0)
+thrice-at : (ss : List (ℕ × ℕ)) (k c : ℕ) → k < length ss → c < 3 → getD (thrice ss) (3 * k + c) (0, 0) ≡ getD ss k (0, 0)
 thrice-at [] k c h l = absurd (not-suc-le-zero h)
 thrice-at (s ∷ ss) zero zero h l = refl
 thrice-at (s ∷ ss) zero (suc zero) h l = refl
@@ -33,7 +32,7 @@ thrice-at (s ∷ ss) (suc k) c h l =
     let i : 3 * suc k + c ≡ suc (suc (suc (3 * k + c))) = omega arith in
     rw i (thrice-at ss k c (le-of-suc-le-suc h) l)
 
-before-step : (ss : List Place) (i : ℕ) → i < length ss → before ss (i + 1) ≡ before ss i + area (getD ss i (0, 0))
+before-step : (ss : List (ℕ × ℕ)) (i : ℕ) → i < length ss → before ss (i + 1) ≡ before ss i + area (getD ss i (0, 0))
 before-step [] i h = absurd (not-suc-le-zero h)
 before-step (s ∷ []) zero h = omega arith
 before-step (s ∷ t ∷ ss) zero h = omega arith
@@ -42,7 +41,7 @@ before-step (s ∷ ss) (suc i) h =
     let r = before-step ss i (le-of-suc-le-suc h) in
     rw e (omega arith)
 
-before-most : (ss : List Place) (i : ℕ) → i ≤ length ss → before ss i ≤ before ss (length ss)
+before-most : (ss : List (ℕ × ℕ)) (i : ℕ) → i ≤ length ss → before ss i ≤ before ss (length ss)
 before-most [] zero h = omega arith
 before-most [] (suc i) h = absurd (not-suc-le-zero h)
 before-most (s ∷ ss) zero h = omega arith

@@ -1,4 +1,6 @@
-use calls::ContextsCall;
+use std::hint::black_box;
+
+use calls::{ContextsCall, Refusal};
 use compare::bits::Bits;
 use jxl_vardct::oracle;
 
@@ -9,6 +11,7 @@ pub fn benches() -> Vec<Bench> {
     vec![
         bench("contexts, default", default),
         bench("contexts, thresholds on all lists, bsize 64", all_lists),
+        Bench::new("map cleared", map_cleared),
     ]
 }
 
@@ -32,6 +35,20 @@ fn sides(call: ContextsCall) -> Sides {
         ours: Some(plain(move || ours::contexts_into(&call, &mut record))),
         rust: Some(plain(move || oracle::contexts(&other))),
         units: (1, "parse"),
+    }
+}
+
+/// The record's map cleared by the library's own fill: what the time of the default record can be
+/// held against. No call of Netbuff's.
+fn map_cleared() -> Sides {
+    let mut map = ours::USED_RECORD.block_ctx_map;
+    Sides {
+        ours: None,
+        units: (map.len(), "place"),
+        rust: Some(plain(move || {
+            black_box(&mut map).fill(0);
+            Ok::<_, Refusal>(map.len())
+        })),
     }
 }
 

@@ -1,4 +1,4 @@
-use Rattle.coeff_walk.specs.Item.{rowOf}
+use Rattle.laws.specs.Lists.{fillFrom}
 use Rattle.coeff_walk.specs.laws.Counts.{row-start, row-step, row-end}
 use borrow.Author.Needs.{needs}
 use native.Mathlib.Omega.{arith}
@@ -8,7 +8,7 @@ use Rattle.coeff_call.proofs.rows.rewrite.Statement.{statement}
 use Rattle.coeff_call.proofs.rows.rewrite.Tie as tie
 
 abbrev Inv-loop : tie.InvT-loop
-Inv-loop row₀ x n v k₀ row k = (k ≤ n) × (rowOf row (x + k) (n - k) v ≡ rowOf row₀ x n v)
+Inv-loop row₀ x n v k₀ row k = (k ≤ n) × (fillFrom row (x + k) (n - k) v ≡ fillFrom row₀ x n v)
 
 abbrev μ-loop : tie.MeasureT-loop
 μ-loop row₀ x n v k₀ row k = n - k

@@ -13,9 +13,6 @@ use Prim.Native.Nat.{ℕ}
 use Rattle.context_call.proofs.judge.judge.Statement.{statement}
 use Rattle.context_call.proofs.judge.judge.Tie as tie
 
-enum-told : tie.Need-enum-told
-enum-told c = search needs
-
 fill-requires : tie.Need-fill-requires
 fill-requires c κs =
     let a = c .before .before .before .before .before .args in
@@ -40,5 +37,5 @@ returns-2 c =
 
 pub judge-spec : {M : Type 1} → statement M
 judge-spec =
-    tie.close (tie.spec (λ c κs. search needs) (λ c. search needs) (λ c κs. search needs) enum-told fill-requires returns
-    returns-2)
+    tie.close (tie.spec (λ c κs. search needs) (λ c. search needs) (λ c κs. search needs) (λ c. search needs)
+    fill-requires returns returns-2)

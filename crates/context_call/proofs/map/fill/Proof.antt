@@ -55,5 +55,5 @@ returns c =
 pub fill-spec : {M : Type 1} → statement M
 fill-spec =
     tie.close (tie.spec Inv-loop μ-loop Inv-loop2 μ-loop2 loop-holds (λ c. search needs) (λ c. search needs)
-    (λ c. search needs) (λ c. search needs) loop-again (λ c. search needs) (λ c. search needs)
-    (λ c. search needs) (λ c. search needs) loop2-again same-length returns)
+    (λ c. search needs) (λ c. search needs) loop-again (λ c. search needs) (λ c. search needs) (λ c. search needs)
+    (λ c. search needs) loop2-again same-length returns)

@@ -1,5 +1,5 @@
-use Rattle.layout_reading.specs.laws.Places.{byJudged, visit-taken, visit-ends, visit-judged}
-use Rattle.layout_reading.specs.Reading.{jobWith}
+use Rattle.layout_placing.specs.laws.Visits.{byJudged, visit-taken, visit-ends, visit-judged}
+use Rattle.layout_placing.specs.Reading.{jobWith}
 use Rattle.layout_reading.specs.laws.Outcome.{stateOf}
 use Rattle.layout_column.specs.laws.Judged.{asks-most}
 use Rattle.layout_column.specs.Columns.{lowEight, hfMulOf}
@@ -56,23 +56,6 @@ returns-4 c =
 
 pub visit-spec : {M : Type 1} → statement M
 visit-spec =
-    tie.close
-    (tie.spec
-    mul-i
-    add-i
-    slice-read-if1
-    returns
-    returns-2
-    (λ c. search needs)
-    (λ c. search needs)
-    (λ c. search needs)
-    (λ c. search needs)
-    (λ c κs. search needs)
-    (λ c. search needs)
-    (λ c. search needs)
-    place-requires
-    returns-3
-    (λ c. search needs)
-    (λ c. search needs)
-    (λ c. search needs)
-    returns-4)
+    tie.close (tie.spec mul-i add-i slice-read-if1 returns returns-2 (λ c. search needs) (λ c. search needs)
+    (λ c. search needs) (λ c. search needs) (λ c κs. search needs) (λ c. search needs) (λ c. search needs)
+    place-requires returns-3 (λ c. search needs) (λ c. search needs) (λ c. search needs) returns-4)

@@ -1,8 +1,8 @@
 use Rattle.layout_reading.specs.laws.Places.{stop-stays}
-use Rattle.layout_reading.specs.Reading.{jobWith}
+use Rattle.layout_placing.specs.Reading.{jobWith}
 use Rattle.layout_reading.specs.laws.Outcome.{stateOf, stepped}
 use Rattle.layout.specs.laws.Loops.{rowsLeft, cellsLeft, loop-start, loop-enter, loop-next, loop-stop, loop-leave, loop-finish}
-use Rattle.layout_reading.specs.Reading.{Going, visit}
+use Rattle.layout_placing.specs.Reading.{Going, visit}
 use Rattle.layout_reading.specs.declared.column.Step.{Step}
 use mathlib.Core.Path.{refl}
 use borrow.Author.Needs.{needs}
@@ -36,9 +36,6 @@ visit-requires c κs =
     let h = c .before .before .before .before .before .before .before .before .before .before .before .before .before .pre in
     (l .inv .1, l .inv .2, l .inv .3, h .3, h .4, h .5, h .6, omega arith, omega arith, h .7)
 
-enum-told : tie.Need-enum-told Inv-loop2 μ-loop2 Inv-loop μ-loop
-enum-told c = search needs
-
 returns : tie.Need-returns Inv-loop2 μ-loop2 Inv-loop μ-loop
 returns c =
     let a = c .before .before .before .before .before .before .before .before .before .before .before .before .before .before .before .before .before .before .before .before .before .before .args in
@@ -54,7 +51,7 @@ loop2-again c =
     let l = c .before .before .before .before .before .before .before .before .before .before .before .before .before .before .loop2 in
     let v = c .before .before .before .before .before .before .before .before .before .visit in
     let e = sym (ap (λ (z : Step). stepped z (v .last .0) (v .last .1 .0) (v .last .1 .1 .0)) (c .before .step .given .1)) ∙ v .ensures in
-    (omega arith, omega arith, omega arith, omega arith, l .inv .4 ∙ loop-next (visit (jobWith (a .bw) (a .bh) (a .types .now) (a .muls .now) (a .sharpness .now) (a .filter) (a .lookups .now))) (a .bw) (a .bh) (o .y) (l .x) (Going (stateOf (l .used) (l .kinds) (l .hf-mul) (l .sigma))) _ (omega arith) e)
+    (omega arith, c .before .before .before .before .before .before .before .before .kinds .given ∙ l .inv .1, c .before .before .before .before .before .before .hf-mul .given ∙ l .inv .2, c .before .before .before .before .sigma .given ∙ l .inv .3, l .inv .4 ∙ loop-next (visit (jobWith (a .bw) (a .bh) (a .types .now) (a .muls .now) (a .sharpness .now) (a .filter) (a .lookups .now))) (a .bw) (a .bh) (o .y) (l .x) (Going (stateOf (l .used) (l .kinds) (l .hf-mul) (l .sigma))) _ (omega arith) e)
 
 loop-again : tie.Need-loop-again Inv-loop2 μ-loop2 Inv-loop μ-loop
 loop-again c =
@@ -71,28 +68,8 @@ returns-2 c =
 
 pub read-blocks-spec : {M : Type 1} → statement M
 read-blocks-spec =
-    tie.close
-    (tie.spec
-    Inv-loop2
-    μ-loop2
-    Inv-loop
-    μ-loop
-    (λ c. (omega arith, omega arith, omega arith, omega arith, refl))
-    loop2-holds
-    visit-requires
-    (λ c. search needs)
-    enum-told
-    (λ c. search needs)
-    (λ c. search needs)
-    (λ c. search needs)
-    returns
-    (λ c. search needs)
-    (λ c. search needs)
-    loop2-again
-    (λ c. search needs)
-    (λ c. search needs)
-    loop-again
-    (λ c. search needs)
-    (λ c. search needs)
-    (λ c. search needs)
-    returns-2)
+    tie.close (tie.spec Inv-loop2 μ-loop2 Inv-loop μ-loop
+    (λ c. let h = c .before .before .before .before .before .before .pre in (omega arith, h .0, h .1, h .2, refl)) loop2-holds visit-requires (λ c. search needs)
+    (λ c. search needs) (λ c. search needs) (λ c. search needs) (λ c. search needs) returns (λ c. search needs)
+    (λ c. search needs) loop2-again (λ c. search needs) (λ c. search needs) loop-again (λ c. search needs)
+    (λ c. search needs) (λ c. search needs) returns-2)

@@ -25,8 +25,8 @@ returns-2 c =
     let s = sym (c .before .before .before .in-limits .ensures) ∙ not-false (c .before .before .before .in-limits .result) (c .before .before .if1 .left) in
     sym (check-length 32 (a .group .bw) (a .group .bh) (a .kinds .now) (a .hf-mul .now) s (sym (c .before .lengths-fit .ensures) ∙ not-true (c .before .lengths-fit .result) (c .if2 .taken)))
 
-cells-fit-requires : tie.Need-cells-fit-requires
-cells-fit-requires c κs =
+is-layout-requires : tie.Need-is-layout-requires
+is-layout-requires c κs =
     let a = c .before .before .before .before .before .before .args in
     let s = in-limits 32 (a .group .bw) (a .group .bh) (sym (c .before .before .before .in-limits .ensures) ∙ not-false (c .before .before .before .in-limits .result) (c .before .before .if1 .left)) in
     let l = lengths-fit (a .group .bw) (a .group .bh) (length (a .kinds .now)) (length (a .hf-mul .now)) (sym (c .before .lengths-fit .ensures) ∙ not-false (c .before .lengths-fit .result) (c .if2 .left)) in
@@ -37,14 +37,14 @@ returns-3 c =
     let a = c .before .before .before .before .before .before .before .before .args in
     let s = sym (c .before .before .before .before .before .in-limits .ensures) ∙ not-false (c .before .before .before .before .before .in-limits .result) (c .before .before .before .before .if1 .left) in
     let l = sym (c .before .before .before .lengths-fit .ensures) ∙ not-false (c .before .before .before .lengths-fit .result) (c .before .before .if2 .left) in
-    sym (check-fault 32 (a .group .bw) (a .group .bh) (a .kinds .now) (a .hf-mul .now) s l (sym (c .before .cells-fit .ensures) ∙ not-true (c .before .cells-fit .result) (c .if3 .taken)))
+    sym (check-fault 32 (a .group .bw) (a .group .bh) (a .kinds .now) (a .hf-mul .now) s l (sym (c .before .is-layout .ensures) ∙ not-true (c .before .is-layout .result) (c .if3 .taken)))
 
 returns-4 : tie.Need-returns-4
 returns-4 c =
     let a = c .before .before .before .before .before .before .before .before .args in
     let s = sym (c .before .before .before .before .before .in-limits .ensures) ∙ not-false (c .before .before .before .before .before .in-limits .result) (c .before .before .before .before .if1 .left) in
     let l = sym (c .before .before .before .lengths-fit .ensures) ∙ not-false (c .before .before .before .lengths-fit .result) (c .before .before .if2 .left) in
-    sym (check-fine 32 (a .group .bw) (a .group .bh) (a .kinds .now) (a .hf-mul .now) s l (sym (c .before .cells-fit .ensures) ∙ not-false (c .before .cells-fit .result) (c .if3 .left)))
+    sym (check-fine 32 (a .group .bw) (a .group .bh) (a .kinds .now) (a .hf-mul .now) s l (sym (c .before .is-layout .ensures) ∙ not-false (c .before .is-layout .result) (c .if3 .left)))
 
 pub check-group-spec : {M : Type 1} → statement M
 check-group-spec =
@@ -54,6 +54,6 @@ check-group-spec =
     returns
     lengths-fit-requires
     returns-2
-    cells-fit-requires
+    is-layout-requires
     returns-3
     returns-4)

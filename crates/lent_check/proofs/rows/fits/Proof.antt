@@ -4,7 +4,7 @@ use Rattle.layout.specs.laws.Kinds.{wide-sized, high-sized}
 use Rattle.layout.specs.Check.{fitting}
 use mathlib.Core.Path.{_∙_, ap}
 use lib.Dec.{leb}
-use Rattle.lent_check.specs.laws.TwoSteps.{fits-last}
+use Rattle.lent_check.specs.laws.Claims.{fits-last}
 use native.Mathlib.Omega.{arith}
 use Prim.Native.Nat.{ℕ, _-_, _+_, _%_}
 use Rattle.lent_check.proofs.rows.fits.Statement.{statement}

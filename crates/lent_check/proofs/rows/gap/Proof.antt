@@ -1,11 +1,10 @@
-use mathlib.Core.Path.{_≡_, _∙_, ap, sym}
-use Prim.Native.Nat.{ℕ, _+_}
 use borrow.Author.Tests.{eq-eqb, ne-eqb}
 use lib.Dec.{ltb}
 use native.Mathlib.Omega.{arith}
 use borrow.Author.Needs.{needs}
 use Rattle.lent_check.specs.laws.Flaws.{flagOf}
-use Rattle.lent_check.specs.laws.TwoSteps.{oneBlock, gapOf}
+use Rattle.lent_check.specs.laws.Sorts.{oneBlock}
+use Rattle.lent_check.specs.laws.Steps.{gapOf}
 use Rattle.lent_check.proofs.rows.gap.Statement.{statement}
 use Rattle.lent_check.proofs.rows.gap.Tie as tie
 
@@ -18,14 +17,14 @@ within-requires-2 c κs = search needs
 add-one : tie.Need-add-one
 add-one c = search needs
 
-below-requires : tie.Need-below-requires
-below-requires c κs = search needs
+covered-requires : tie.Need-covered-requires
+covered-requires c κs = search needs
 
 returns : tie.Need-returns
 unfolding gapOf oneBlock
 returns c =
     let a = c .before .before .before .before .args in
-    (rw (eq-eqb (flagOf (ltb (a .y) (a .u))) (oneBlock (a .kind)) (omega (arith, c .before .below .ensures, c .before .before .before .within .ensures .0, c .before .before .within2 .ensures .0, c .if1 .taken))), omega arith)
+    rw (eq-eqb (flagOf (ltb 0 (a .v))) (oneBlock (a .kind)) (omega (arith, c .before .covered .ensures, c .before .before .before .within .ensures .0, c .before .before .within2 .ensures .0, c .if1 .taken)))
 
 returns-2 : tie.Need-returns-2
 unfolding gapOf oneBlock
@@ -34,8 +33,8 @@ returns-2 c =
     let l = c .if1 .left in
     let w = c .before .before .before .within .ensures .0 in
     let v = c .before .before .within2 .ensures .0 in
-    let b = c .before .below .ensures in
-    (rw (ne-eqb (flagOf (ltb (a .y) (a .u))) (oneBlock (a .kind)) (λ e. omega arith)), omega arith)
+    let b = c .before .covered .ensures in
+    rw (ne-eqb (flagOf (ltb 0 (a .v))) (oneBlock (a .kind)) (λ e. omega arith))
 
 pub gap-spec : {M : Type 1} → statement M
-gap-spec = tie.close (tie.spec within-requires within-requires-2 add-one below-requires returns returns-2)
+gap-spec = tie.close (tie.spec within-requires within-requires-2 add-one covered-requires returns returns-2)

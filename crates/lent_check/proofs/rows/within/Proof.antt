@@ -1,6 +1,6 @@
 use borrow.Author.Tests.{le-leb, lt-leb}
 use native.Mathlib.Omega.{arith}
-use Rattle.lent_check.specs.laws.TwoSteps.{withinOf}
+use Rattle.lent_check.specs.laws.Sorts.{withinOf}
 use Rattle.lent_check.proofs.rows.within.Statement.{statement}
 use Rattle.lent_check.proofs.rows.within.Tie as tie
 

@@ -5,12 +5,6 @@ use native.Mathlib.Omega.{arith}
 use Rattle.lent_cut.proofs.cut.has_group.Statement.{statement}
 use Rattle.lent_cut.proofs.cut.has_group.Tie as tie
 
-groups-along-requires : tie.Need-groups-along-requires
-groups-along-requires c κs = search needs
-
-groups-along-requires-2 : tie.Need-groups-along-requires-2
-groups-along-requires-2 c κs = search needs
-
 mul-result : tie.Need-mul-result
 mul-result c =
     let a = c .before .groups-along .ensures in
@@ -24,4 +18,4 @@ returns c = rw (c .before .groups-along .ensures, c .groups-along2 .ensures)
 
 pub has-group-spec : {M : Type 1} → statement M
 has-group-spec =
-    tie.close (tie.spec groups-along-requires groups-along-requires-2 mul-result returns)
+    tie.close (tie.spec (λ c κs. search needs) (λ c κs. search needs) mul-result returns)

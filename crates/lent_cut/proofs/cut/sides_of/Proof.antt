@@ -37,10 +37,4 @@ returns c = rw (c .before .blocks-along .ensures, c .blocks-along2 .ensures, c .
 
 pub sides-of-spec : {M : Type 1} → statement M
 sides-of-spec =
-    tie.close
-    (tie.spec
-    group-x-requires
-    group-y-requires
-    blocks-along-requires
-    blocks-along-requires-2
-    returns)
+    tie.close (tie.spec group-x-requires group-y-requires blocks-along-requires blocks-along-requires-2 returns)

@@ -44,15 +44,5 @@ returns-2 c =
 
 pub put-block-spec : {M : Type 1} → statement M
 put-block-spec =
-    tie.close
-    (tie.spec
-    mul-i
-    add-i
-    shared-slice-read-kind
-    returns
-    (λ c κs. search needs)
-    mul-put-varblock
-    shared-slice-read-put-varblock
-    (λ c κs. search needs)
-    (λ c. search needs)
-    returns-2)
+    tie.close (tie.spec mul-i add-i shared-slice-read-kind returns (λ c κs. search needs) mul-put-varblock
+    shared-slice-read-put-varblock (λ c κs. search needs) (λ c. search needs) returns-2)

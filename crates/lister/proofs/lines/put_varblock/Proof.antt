@@ -8,11 +8,5 @@ returns c = (puts-then _ _ _ _ _ _ _ _ (c .before .before .before .before .befor
 
 pub put-varblock-spec : {M : Type 1} → statement M
 put-varblock-spec =
-    tie.close
-    (tie.spec
-    (λ c κs. search needs)
-    (λ c κs. search needs)
-    (λ c κs. search needs)
-    (λ c κs. search needs)
-    (λ c. search needs)
-    returns)
+    tie.close (tie.spec (λ c κs. search needs) (λ c κs. search needs) (λ c κs. search needs) (λ c κs. search needs)
+    (λ c. search needs) returns)

@@ -38,5 +38,5 @@ returns-2 c =
 
 pub behind-one-spec : {M : Type 1} → statement M
 behind-one-spec =
-    tie.close (tie.spec (λ c κs. search needs) (λ c κs. search needs) returns add-result (λ c κs. search needs) add-result-2
-    returns-2)
+    tie.close (tie.spec (λ c κs. search needs) (λ c κs. search needs) returns add-result (λ c κs. search needs)
+    add-result-2 returns-2)

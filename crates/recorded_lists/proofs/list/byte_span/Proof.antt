@@ -49,5 +49,5 @@ returns-3 c =
 
 pub byte-span-spec : {M : Type 1} → statement M
 byte-span-spec =
-    tie.close (tie.spec (λ c κs. search needs) returns (λ c κs. search needs) (λ c κs. search needs) add-start mul-start
-    sub-if2 returns-2 add-t7 returns-3)
+    tie.close (tie.spec (λ c κs. search needs) returns (λ c κs. search needs) (λ c κs. search needs) add-start
+    mul-start sub-if2 returns-2 add-t7 returns-3)

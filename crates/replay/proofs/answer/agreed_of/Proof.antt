@@ -10,6 +10,6 @@ slice-aggregate-agreeing c = simp length-take (omega arith)
 
 pub agreed-of-spec : {M : Type 1} → statement M
 agreed-of-spec =
-    tie.close (tie.spec (λ c. search needs) (λ c. search needs) (λ c. search needs) (λ c. search needs) (λ c. search needs)
-    (λ c. search needs) (λ c. search needs) slice-aggregate-agreeing (λ c κs. search needs)
+    tie.close (tie.spec (λ c. search needs) (λ c. search needs) (λ c. search needs) (λ c. search needs)
+    (λ c. search needs) (λ c. search needs) (λ c. search needs) slice-aggregate-agreeing (λ c κs. search needs)
     (λ c. search needs))

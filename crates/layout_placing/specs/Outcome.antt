@@ -2,7 +2,7 @@
 use mathlib.Core.List.{List}
 use Prim.Native.Nat.{ℕ}
 use Rattle.refusal.specs.Answer.{Answer, gives, refuses}
-use Rattle.layout_reading.specs.Reading.{Job, Placing, Going, Stopped, zeros}
+use Rattle.layout_placing.specs.Reading.{Job, Placing, Going, Stopped, zeros}
 
 -- the number of columns used, or a refusal
 pub record Outcome : Type 0 where

@@ -15,7 +15,7 @@ use Rattle.layout_filter.specs.declared.Filter.{Filter}
 use Rattle.layout_filter.specs.declared.ScaledFilter.{ScaledFilter}
 use Rattle.layout_filter.specs.Strength.{scaledBy, dividedBy}
 use Rattle.layout_column.specs.Columns.{lowEight, hfMulOf, columnChecks}
-use Rattle.layout_reading.specs.Scan.{Scan, Taking, Left, scan}
+use Rattle.layout_placing.specs.Scan.{Scan, Taking, Left, scan}
 
 -- what is read: a grid of bw x bh blocks, columns, a sharpness number per block, the filter with its multiplier × 65536 / scale,
 -- and the look-up numbers
