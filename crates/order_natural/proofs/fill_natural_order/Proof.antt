@@ -4,9 +4,6 @@ use native.Mathlib.Omega.{arith}
 use Rattle.order_natural.proofs.fill_natural_order.Statement.{statement}
 use Rattle.order_natural.proofs.fill_natural_order.Tie as tie
 
-returns : tie.Need-returns
-returns c = let a = c .before .before .args in no-order (a .list .now) (a .order) (c .if1 .taken)
-
 mul-if2 : tie.Need-mul-if2
 mul-if2 c = let a = c .before .before .before .args in let s = sided (a .order) (c .block-size .result) (c .block-size .ensures) (omega arith) in omega (arith, s .small)
 
@@ -33,5 +30,5 @@ returns-3 c =
 
 pub fill-natural-order-spec : {M : Type 1} → statement M
 fill-natural-order-spec =
-    tie.close (tie.spec returns (λ c κs. search needs) mul-if2 mul-if2-2 returns-2 put-natural-requires (λ c. search needs)
+    tie.close (tie.spec (λ c. let a = c .before .before .args in no-order (a .list .now) (a .order) (c .if1 .taken)) (λ c κs. search needs) mul-if2 mul-if2-2 returns-2 put-natural-requires (λ c. search needs)
     returns-3)

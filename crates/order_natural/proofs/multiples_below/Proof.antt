@@ -5,9 +5,6 @@ use Prim.Native.Nat.{_-_}
 use Rattle.order_natural.proofs.multiples_below.Statement.{statement}
 use Rattle.order_natural.proofs.multiples_below.Tie as tie
 
-returns : tie.Need-returns
-returns c = c .quotient .ensures ∙ multiples-div (c .before .args .s) (c .before .pre .0) (c .before .args .u)
-
 pub multiples-below-spec : {M : Type 1} → statement M
 multiples-below-spec =
-    tie.close (tie.spec (λ c. search needs) (λ c. search needs) (λ c κs. search needs) returns)
+    tie.close (tie.spec (λ c. search needs) (λ c. search needs) (λ c κs. search needs) (λ c. c .quotient .ensures ∙ multiples-div (c .before .args .s) (c .before .pre .0) (c .before .args .u)))

@@ -30,24 +30,12 @@ returns c =
     let z : a .n - 0 ≡ a .n = omega arith in
     (omega arith, rw (rw z at (downs-end (a .t) (a .s) (a .n) (a .end) 0 (omega arith))))
 
-mul-x : tie.Need-mul-x Inv-loop μ-loop
-mul-x c = let q = c .before .before .pre .3 (c .before .before .args .end - 1) (omega arith) in omega arith
-
-sub-x : tie.Need-sub-x Inv-loop μ-loop
-sub-x c = let q = c .before .before .pre .3 (c .before .before .args .end - 1) (omega arith) in omega arith
-
 loop-holds : tie.Need-loop-holds Inv-loop μ-loop
 loop-holds c =
     let a = c .before .before .args in
     let z : a .n - 0 ≡ a .n = omega arith in
     let y : a .end - 0 ≡ a .end = omega arith in
     (omega arith, omega arith, refl, rw (z, y), λ h. omega arith, λ h. refl)
-
-slice-write-list : tie.Need-slice-write-list Inv-loop μ-loop
-slice-write-list c = omega (arith, c .before .before .before .before .pre .0, c .before .loop .inv .2)
-
-slice-write-list-2 : tie.Need-slice-write-list-2 Inv-loop μ-loop
-slice-write-list-2 c = simp length-set (omega (arith, c .before .before .before .before .pre .0, c .before .loop .inv .2))
 
 loop-again : tie.Need-loop-again Inv-loop μ-loop
 loop-again c =
@@ -80,7 +68,7 @@ returns-2 c =
 
 pub put-down-spec : {M : Type 1} → statement M
 put-down-spec =
-    tie.close (tie.spec Inv-loop μ-loop returns (λ c. search needs) mul-x sub-x loop-holds (λ c. search needs)
-    slice-write-list (λ c. search needs) (λ c. search needs) slice-write-list-2 (λ c. search needs)
+    tie.close (tie.spec Inv-loop μ-loop returns (λ c. search needs) (λ c. let q = c .before .before .pre .3 (c .before .before .args .end - 1) (omega arith) in omega arith) (λ c. let q = c .before .before .pre .3 (c .before .before .args .end - 1) (omega arith) in omega arith) loop-holds (λ c. search needs)
+    (λ c. omega (arith, c .before .before .before .before .pre .0, c .before .loop .inv .2)) (λ c. search needs) (λ c. search needs) (λ c. simp length-set (omega (arith, c .before .before .before .before .pre .0, c .before .loop .inv .2))) (λ c. search needs)
     (λ c κs. search needs) (λ c κs. search needs) (λ c. search needs) (λ c. search needs) loop-again
     (λ c. search needs) returns-2)

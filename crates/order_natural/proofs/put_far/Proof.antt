@@ -14,12 +14,6 @@ rows c =
     let a = c .before .before .before .before .args in
     slant (a .w) (a .s) (a .b) (a .dist) (c .before .before .margin .result) (c .before .multiples-below .result) (c .multiples-below2 .result) (c .before .before .before .before .pre .0) (c .before .before .before .before .pre .3) (c .before .before .before .before .pre .5) (c .before .before .before .before .pre .2) (c .before .before .margin .ensures) (c .before .multiples-below .ensures) (c .multiples-below2 .ensures)
 
-sub-n : tie.Need-sub-n
-sub-n c = omega (arith, rows c .few)
-
-cast-put-up-2 : tie.Need-cast-put-up-2
-cast-put-up-2 c = let k = rows (c .before .before) in omega (arith, k .few, k .most)
-
 put-up-requires : tie.Need-put-up-requires
 put-up-requires c κs = let k = rows (c .before .before) in (omega (arith, c .before .before .before .before .before .before .pre .6, k .long), omega (arith, k .few, k .most), λ q h. k .rows q (omega (arith, k .few)))
 
@@ -27,9 +21,6 @@ returns : tie.Need-returns
 returns c =
     let k = rows (c .before .before .before .before .before) in
     (omega (arith, c .before .before .put-up .ensures .0, k .long), c .before .before .put-up .ensures .1 ∙ ap (λ (l : List ℕ). sets (c .before .before .before .before .before .before .before .before .before .args .list .now) (c .before .before .before .before .before .before .before .before .before .args .start) l) (sym (k .up (λ h. omega (arith, h, c .before .before .before .before .if1 .taken)))))
-
-cast-put-down-2 : tie.Need-cast-put-down-2
-cast-put-down-2 c = omega (arith, rows (c .before .before) .most)
 
 put-down-requires : tie.Need-put-down-requires
 put-down-requires c κs = let k = rows (c .before .before) in (omega (arith, c .before .before .before .before .before .before .pre .6, k .long), omega arith, omega (arith, k .most), k .rows)
@@ -42,5 +33,5 @@ returns-2 c =
 pub put-far-spec : {M : Type 1} → statement M
 put-far-spec =
     tie.close (tie.spec (λ c κs. search needs) (λ c κs. search needs) (λ c. search needs) (λ c κs. search needs) (λ c. search needs)
-    (λ c. search needs) sub-n (λ c. search needs) cast-put-up-2 put-up-requires (λ c. search needs) returns
-    (λ c. search needs) cast-put-down-2 put-down-requires (λ c. search needs) returns-2)
+    (λ c. search needs) (λ c. omega (arith, rows c .few)) (λ c. search needs) (λ c. let k = rows (c .before .before) in omega (arith, k .few, k .most)) put-up-requires (λ c. search needs) returns
+    (λ c. search needs) (λ c. omega (arith, rows (c .before .before) .most)) put-down-requires (λ c. search needs) returns-2)

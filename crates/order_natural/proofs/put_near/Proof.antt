@@ -16,17 +16,8 @@ rows c =
     let a = c .before .before .before .before .args in
     near-at (a .w) (a .s) (a .dist) (c .before .before .multiples-below .result) (c .before .multiples-below2 .result) (c .multiples-below3 .result) (c .before .before .before .before .pre .0) (c .before .before .before .before .pre .2) (c .before .before .before .before .pre .3) (c .before .before .multiples-below .ensures) (c .before .multiples-below2 .ensures) (c .multiples-below3 .ensures)
 
-sub-n : tie.Need-sub-n
-sub-n c = omega (arith, rows c .few)
-
-cast-put-down : tie.Need-cast-put-down
-cast-put-down c = omega (arith, rows (c .before .before) .most)
-
 put-down-requires : tie.Need-put-down-requires
 put-down-requires c κs = let k = rows (c .before .before) in (omega (arith, c .before .before .before .before .before .before .pre .5, k .long), omega arith, omega (arith, k .most), k .rows)
-
-cast-put-down-2 : tie.Need-cast-put-down-2
-cast-put-down-2 c = omega (arith, rows (c .before .before .before .before .before .before) .less)
 
 put-down-requires-2 : tie.Need-put-down-requires-2
 put-down-requires-2 c κs =
@@ -48,9 +39,6 @@ returns c =
 put-up-requires : tie.Need-put-up-requires
 put-up-requires c κs = let k = rows (c .before .before) in (omega (arith, c .before .before .before .before .before .before .pre .5, k .long), omega (arith, k .less), λ q h. k .rows-left q (omega arith))
 
-cast-put-up : tie.Need-cast-put-up
-cast-put-up c = let k = rows (c .before .before .before .before .before .before) in omega (arith, k .few, k .most)
-
 put-up-requires-2 : tie.Need-put-up-requires-2
 put-up-requires-2 c κs =
     let k = rows (c .before .before .before .before .before .before) in
@@ -70,6 +58,6 @@ returns-2 c =
 pub put-near-spec : {M : Type 1} → statement M
 put-near-spec =
     tie.close (tie.spec (λ c. search needs) (λ c κs. search needs) (λ c κs. search needs) (λ c κs. search needs) (λ c. search needs)
-    (λ c. search needs) (λ c. search needs) sub-n cast-put-down put-down-requires cast-put-down-2
-    put-down-requires-2 (λ c. search needs) returns put-up-requires cast-put-up put-up-requires-2
+    (λ c. search needs) (λ c. search needs) (λ c. omega (arith, rows c .few)) (λ c. omega (arith, rows (c .before .before) .most)) put-down-requires (λ c. omega (arith, rows (c .before .before .before .before .before .before) .less))
+    put-down-requires-2 (λ c. search needs) returns put-up-requires (λ c. let k = rows (c .before .before .before .before .before .before) in omega (arith, k .few, k .most)) put-up-requires-2
     (λ c. search needs) returns-2)

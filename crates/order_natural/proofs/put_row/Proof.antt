@@ -20,9 +20,6 @@ Inv-loop list₀ start w y at₀ x₀ list at x =
 abbrev μ-loop : tie.MeasureT-loop
 μ-loop list₀ start w y at₀ x₀ list at x = w - x
 
-loop-holds : tie.Need-loop-holds Inv-loop μ-loop
-loop-holds c = (omega arith, refl, refl, refl)
-
 slice-write-list : tie.Need-slice-write-list Inv-loop μ-loop
 slice-write-list c =
     let a = c .before .before .args in
@@ -61,6 +58,6 @@ returns c =
 
 pub put-row-spec : {M : Type 1} → statement M
 put-row-spec =
-    tie.close (tie.spec Inv-loop μ-loop loop-holds (λ c. search needs) (λ c. search needs) slice-write-list
+    tie.close (tie.spec Inv-loop μ-loop (λ c. (omega arith, refl, refl, refl)) (λ c. search needs) (λ c. search needs) slice-write-list
     (λ c. search needs) (λ c. search needs) (λ c. search needs) slice-write-list-2 (λ c. search needs)
     (λ c. search needs) (λ c. search needs) loop-again (λ c. search needs) returns)

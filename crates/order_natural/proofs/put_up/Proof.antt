@@ -30,20 +30,8 @@ returns c =
     let z : a .n - 0 ≡ a .n = omega arith in
     (omega arith, rw (rw z at (ups-end (a .t) (a .s) (a .n) (a .first) 0 (omega arith))))
 
-mul-x : tie.Need-mul-x Inv-loop μ-loop
-mul-x c = let q = c .before .before .pre .2 (c .before .before .args .first) (omega arith) in omega arith
-
-sub-x : tie.Need-sub-x Inv-loop μ-loop
-sub-x c = let q = c .before .before .pre .2 (c .before .before .args .first) (omega arith) in omega arith
-
 loop-holds : tie.Need-loop-holds Inv-loop μ-loop
 loop-holds c = let z : c .before .before .args .n - 0 ≡ c .before .before .args .n = omega arith in (omega arith, omega arith, omega arith, refl, rw z, λ h. refl)
-
-slice-write-list : tie.Need-slice-write-list Inv-loop μ-loop
-slice-write-list c = omega (arith, c .before .before .before .before .pre .0, c .before .loop .inv .3)
-
-slice-write-list-2 : tie.Need-slice-write-list-2 Inv-loop μ-loop
-slice-write-list-2 c = simp length-set (omega (arith, c .before .before .before .before .pre .0, c .before .loop .inv .3))
 
 loop-again : tie.Need-loop-again Inv-loop μ-loop
 loop-again c =
@@ -71,7 +59,7 @@ returns-2 c =
 
 pub put-up-spec : {M : Type 1} → statement M
 put-up-spec =
-    tie.close (tie.spec Inv-loop μ-loop returns mul-x sub-x loop-holds (λ c. search needs) slice-write-list
-    (λ c. search needs) (λ c. search needs) slice-write-list-2 (λ c. search needs) (λ c. search needs)
+    tie.close (tie.spec Inv-loop μ-loop returns (λ c. let q = c .before .before .pre .2 (c .before .before .args .first) (omega arith) in omega arith) (λ c. let q = c .before .before .pre .2 (c .before .before .args .first) (omega arith) in omega arith) loop-holds (λ c. search needs) (λ c. omega (arith, c .before .before .before .before .pre .0, c .before .loop .inv .3))
+    (λ c. search needs) (λ c. search needs) (λ c. simp length-set (omega (arith, c .before .before .before .before .pre .0, c .before .loop .inv .3))) (λ c. search needs) (λ c. search needs)
     (λ c κs. search needs) (λ c. search needs) (λ c. search needs) loop-again (λ c. search needs)
     returns-2)
