@@ -11,7 +11,7 @@ use Rattle.coded_numbers.specs.Exponent.{exponent}
 use Rattle.coeff_call.specs.declared.CoeffAnswer.{CoeffAnswer}
 use Rattle.coeff_call.specs.declared.CoeffAnswer.the-variants.{Accepted, Refused}
 use Rattle.coeff_group.specs.Pass.{Pass}
-use Rattle.coeff_group.specs.Group.{Grids, Reading, going, refused, leftOf}
+use Rattle.coeff_group.specs.Group.{PerChannel, Reading, going, refused, leftOf}
 use Rattle.coeff_group.specs.Work.{presetMapOf, readingBy}
 use Rattle.coeff_checks.specs.Checks as checks
 use Rattle.coeff_preset.specs.Preset.{presetOf}
@@ -26,7 +26,7 @@ pub record Lent : Type 0 where
   pub bytes : List ℕ
   pub symbols : List ℕ
   pub log : List ℕ
-  pub grids : Grids
+  pub grids : PerChannel
 
 abbrev pub lent : Pass → (presets : ℕ) (clusterMap : List ℕ) (shift : ℕ) (bytes symbols log g0 g1 g2 : List ℕ) → Lent
 lent pass presets clusterMap shift bytes symbols log g0 g1 g2 =
@@ -50,7 +50,7 @@ answered (Refused why) = refuses (said why)
 pub record Outcome : Type 0 where
   pub answer : Answer ℕ
   pub log : List ℕ
-  pub grids : Grids
+  pub grids : PerChannel
 
 abbrev pub leaves : CoeffAnswer → (log g0 g1 g2 : List ℕ) → Outcome
 leaves r log g0 g1 g2 = record { answer = answered r; log = log; grids = g0 ∷ g1 ∷ g2 ∷ [] }

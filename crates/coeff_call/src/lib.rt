@@ -38,7 +38,7 @@ fn answer(walk: WalkEnd) -> CoeffAnswer
 }
 
 // The part of a preset in the cluster map.
-fn part_of(cluster_map: &[u8], clusters: u32, preset: u32) -> &[u8]
+fn preset_map_of(cluster_map: &[u8], clusters: u32, preset: u32) -> &[u8]
     requires { ⌜ (clusters ≤ 16) × (preset < 256) × (495 * clusters * preset + 495 * clusters ≤ length (now «cluster_map»)) ⌝ }
     ensures { λ r. ⌜ now r ≡ take (495 * clusters) (drop (495 * clusters * preset) (now («cluster_map» .entry))) ⌝ }
 {
@@ -105,7 +105,7 @@ pub fn write_hf_coeff<'a>(
             lf1,
             lf2,
             store,
-            part_of(cluster_map, contexts.num_block_clusters, preset),
+            preset_map_of(cluster_map, contexts.num_block_clusters, preset),
             shift,
             symbols,
             log,

@@ -1,4 +1,4 @@
-// One varblock of a group: read, and its counts put into the rows.
+// One varblock of a group: read, and its counts over blocks put into the rows.
 use crate::rows::rewrite;
 use coeff_group::plan::Plan;
 use coeff_varblock::read_varblock;
@@ -13,7 +13,7 @@ ghost use Rattle.coeff_group.specs.Group.{going, readItems};
 ghost use Rattle.coeff_group.specs.laws.Steps.{Shown};
 ghost use Rattle.coeff_group.specs.laws.Plans.{itemsBy, Planned};
 
-// `preset_map` is the preset's part of the cluster map, `at` the symbols read.
+// `at` is how many symbols are read.
 pub(crate) fn step_varblock<'a>(
     plan: Plan,
     group: Group,
@@ -51,7 +51,7 @@ pub(crate) fn step_varblock<'a>(
     if is_stopped(walk) {
         return walk;
     }
-    // Each channel's count goes into its row, in the order of the walk.
+    // What each channel's count comes to goes into its row, in the order of the walk.
     rewrite(
         &mut rows[1],
         plan.shape.x,

@@ -5,7 +5,7 @@ use order_store::NUMBERS;
 use refusal::Checked;
 ghost use mathlib.Core.Path.{_≡_};
 ghost use Rattle.coeff_checks.specs.Checks.{parametersFit, threeFit};
-ghost use Rattle.coeff_checks.specs.laws.Tests.{lfLengthsFit, readFit, writtenFit, groupPasses};
+ghost use Rattle.coeff_checks.specs.laws.Tests.{lfLengthsFit, readFit, otherLengthsFit, groupPasses};
 
 pub(crate) fn parameters_fit(shift: u32, presets: u32) -> bool
     ensures { λ r. ⌜ r ≡ parametersFit shift presets ⌝ }
@@ -30,7 +30,7 @@ fn three_fit(a: usize, b: usize, c: usize, n: usize) -> bool
 }
 
 // LF grids are asked for their lengths only if there are any.
-fn lf_fits(there: bool, lf0: usize, lf1: usize, lf2: usize, n: usize) -> bool
+fn lf_lengths_fit(there: bool, lf0: usize, lf1: usize, lf2: usize, n: usize) -> bool
     ensures { λ r. ⌜ r ≡ lfLengthsFit there lf0 lf1 lf2 n ⌝ }
 {
     if !there {
@@ -58,14 +58,14 @@ pub(crate) fn read_fit(
     if hf_mul != n {
         return false;
     }
-    if !lf_fits(there, lf0, lf1, lf2, n) {
+    if !lf_lengths_fit(there, lf0, lf1, lf2, n) {
         return false;
     }
     store == NUMBERS
 }
 
-// Lengths of the cluster map, the three grids and the log, once limits and the other lengths fit.
-pub(crate) fn written_fit(
+// The other lengths: of the cluster map, the three grids and the log, once limits and `read_fits` hold.
+pub(crate) fn other_lengths_fit(
     clusters: usize,
     presets: usize,
     cluster_map: usize,
@@ -74,9 +74,9 @@ pub(crate) fn written_fit(
     g2: usize,
     log: usize,
     n: usize,
-    first: bool,
+    read_fits: bool,
 ) -> bool
-    ensures { λ r. ⌜ r ≡ writtenFit clusters presets «cluster_map» g0 g1 g2 log n first ⌝ }
+    ensures { λ r. ⌜ r ≡ otherLengthsFit clusters presets «cluster_map» g0 g1 g2 log n «read_fits» ⌝ }
 {
     if 16 < clusters {
         return false;
@@ -87,7 +87,7 @@ pub(crate) fn written_fit(
     if 1024 < n {
         return false;
     }
-    if !first {
+    if !read_fits {
         return false;
     }
     let bytes = 495 * clusters * presets;
@@ -101,7 +101,7 @@ pub(crate) fn written_fit(
 }
 
 // The check of a group lets it pass.
-pub(crate) fn layout_fits(group: Group, kinds: &[u8], hf_mul: &[u32]) -> bool
+pub(crate) fn group_passes(group: Group, kinds: &[u8], hf_mul: &[u32]) -> bool
     ensures { λ r. ⌜ r ≡ groupPasses (group .bw) (group .bh) (now (kinds .entry)) (now («hf_mul» .entry)) ⌝ }
 {
     let checked = check_group(group, kinds, hf_mul);

@@ -1,8 +1,8 @@
 // What the coefficient call looks at before work: sides, parameters, contexts, lengths, layout and stored places.
-use crate::checks::layout_fits;
+use crate::checks::group_passes;
+use crate::checks::other_lengths_fit;
 use crate::checks::parameters_fit;
 use crate::checks::read_fit;
-use crate::checks::written_fit;
 use context_record::HfBlockContext;
 use context_record::fit::is_fit;
 use lent_check::Group;
@@ -63,7 +63,7 @@ pub fn before_work<'a>(
         store.len(),
         n,
     );
-    if !written_fit(
+    if !other_lengths_fit(
         clusters,
         presets as usize,
         cluster_map,
@@ -76,7 +76,7 @@ pub fn before_work<'a>(
     ) {
         return Checked::Refused(Refusal::Length);
     }
-    if !layout_fits(group, kinds, hf_mul) {
+    if !group_passes(group, kinds, hf_mul) {
         return Checked::Refused(Refusal::Layout);
     }
     if !places_fit(store) {

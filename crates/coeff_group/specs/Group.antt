@@ -9,20 +9,20 @@ use Rattle.coeff_walk.specs.Item.{Item, newRow, counted}
 use Rattle.coeff_group.specs.Pass.{Pass, channels}
 
 -- a list for each of the channels 0, 1, 2
-abbrev pub Grids : Type 0
-Grids = List (List ℕ)
+abbrev pub PerChannel : Type 0
+PerChannel = List (List ℕ)
 
 -- rows of counts before the first varblock: 32 numbers each, of which a group looks at as many as it is wide
-abbrev pub zeroRows : Grids
+abbrev pub zeroRows : PerChannel
 zeroRows = replicate 32 0 ∷ replicate 32 0 ∷ replicate 32 0 ∷ []
 
 -- going: symbols left, symbols read, log, grids, rows of counts, counts left over so far
 pub data Reading : Type 0 where
-  going : (us : List ℕ) (at : ℕ) (log : List ℕ) (grids rows : Grids) (left : ℕ) → Reading
-  refused : (why : ℕ → Refusal) (at : ℕ) (log : List ℕ) (grids : Grids) → Reading
+  going : (us : List ℕ) (at : ℕ) (log : List ℕ) (grids rows : PerChannel) (left : ℕ) → Reading
+  refused : (why : ℕ → Refusal) (at : ℕ) (log : List ℕ) (grids : PerChannel) → Reading
 
 -- a channel c that was walked
-abbrev pub after : ℕ → Grids → Grids → ℕ → Walked → Reading
+abbrev pub after : ℕ → PerChannel → PerChannel → ℕ → Walked → Reading
 after c grids rows left (done us at log g n) = going us at log (set grids c g) rows (left + n)
 after c grids rows left (stopped why at log g) = refused why at log (set grids c g)
 

@@ -6,14 +6,14 @@ use Rattle.coded_numbers.specs.Signed.{symbol}
 use Rattle.coeff_walk.specs.Item.{Item}
 use Rattle.coeff_walk.specs.Sent.{nonZeros, upTo}
 use Rattle.coeff_group.specs.Pass.{Pass, varblocks, itemsOf}
-use Rattle.coeff_group.specs.Group.{Grids}
+use Rattle.coeff_group.specs.Group.{PerChannel}
 
 -- a channel, and a cell of its grid
 abbrev pub GridCell : Type 0
 GridCell = ℕ × ℕ
 
 -- cell p of channel c
-abbrev pub cell : Grids → ℕ → ℕ → ℕ
+abbrev pub cell : PerChannel → ℕ → ℕ → ℕ
 cell G c p = getD (getD G c []) p 0
 
 -- the cells at which symbols are read, item by item
@@ -27,9 +27,9 @@ sent [] = []
 sent (ds ∷ dss) = nonZeros ds ∷ (upTo (nonZeros ds) ds ++ sent dss)
 
 -- the symbols that make W of the grids G at an item's cells
-abbrev pub changes : Grids → Grids → Item → List ℕ
+abbrev pub changes : PerChannel → PerChannel → Item → List ℕ
 changes G W it = map (λ (p : ℕ). symbol (cell W (it .channel) p) (cell G (it .channel) p)) (it .cells)
 
 -- the sequence that makes W of the grids G of a group
-unfoldable pub theSequence : Pass → Grids → Grids → List ℕ
+unfoldable pub theSequence : Pass → PerChannel → PerChannel → List ℕ
 theSequence P G W = sent (map (changes G W) (itemsOf P (varblocks P)))

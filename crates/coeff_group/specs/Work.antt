@@ -3,7 +3,7 @@ use mathlib.Core.List.{List}
 use Prim.Native.Nat.{ℕ, _*_}
 use lib.ListN.{take, drop}
 use Rattle.coeff_group.specs.Pass.{Pass, varblocks}
-use Rattle.coeff_group.specs.Group.{Grids, zeroRows, Reading, going, readGroup}
+use Rattle.coeff_group.specs.Group.{PerChannel, zeroRows, Reading, going, readGroup}
 
 abbrev pub clustersOf : Pass → ℕ
 clustersOf P = P .contexts .«num_block_clusters»
@@ -12,5 +12,5 @@ clustersOf P = P .contexts .«num_block_clusters»
 abbrev pub presetMapOf : Pass → List ℕ → ℕ → List ℕ
 presetMapOf P clusterMap n = take (495 * clustersOf P) (drop (495 * clustersOf P * n) clusterMap)
 
-abbrev pub readingBy : Pass → (clusterMap : List ℕ) (shift : ℕ) (symbols log : List ℕ) → Grids → ℕ → Reading
+abbrev pub readingBy : Pass → (clusterMap : List ℕ) (shift : ℕ) (symbols log : List ℕ) → PerChannel → ℕ → Reading
 readingBy P clusterMap shift symbols log G n = readGroup shift (clustersOf P) (presetMapOf P clusterMap n) P (varblocks P) (going symbols 0 log G zeroRows 0)

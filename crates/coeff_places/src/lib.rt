@@ -3,7 +3,7 @@ use crate::context::COEFF_FREQ_CONTEXT;
 use crate::context::COEFF_NUM_NONZERO_CONTEXT;
 use crate::walk::walk_places;
 use coeff_walk::WalkEnd;
-use coeff_walk::place::Spot;
+use coeff_walk::spot::Spot;
 use refusal::Refusal;
 
 pub mod context;

@@ -1,5 +1,5 @@
-// The cells of an order's places (`hf_coeff.rs`).
-use coeff_walk::place::Spot;
+// The cells of a list's places (`hf_coeff.rs`).
+use coeff_walk::spot::Spot;
 ghost use mathlib.Core.Path.{_≡_};
 ghost use Prim.Native.Nat.{_/_, _≤_, _<_};
 ghost use lib.ListN.{length, getD};

@@ -1,11 +1,11 @@
 // The walk over the places of one channel of a varblock (`hf_coeff.rs`).
 use crate::context::coeff_context;
-use crate::context::count_entry;
-use crate::context::place_entry;
+use crate::context::frequency_entry;
+use crate::context::nonzeros_entry;
 use crate::place::cell;
 use coded_numbers::unpack_signed;
 use coeff_walk::WalkEnd;
-use coeff_walk::place::Spot;
+use coeff_walk::spot::Spot;
 use refusal::Refusal;
 ghost use mathlib.Core.Path.{_≡_};
 ghost use Prim.Native.Nat.{_+_, _-_, _/_, _*_, _%_, _^_, _≤_, _<_};
@@ -120,7 +120,7 @@ fn pass_zeros(
         if symbols[at] != 0 {
             return k;
         }
-        let y = place_entry(frequencies, exponent, k);
+        let y = frequency_entry(frequencies, exponent, k);
         log[at] = entries[y * 2];
         k += 1;
     }
@@ -209,7 +209,7 @@ fn walk_sparse(
         let u = symbols[at];
         log[at] = coeff_map[context];
         if u == 0 {
-            let entry = 2 * count_entry(nonzeros, spot.exponent, left - 1);
+            let entry = 2 * nonzeros_entry(nonzeros, spot.exponent, left - 1);
             k = zeros_from(
                 frequencies,
                 spot.exponent,

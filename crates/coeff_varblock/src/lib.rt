@@ -215,8 +215,8 @@ fn varblock_fits(
 }
 
 // The three channels of a varblock, 1, 0, 2 in turn: refused where what is lent does not fit. No channel looks at another's
-// row, so the rows are lent for reading alone: whoever holds them rewrites them by the counts. `preset_map` is the preset's
-// part of the cluster map, `at` the symbols read.
+// row, so the rows are lent for reading alone: whoever holds them rewrites them by the counts over blocks. `at` is how
+// many symbols are read.
 pub fn read_varblock<'a>(
     plan: Plan,
     group: Group,

@@ -2,8 +2,8 @@
 // `coeff_places` and `coeff_varblock`.
 use refusal::Refusal;
 
-pub mod place;
 pub mod shape;
+pub mod spot;
 pub mod walked;
 
 // How a reading ended: done, or stopped by a refusal.

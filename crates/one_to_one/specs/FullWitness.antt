@@ -13,7 +13,7 @@ use Rattle.order_naturals.specs.Naturals.{naturals}
 use Rattle.context_record.specs.declared.HfBlockContext.{HfBlockContext}
 use Rattle.context_thresholds.specs.Thresholds.{listsOf}
 use Rattle.context_call.specs.Call as context
-use Rattle.coeff_group.specs.Group.{Grids}
+use Rattle.coeff_group.specs.Group.{PerChannel}
 use Rattle.coeff_group.specs.Pass.{Pass}
 use Rattle.coeff_call.specs.Call.{Lent}
 
@@ -58,7 +58,7 @@ pass = record {
 }
 
 -- channel 0 starts with 5, channel 1 with −1, channel 2 with 0
-abbrev pub start : Grids
+abbrev pub start : PerChannel
 start = replicate 256 5 ∷ replicate 256 4294967295 ∷ replicate 256 0 ∷ []
 
 -- three presets, of which the byte 2 takes the last
@@ -75,5 +75,5 @@ full = record {
 }
 
 -- A filling: in channel 1 cell (1,0) becomes 2 and cell (9,0) −3, in channel 0 cell (8,9) becomes 6, in channel 2 cell (0,2) becomes 7.
-abbrev pub changed : Grids
+abbrev pub changed : PerChannel
 changed = set (replicate 256 5) 152 6 ∷ set (set (replicate 256 4294967295) 1 2) 9 (2 ^ 32 - 3) ∷ set (replicate 256 0) 32 7 ∷ []

@@ -34,7 +34,7 @@ read-group-requires : tie.Need-read-group-requires
 read-group-requires c κs =
     let L = lentAt (c .before .before .before .before .before .before .before .before .before .before .before .before .before .before .before .before .before .before .before .before .before .before .before .before .before) in
     let w = ready (c .before .before .before .before .before) in
-    w .ready _ (ap length (c .before .before .before .before .part-of .ensures) ∙ part-long (L .clusterMap) (495 * clustersOf (L .pass)) (c .before .before .before .before .before .before .chosen2 .given .0 .0) (w .part))
+    w .ready _ (ap length (c .before .before .before .before .preset-map-of .ensures) ∙ part-long (L .clusterMap) (495 * clustersOf (L .pass)) (c .before .before .before .before .before .before .chosen2 .given .0 .0) (w .part))
 
 returns-2 : tie.Need-returns-2
 returns-2 c =
@@ -47,7 +47,7 @@ returns-3 c =
     let n = c .before .before .before .before .before .before .before .before .before .before .before .before .before .before .before .before .chosen2 .given in
     let g = c .before .before .before .before .before .before .before .before .before .read-group in
     let l = g .last .1 .1 .1 .1 .1 .1 .1 .1 .1 .1 .1 .1 in
-    call-done (lentAt (c .before .before .before .before .before .before .before .before .before .before .before .before .before .before .before .before .before .before .before .before .before .before .before .before .before .before .before .before .before .before .before .before .before .before .before)) (passed (c .before .before .before .before .before .before .before .before .before .before .before .before .before .before .before .before .before .before .before)) (c .before .before .before .before .before .before .before .before .before .before .before .before .before .before .before .before .before .before .read-preset .result) (c .before .before .before .before .before .before .before .before .before .before .before .before .before .before .before .before .before .before .read-preset .ensures) (n .0 .0) (n .1) (g .result) (c .answer .result) (l .0) (l .1 .0) (l .1 .1 .0) (l .1 .1 .1 .0) (c .answer .ensures) (rw (c .before .before .before .before .before .before .before .before .before .before .before .before .before .before .part-of .ensures) at (g .ensures))
+    call-done (lentAt (c .before .before .before .before .before .before .before .before .before .before .before .before .before .before .before .before .before .before .before .before .before .before .before .before .before .before .before .before .before .before .before .before .before .before .before)) (passed (c .before .before .before .before .before .before .before .before .before .before .before .before .before .before .before .before .before .before .before)) (c .before .before .before .before .before .before .before .before .before .before .before .before .before .before .before .before .before .before .read-preset .result) (c .before .before .before .before .before .before .before .before .before .before .before .before .before .before .before .before .before .before .read-preset .ensures) (n .0 .0) (n .1) (g .result) (c .answer .result) (l .0) (l .1 .0) (l .1 .1 .0) (l .1 .1 .1 .0) (c .answer .ensures) (rw (c .before .before .before .before .before .before .before .before .before .before .before .before .before .before .preset-map-of .ensures) at (g .ensures))
 
 pub write-hf-coeff-spec : {M : Type 1} → statement M
 write-hf-coeff-spec =

@@ -13,7 +13,7 @@ use Rattle.refusal.specs.Answer.{refuses, passed}
 use Rattle.bits.specs.Bits.{Value, Ended}
 use Rattle.coeff_checks.specs.Checks.{blocks}
 use Rattle.coeff_checks.specs.laws.ChecksLaws as checks
-use Rattle.coeff_group.specs.Group.{Grids}
+use Rattle.coeff_group.specs.Group.{PerChannel}
 use Rattle.coeff_call.specs.Call.{Lent, lengthsFit, beforeWork, Passed, presetBits, reading, outcome, refuse, call}
 
 module _ (L : Lent) where
@@ -53,11 +53,11 @@ module _ (L : Lent) where
     call-reads preset at g h = rw (p, g, lt-ltb preset (L .presets) h)
 
 -- other log and grids
-abbrev pub withOut : Lent → List ℕ → Grids → Lent
+abbrev pub withOut : Lent → List ℕ → PerChannel → Lent
 withOut L log G = record { pass = L .pass; presets = L .presets; clusterMap = L .clusterMap; shift = L .shift; bytes = L .bytes; symbols = L .symbols; log = log; grids = G }
 
 -- the checks look at log and grids only by their lengths
-pub steady : (L : Lent) (log : List ℕ) (G : Grids) → length log ≡ length (L .log)
+pub steady : (L : Lent) (log : List ℕ) (G : PerChannel) → length log ≡ length (L .log)
     → length (getD G 0 []) ≡ length (getD (L .grids) 0 []) → length (getD G 1 []) ≡ length (getD (L .grids) 1 []) → length (getD G 2 []) ≡ length (getD (L .grids) 2 [])
     → beforeWork (withOut L log G) ≡ beforeWork L
 steady L log G l a b c = rw (l, a, b, c)

@@ -19,7 +19,7 @@ use Rattle.bits.specs.Bits.{Read, Value, Ended}
 use Rattle.layout.specs.laws.Theorems.{layout-iff}
 use Rattle.coeff_walk.specs.declared.WalkEnd.{WalkEnd}
 use Rattle.coeff_walk.specs.declared.WalkEnd.the-variants as walk
-use Rattle.coeff_group.specs.Group.{Grids, Reading, going, refused}
+use Rattle.coeff_group.specs.Group.{PerChannel, Reading, going, refused}
 use Rattle.coeff_group.specs.Work.{clustersOf}
 use Rattle.coeff_group.specs.laws.Due.{GroupShown}
 use Rattle.coeff_group.specs.laws.WorkLaws.{WorkReady}
@@ -68,7 +68,7 @@ abbrev pub answerBy : WalkEnd → CoeffAnswer
 answerBy (walk.Done at) = Accepted at
 answerBy (walk.Stopped why) = Refused why
 
-outcome-by : (r : WalkEnd) (log : List ℕ) (G : Grids) (R : Reading) → GroupShown r log G R → record { answer = answered (answerBy r); log = log; grids = G } ≡ outcome R
+outcome-by : (r : WalkEnd) (log : List ℕ) (G : PerChannel) (R : Reading) → GroupShown r log G R → record { answer = answered (answerBy r); log = log; grids = G } ≡ outcome R
 outcome-by r log G (going us at log₁ G₁ rows left) d = rw (d .answer, d .logged, d .cells)
 outcome-by r log G (refused why at log₁ G₁) d = rw (d .answer, d .logged, d .cells)
 

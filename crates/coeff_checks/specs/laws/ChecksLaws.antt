@@ -16,7 +16,7 @@ use Rattle.context_record.specs.laws.Bounds.{is-fit}
 use Rattle.coeff_group.specs.Pass.{Pass}
 use Rattle.coeff_group.specs.Work.{clustersOf}
 use Rattle.coeff_checks.specs.Checks.{blocks, sidesFit, parametersFit, threeFit, lfFits, passFits, lengthsBy, layoutFits, beforeWork, Passed}
-use Rattle.coeff_checks.specs.laws.Tests.{readFit, writtenFit, groupPasses, two, three, four, truth, written-is, passes-is}
+use Rattle.coeff_checks.specs.laws.Tests.{readFit, otherLengthsFit, groupPasses, two, three, four, truth, written-is, passes-is}
 
 pub record Sides (P : Pass) : Type 0 where
   pub someWide : 1 ≤ P .bw
@@ -101,7 +101,7 @@ module _ (P : Pass) (presets shift clusterMap log g0 g1 g2 : ℕ) where
         -- the lengths as the code compares them
         pub lengths-are : (first r : Bool)
             → first ≡ readFit (length (P .kinds)) (length (P .hfMul)) (P .lfThere) (length (P .lf0)) (length (P .lf1)) (length (P .lf2)) (length (P .store)) (blocks P)
-            → r ≡ writtenFit (clustersOf P) presets clusterMap g0 g1 g2 log (blocks P) first
+            → r ≡ otherLengthsFit (clustersOf P) presets clusterMap g0 g1 g2 log (blocks P) first
             → lengthsBy P presets clusterMap log g0 g1 g2 ≡ r
         lengths-are first r e f =
             sym (f

@@ -25,8 +25,8 @@ abbrev pub readFit : (kinds hfMul : ℕ) (there : Bool) (lf0 lf1 lf2 store n : �
 readFit kinds hfMul there lf0 lf1 lf2 store n = eqb kinds n && eqb hfMul n && lfLengthsFit there lf0 lf1 lf2 n && eqb store (2 * PLACES)
 
 -- within the limits that are tested before lengths
-abbrev pub writtenFit : (clusters presets clusterMap g0 g1 g2 log n : ℕ) → Bool → Bool
-writtenFit clusters presets clusterMap g0 g1 g2 log n first =
+abbrev pub otherLengthsFit : (clusters presets clusterMap g0 g1 g2 log n : ℕ) → Bool → Bool
+otherLengthsFit clusters presets clusterMap g0 g1 g2 log n first =
     leb clusters 16
     && leb presets 256
     && leb n 1024
@@ -66,7 +66,7 @@ map-most clusters presets a b = mul-le-mul (let c : 495 * clusters ≤ 7920 = om
 
 -- the lengths alone, once the limits are met
 pub written-is : (clusters presets clusterMap g0 g1 g2 log n : ℕ) (first : Bool) → clusters ≤ 16 → presets ≤ 256 → n ≤ 1024
-    → writtenFit clusters presets clusterMap g0 g1 g2 log n first ≡ first && eqb clusterMap (495 * clusters * presets) && threeFit g0 g1 g2 (64 * n) && leb (192 * n) log
+    → otherLengthsFit clusters presets clusterMap g0 g1 g2 log n first ≡ first && eqb clusterMap (495 * clusters * presets) && threeFit g0 g1 g2 (64 * n) && leb (192 * n) log
 written-is clusters presets clusterMap g0 g1 g2 log n first a b c = rw (le-leb clusters 16 a, le-leb presets 256 b, le-leb n 1024 c)
 
 -- 18 alone, once sides and lengths fit

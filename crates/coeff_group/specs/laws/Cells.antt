@@ -13,7 +13,7 @@ use Rattle.coeff_walk.specs.Walk.{gain}
 use Rattle.coeff_walk.specs.laws.Kept.{length-gain}
 use Rattle.coeff_walk.specs.Sent.{Words}
 use Rattle.coeff_walk.specs.laws.Walks.{gains}
-use Rattle.coeff_group.specs.Group.{Grids}
+use Rattle.coeff_group.specs.Group.{PerChannel}
 use Rattle.coeff_group.specs.Sequence.{GridCell, cell}
 
 -- One of a list, and lists without repetition.
@@ -47,22 +47,22 @@ set-below (x ∷ l) (suc i) v zero m h k = k
 set-below (x ∷ l) (suc i) v (suc p) m h k = set-below l i v p m h k
 
 -- Grids by their cells.
-pub record Shape (G H : Grids) : Type 0 where
+pub record Shape (G H : PerChannel) : Type 0 where
   pub count : length G ≡ length H
   pub sizes : (c : ℕ) → length (getD G c []) ≡ length (getD H c [])
 
-pub same-shape : (G H : Grids) → Shape G H → ((c p : ℕ) → cell G c p ≡ cell H c p) → G ≡ H
+pub same-shape : (G H : PerChannel) → Shape G H → ((c p : ℕ) → cell G c p ≡ cell H c p) → G ≡ H
 same-shape G H s e = ext-getD [] G H (s .count) (λ c h. ext-getD 0 (getD G c []) (getD H c []) (s .sizes c) (λ p i. e c p))
 
 -- one grid written anew
-pub put-all : (Q : List ℕ → Type 0) (G : Grids) (c : ℕ) (g : List ℕ) → c < length G → Q g → ((d : ℕ) → d < 3 → Q (getD G d [])) → (d : ℕ) → d < 3 → Q (getD (set G c g) d [])
+pub put-all : (Q : List ℕ → Type 0) (G : PerChannel) (c : ℕ) (g : List ℕ) → c < length G → Q g → ((d : ℕ) → d < 3 → Q (getD G d [])) → (d : ℕ) → d < 3 → Q (getD (set G c g) d [])
 put-all Q G c g h q f d l = go (ℕ-discrete d c)
   where
     go : Dec (d ≡ c) → Q (getD (set G c g) d [])
     go (yes e) = rw (e, getD-set-same G c g [] h) q
     go (no n) = rw (getD-set-other G c d g [] n) (f d l)
 
-module _ (G : Grids) (c : ℕ) (g : List ℕ) where
+module _ (G : PerChannel) (c : ℕ) (g : List ℕ) where
   pub put-shape : length g ≡ length (getD G c []) → Shape (set G c g) G
   put-shape e = record { count = length-set G c g; sizes = λ d. go d (ℕ-discrete d c) (decLt c (length G)) }
     where
@@ -80,16 +80,16 @@ module _ (G : Grids) (c : ℕ) (g : List ℕ) where
       go (no n) l = ap (λ (l : List ℕ). getD l p 0) (getD-set-other G c d g [] n)
 
 -- a symbol added to a cell
-abbrev pub add : ℕ → Grids → GridCell → ℕ → Grids
+abbrev pub add : ℕ → PerChannel → GridCell → ℕ → PerChannel
 add s G x d = set G (x .0) (gain s (getD G (x .0) []) (x .1) d)
 
-abbrev pub adds : ℕ → Grids → List GridCell → List ℕ → Grids
+abbrev pub adds : ℕ → PerChannel → List GridCell → List ℕ → PerChannel
 adds s G cs [] = G
 adds s G [] (d ∷ ds) = G
 adds s G (x ∷ cs) (d ∷ ds) = adds s (add s G x d) cs ds
 
 -- the cells of one channel: as its grid gains them
-pub adds-in : (s : ℕ) (G : Grids) (c : ℕ) (ps ds : List ℕ) → set G c (gains s (getD G c []) ps ds) ≡ adds s G (map (λ (p : ℕ). (c, p)) ps) ds
+pub adds-in : (s : ℕ) (G : PerChannel) (c : ℕ) (ps ds : List ℕ) → set G c (gains s (getD G c []) ps ds) ≡ adds s G (map (λ (p : ℕ). (c, p)) ps) ds
 adds-in s G c ps [] = set-getD G c []
 adds-in s G c [] (d ∷ ds) = set-getD G c []
 adds-in s G c (p ∷ ps) (d ∷ ds) = go (decLt c (length G)) ∙ adds-in s (add s G (c, p) d) c ps ds
@@ -101,16 +101,16 @@ adds-in s G c (p ∷ ps) (d ∷ ds) = go (decLt c (length G)) ∙ adds-in s (add
     go (yes h) = rw (getD-set-same G c g₁ [] h, set-set G c g₁ (gains s g₁ ps ds))
     go (no n) = rw (set-out G c g₁ (omega arith), set-out G c (gains s g₁ ps ds) (omega arith), set-out G c (gains s (getD G c []) ps ds) (omega arith))
 
-pub adds-both : (s : ℕ) (G : Grids) (xs ys : List GridCell) (ds es : List ℕ) → length ds ≡ length xs → adds s G (xs ++ ys) (ds ++ es) ≡ adds s (adds s G xs ds) ys es
+pub adds-both : (s : ℕ) (G : PerChannel) (xs ys : List GridCell) (ds es : List ℕ) → length ds ≡ length xs → adds s G (xs ++ ys) (ds ++ es) ≡ adds s (adds s G xs ds) ys es
 adds-both s G [] ys [] es e = refl
 adds-both s G [] ys (d ∷ ds) es e = absurd (omega arith)
 adds-both s G (x ∷ xs) ys [] es e = absurd (omega arith)
 adds-both s G (x ∷ xs) ys (d ∷ ds) es e = adds-both s (add s G x d) xs ys ds es (omega arith)
 
-add-shape : (s : ℕ) (G : Grids) (x : GridCell) (d : ℕ) → Shape (add s G x d) G
+add-shape : (s : ℕ) (G : PerChannel) (x : GridCell) (d : ℕ) → Shape (add s G x d) G
 add-shape s G x d = put-shape G (x .0) (gain s (getD G (x .0) []) (x .1) d) (length-gain s (getD G (x .0) []) (x .1) d)
 
-pub adds-shape : (s : ℕ) (G : Grids) (cs : List GridCell) (ds : List ℕ) → Shape (adds s G cs ds) G
+pub adds-shape : (s : ℕ) (G : PerChannel) (cs : List GridCell) (ds : List ℕ) → Shape (adds s G cs ds) G
 adds-shape s G cs [] = record { count = refl; sizes = λ c. refl }
 adds-shape s G [] (d ∷ ds) = record { count = refl; sizes = λ c. refl }
 adds-shape s G (x ∷ cs) (d ∷ ds) =
@@ -122,26 +122,26 @@ gain-off : (s : ℕ) (g : List ℕ) (p d q : ℕ) → (q ≡ p → ⊥) → getD
 gain-off s g p zero q n = refl
 gain-off s g p (suc d) q n = getD-set-other g p q ((getD g p 0 + unpackSigned (suc d) * 2 ^ s % 2 ^ 32) % 2 ^ 32) 0 n
 
-add-off : (s : ℕ) (G : Grids) (x : GridCell) (d : ℕ) (y : GridCell) → (y ≡ x → ⊥) → cell (add s G x d) (y .0) (y .1) ≡ cell G (y .0) (y .1)
+add-off : (s : ℕ) (G : PerChannel) (x : GridCell) (d : ℕ) (y : GridCell) → (y ≡ x → ⊥) → cell (add s G x d) (y .0) (y .1) ≡ cell G (y .0) (y .1)
 add-off s G x d y n = put-cell G (x .0) (gain s (getD G (x .0) []) (x .1) d) (y .0) (y .1)
     (λ e. gain-off s (getD G (x .0) []) (x .1) d (y .1) (λ f. n (λ i. (e i, f i))) ∙ ap (λ (c : ℕ). cell G c (y .1)) (sym e))
 
-pub adds-off : (s : ℕ) (G : Grids) (cs : List GridCell) (ds : List ℕ) (y : GridCell) → (In y cs → ⊥) → cell (adds s G cs ds) (y .0) (y .1) ≡ cell G (y .0) (y .1)
+pub adds-off : (s : ℕ) (G : PerChannel) (cs : List GridCell) (ds : List ℕ) (y : GridCell) → (In y cs → ⊥) → cell (adds s G cs ds) (y .0) (y .1) ≡ cell G (y .0) (y .1)
 adds-off s G cs [] y n = refl
 adds-off s G [] (d ∷ ds) y n = refl
 adds-off s G (x ∷ cs) (d ∷ ds) y n = adds-off s (add s G x d) cs ds y (λ i. n (there i)) ∙ add-off s G x d y (λ e. n (here e))
 
 -- cells of the grids, with 32-bit numbers in them
-pub record Fit (G : Grids) (cs : List GridCell) : Type 0 where
+pub record Fit (G : PerChannel) (cs : List GridCell) : Type 0 where
   pub channel : (x : GridCell) → In x cs → x .0 < length G
   pub place : (x : GridCell) → In x cs → x .1 < length (getD G (x .0) [])
   pub small : (x : GridCell) → In x cs → cell G (x .0) (x .1) < 2 ^ 32
 
 -- the symbols that make W of G
-abbrev pub change : Grids → Grids → GridCell → ℕ
+abbrev pub change : PerChannel → PerChannel → GridCell → ℕ
 change G W x = symbol (cell W (x .0) (x .1)) (cell G (x .0) (x .1))
 
-module _ (G : Grids) (x : GridCell) (cs : List GridCell) (d : ℕ) (fit : Fit G (x ∷ cs)) (n : In x cs → ⊥) where
+module _ (G : PerChannel) (x : GridCell) (cs : List GridCell) (d : ℕ) (fit : Fit G (x ∷ cs)) (n : In x cs → ⊥) where
   other : (y : GridCell) → In y cs → cell (add 0 G x d) (y .0) (y .1) ≡ cell G (y .0) (y .1)
   other y i = add-off 0 G x d y (λ e. n (Memᴰ·cast (sym e) i))
 
@@ -152,7 +152,7 @@ module _ (G : Grids) (x : GridCell) (cs : List GridCell) (d : ℕ) (fit : Fit G 
     small = λ y i. rw (other y i) (fit .small y (there i));
   }
 
-  same-rest : (W : Grids) → map (change (add 0 G x d) W) cs ≡ map (change G W) cs
+  same-rest : (W : PerChannel) → map (change (add 0 G x d) W) cs ≡ map (change G W) cs
   same-rest W = map-same (change (add 0 G x d) W) (change G W) cs (λ y i. ap (symbol (cell W (y .0) (y .1))) (other y i))
 
   -- what the cell holds behind all of them
@@ -166,7 +166,7 @@ module _ (G : Grids) (x : GridCell) (cs : List GridCell) (d : ℕ) (fit : Fit G 
           getD-set-same (getD G (x .0) []) (x .1) ((cell G (x .0) (x .1) + unpackSigned (suc d) * 2 ^ 0 % 2 ^ 32) % 2 ^ 32) 0 (fit .place x (here refl)) ∙ omega arith
 
 -- symbols added to distinct cells are those that make of the start what it became
-pub only-symbols : (G : Grids) (cs : List GridCell) (ds : List ℕ) → Distinct cs → Fit G cs → Words ds → length ds ≡ length cs → ds ≡ map (change G (adds 0 G cs ds)) cs
+pub only-symbols : (G : PerChannel) (cs : List GridCell) (ds : List ℕ) → Distinct cs → Fit G cs → Words ds → length ds ≡ length cs → ds ≡ map (change G (adds 0 G cs ds)) cs
 only-symbols G [] [] d f w e = refl
 only-symbols G [] (u ∷ ds) d f w e = absurd (omega arith)
 only-symbols G (x ∷ cs) [] d f w e = absurd (omega arith)
@@ -177,7 +177,7 @@ only-symbols G (x ∷ cs) (u ∷ ds) d f w e =
     (only-symbols (add 0 G x u) cs ds (d .1) (fit-rest G x cs u f (d .0)) (w .1) (omega arith) ∙ same-rest G x cs u f (d .0) W)
 
 -- and those symbols make it of the start
-pub symbols-turn : (G W : Grids) (cs : List GridCell) → Distinct cs → Fit G cs → ((x : GridCell) → In x cs → cell W (x .0) (x .1) < 2 ^ 32) → (y : GridCell) → In y cs
+pub symbols-turn : (G W : PerChannel) (cs : List GridCell) → Distinct cs → Fit G cs → ((x : GridCell) → In x cs → cell W (x .0) (x .1) < 2 ^ 32) → (y : GridCell) → In y cs
     → cell (adds 0 G cs (map (change G W) cs)) (y .0) (y .1) ≡ cell W (y .0) (y .1)
 symbols-turn G W [] d f w y i = absurd (elim i [ ])
 symbols-turn G W (x ∷ cs) d f w y i = go (List·Memᴰ·cases-cons i) (symbols-turn (add 0 G x u) W cs (d .1) (fit-rest G x cs u f (d .0)) (λ z j. w z (there j)) y)

@@ -22,7 +22,7 @@ use Rattle.order_natural.specs.laws.Flat.{length-paired}
 use Rattle.coeff_walk.specs.laws.PlaceLaws.{length-places}
 use Rattle.coeff_walk.specs.laws.Items.{itemAt, ItemReady, counted-15, counted-16}
 use Rattle.coeff_walk.specs.laws.Kept.{KeptBy, counted-kept}
-use Rattle.coeff_group.specs.Group.{Grids, Reading, going, after, readItem}
+use Rattle.coeff_group.specs.Group.{PerChannel, Reading, going, after, readItem}
 use Rattle.coeff_group.specs.laws.Steps.{InGrid, rowBy, Shown}
 use Rattle.coeff_group.specs.laws.Plans.{inChannel, itemBy, channelWalked, Planned}
 use Rattle.coeff_group.specs.declared.plan.Plan.{Plan}
@@ -30,8 +30,8 @@ use Rattle.order_store.specs.Store.{stretch}
 
 -- what the reading of the n-th channel walked hands back: how it ended, and its count over the varblock's blocks; whatever rows the reading
 -- has for the other channels, and whatever was left over of the counts before
-pub record ChannelShown (p : Plan) (group : Group) (clusters : ℕ) (presetMap store symbols : List ℕ) (at shift : ℕ) (rows : Grids) (log : List ℕ) (G : Grids) (n : ℕ) (w : WalkEnd) (count : ℕ) (log₁ : List ℕ) (G₁ : Grids) : Type 0 where
-  pub shown : (R : Grids) (left : ℕ) → getD R (channelWalked n) [] ≡ getD rows (channelWalked n) []
+pub record ChannelShown (p : Plan) (group : Group) (clusters : ℕ) (presetMap store symbols : List ℕ) (at shift : ℕ) (rows : PerChannel) (log : List ℕ) (G : PerChannel) (n : ℕ) (w : WalkEnd) (count : ℕ) (log₁ : List ℕ) (G₁ : PerChannel) : Type 0 where
+  pub shown : (R : PerChannel) (left : ℕ) → getD R (channelWalked n) [] ≡ getD rows (channelWalked n) []
       → Shown symbols (at + 64 * 2 ^ (p .shape .exponent)) w (rowBy R (channelWalked n) (p .shape .x) (p .shape .wide) count) log₁ G₁
       (readItem shift clusters presetMap (itemBy p group store n (channelWalked n)) (going (drop at symbols) at log G R left))
 
@@ -42,7 +42,7 @@ unfolding counted
 counted-in shift clusters presetMap c it row [] at log g = refl
 counted-in shift clusters presetMap c it row (n ∷ us) at log g = refl
 
-module _ (shift clusters : ℕ) (presetMap : List ℕ) (c : ℕ) (it : Item) (row symbols : List ℕ) (at : ℕ) (log : List ℕ) (G : Grids) (r : WalkEnd) (log₁ : List ℕ) (G₁ : Grids)
+module _ (shift clusters : ℕ) (presetMap : List ℕ) (c : ℕ) (it : Item) (row symbols : List ℕ) (at : ℕ) (log : List ℕ) (G : PerChannel) (r : WalkEnd) (log₁ : List ℕ) (G₁ : PerChannel)
     (got : InGrid c G r log₁ G₁ (λ g. counted shift clusters presetMap it row (drop at symbols) at log g)) where
   abbrev w : Walked
   w = counted shift clusters presetMap it row (drop at symbols) at log (getD G c [])
@@ -66,7 +66,7 @@ module _ (shift clusters : ℕ) (presetMap : List ℕ) (c : ℕ) (it : Item) (ro
       first (yes h) = small h (decLe (getD symbols at 0) (63 * it .blocks))
       first (no h) = absurd (never SymbolsEnd at log (getD G c []) (counted-15 shift clusters presetMap it row symbols at log (getD G c []) (omega arith)))
 
-  module _ (most : ℕ) (R : Grids) (left : ℕ) (same : getD R c [] ≡ row) where
+  module _ (most : ℕ) (R : PerChannel) (left : ℕ) (same : getD R c [] ≡ row) where
     abbrev stepped : Reading
     stepped = readItem shift clusters presetMap (inChannel c it) (going (drop at symbols) at log G R left)
 
@@ -75,7 +75,7 @@ module _ (shift clusters : ℕ) (presetMap : List ℕ) (c : ℕ) (it : Item) (ro
     stepped-is = rw (same, counted-in shift clusters presetMap c it row (drop at symbols) at log (getD G c []))
 
     -- the walk stopped
-    item-stops : isStopped r ≡ true → (rows₁ : Grids) → Shown symbols most r rows₁ log₁ G₁ stepped
+    item-stops : isStopped r ≡ true → (rows₁ : PerChannel) → Shown symbols most r rows₁ log₁ G₁ stepped
     item-stops e rows₁ = rw stepped-is (go w refl)
       where
         go : (x : Walked) → w ≡ x → Shown symbols most r rows₁ log₁ G₁ (after c G (set R c (newRow (inChannel c it) row (drop at symbols))) left x)
@@ -120,7 +120,7 @@ item-size v bw context order h =
     length-places (v .turn) (8 * bw) (8 * v .x) (8 * v .y) (drop (2 ^ (v .exponent)) (paired order)) ∙ length-drop (2 ^ (v .exponent)) (paired order) ∙ omega arith
 
 -- channel c, walked n-th, by its list of the order
-module _ (p : Plan) (group : Group) (clusters : ℕ) (presetMap store symbols : List ℕ) (shift : ℕ) (planned : Planned p group clusters presetMap store shift) (n at : ℕ) (rows : Grids) (log : List ℕ) (G : Grids)
+module _ (p : Plan) (group : Group) (clusters : ℕ) (presetMap store symbols : List ℕ) (shift : ℕ) (planned : Planned p group clusters presetMap store shift) (n at : ℕ) (rows : PerChannel) (log : List ℕ) (G : PerChannel)
     (hn : n < 3) (room : at + 64 * 2 ^ (p .shape .exponent) ≤ length log) (c : ℕ) (below : c < 3) (ec : c ≡ channelWalked n) (order : List ℕ) (eo : order ≡ stretch store (p .order) c) where
   abbrev K : ℕ
   K = 2 ^ (p .shape .exponent)
@@ -152,11 +152,11 @@ module _ (p : Plan) (group : Group) (clusters : ℕ) (presetMap store symbols : 
   same-item : inChannel c it ≡ itemBy p group store n (channelWalked n)
   same-item = rw (eo, ec)
 
-  module _ (r : WalkEnd) (log₁ : List ℕ) (G₁ : Grids) (got : InGrid c G r log₁ G₁ (λ g. counted shift clusters presetMap it (getD rows c []) (drop at symbols) at log g)) where
+  module _ (r : WalkEnd) (log₁ : List ℕ) (G₁ : PerChannel) (got : InGrid c G r log₁ G₁ (λ g. counted shift clusters presetMap it (getD rows c []) (drop at symbols) at log g)) where
     pub channel-count : isStopped r ≡ false → (at < length symbols) × (getD symbols at 0 ≤ 63 * K)
     channel-count = read-count shift clusters presetMap c it (getD rows c []) symbols at log G r log₁ G₁ got
 
-    module _ (R : Grids) (left : ℕ) (same : getD R (channelWalked n) [] ≡ getD rows (channelWalked n) []) where
+    module _ (R : PerChannel) (left : ℕ) (same : getD R (channelWalked n) [] ≡ getD rows (channelWalked n) []) where
       here : getD R c [] ≡ getD rows c []
       here = rw ec same
 

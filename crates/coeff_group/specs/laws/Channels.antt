@@ -10,7 +10,7 @@ use Rattle.coeff_walk.specs.declared.WalkEnd.{WalkEnd}
 use Rattle.coeff_walk.specs.declared.WalkEnd.the-variants.{Done}
 use Rattle.coeff_walk.specs.laws.Outcome.{isStopped, readBy}
 use Rattle.coeff_walk.specs.Item.{Item}
-use Rattle.coeff_group.specs.Group.{Grids, Reading, going, refused, readItem, readItems}
+use Rattle.coeff_group.specs.Group.{PerChannel, Reading, going, refused, readItem, readItems}
 use Rattle.coeff_group.specs.laws.GroupLaws.{read-refused}
 use Rattle.coeff_group.specs.laws.Steps.{rowBy, Shown}
 use Rattle.coeff_group.specs.laws.Plans.{itemBy, itemsBy, channelWalked}
@@ -20,12 +20,12 @@ use Rattle.coeff_group.specs.declared.plan.Plan.{Plan}
 
 module _ (symbols : List ℕ) where
   -- what is known of a reading that goes on
-  pub record On (most : ℕ) (w : WalkEnd) (rows : Grids) (log : List ℕ) (G : Grids) (R : Reading) : Type 0 where
+  pub record On (most : ℕ) (w : WalkEnd) (rows : PerChannel) (log : List ℕ) (G : PerChannel) (R : Reading) : Type 0 where
     pub left : ℕ
     pub is : R ≡ going (drop (readBy w) symbols) (readBy w) log G rows left
     pub few : readBy w ≤ most
 
-  pub shown-on : (most : ℕ) (w : WalkEnd) (rows : Grids) (log : List ℕ) (G : Grids) (R : Reading) → Shown symbols most w rows log G R → isStopped w ≡ false → On most w rows log G R
+  pub shown-on : (most : ℕ) (w : WalkEnd) (rows : PerChannel) (log : List ℕ) (G : PerChannel) (R : Reading) → Shown symbols most w rows log G R → isStopped w ≡ false → On most w rows log G R
   shown-on most w rows log G (going us at log′ G′ rows′ left) s e =
       let q : readBy w ≡ at = ap readBy (s .it .answer) in
       record {
@@ -37,13 +37,13 @@ module _ (symbols : List ℕ) where
       absurd (let a : isStopped w ≡ true = ap isStopped (s .it .answer) in let y : _≡_ {A = ℕ} 0 1 = cc in omega arith)
 
   -- of one that stopped no rows are told
-  pub shown-stopped : (most : ℕ) (w : WalkEnd) (rows rows₁ : Grids) (log : List ℕ) (G : Grids) (R : Reading) → Shown symbols most w rows log G R → isStopped w ≡ true → Shown symbols most w rows₁ log G R
+  pub shown-stopped : (most : ℕ) (w : WalkEnd) (rows rows₁ : PerChannel) (log : List ℕ) (G : PerChannel) (R : Reading) → Shown symbols most w rows log G R → isStopped w ≡ true → Shown symbols most w rows₁ log G R
   shown-stopped most w rows rows₁ log G (going us at log′ G′ rows′ left) s e =
       absurd (let a : isStopped w ≡ false = ap isStopped (s .it .answer) in let y : _≡_ {A = ℕ} 0 1 = cc in omega arith)
   shown-stopped most w rows rows₁ log G (refused why at log′ G′) s e = record { it = s .it }
 
   -- a reading that stopped stays so
-  shown-stop : (shift clusters : ℕ) (presetMap : List ℕ) (its : List Item) (most more : ℕ) (w : WalkEnd) (rows rows₁ : Grids) (log : List ℕ) (G : Grids) (R : Reading)
+  shown-stop : (shift clusters : ℕ) (presetMap : List ℕ) (its : List Item) (most more : ℕ) (w : WalkEnd) (rows rows₁ : PerChannel) (log : List ℕ) (G : PerChannel) (R : Reading)
       → Shown symbols most w rows log G R → isStopped w ≡ true → Shown symbols more w rows₁ log G (readItems shift clusters presetMap its R)
   shown-stop shift clusters presetMap its most more w rows rows₁ log G (going us at log′ G′ rows′ left) s e =
       absurd (let a : isStopped w ≡ false = ap isStopped (s .it .answer) in let y : _≡_ {A = ℕ} 0 1 = cc in omega arith)
@@ -57,7 +57,7 @@ module _ (p : Plan) (group : Group) (clusters : ℕ) (presetMap store symbols : 
   items = itemsBy p group store
 
   -- what is still due: the channels from the n-th walked on, from where the reading stands, give the whole
-  pub record ChannelsDue (n at : ℕ) (rows : Grids) (log : List ℕ) (G : Grids) : Type 0 where
+  pub record ChannelsDue (n at : ℕ) (rows : PerChannel) (log : List ℕ) (G : PerChannel) : Type 0 where
     pub left : ℕ
     pub due : readItems shift clusters presetMap (drop n items) (going (drop at symbols) at log G rows left) ≡ whole
     pub few : at + 64 * K * (3 - n) ≤ at₀ + 192 * K
@@ -75,7 +75,7 @@ module _ (p : Plan) (group : Group) (clusters : ℕ) (presetMap store symbols : 
   next-room (suc (suc (suc n))) k h = absurd (omega arith)
 
   -- all that is left is nothing
-  pub channels-end : (n at : ℕ) (counts : List ℕ) (rows₀ : Grids) (log : List ℕ) (G : Grids) → ChannelsDue n at (rewritten p counts rows₀ n) log G → n ≡ 3
+  pub channels-end : (n at : ℕ) (counts : List ℕ) (rows₀ : PerChannel) (log : List ℕ) (G : PerChannel) → ChannelsDue n at (rewritten p counts rows₀ n) log G → n ≡ 3
       → Shown symbols (at₀ + 192 * K) (Done at) (rewritten p counts rows₀ 3) log G whole
   unfolding readItems
   channels-end n at counts rows₀ log G d e =
@@ -83,13 +83,13 @@ module _ (p : Plan) (group : Group) (clusters : ℕ) (presetMap store symbols : 
       let m = l .few in
       subst (Shown symbols (at₀ + 192 * K) (Done at) (rewritten p counts rows₀ 3) log G) (l .due) (record { it = record { answer = refl; rest = refl; few = omega arith; counts = refl; logged = refl; cells = refl } })
 
-  module _ (n at : ℕ) (counts : List ℕ) (rows₀ : Grids) (log : List ℕ) (G : Grids) (d : ChannelsDue n at (rewritten p counts rows₀ n) log G) (hn : n < 3) where
+  module _ (n at : ℕ) (counts : List ℕ) (rows₀ : PerChannel) (log : List ℕ) (G : PerChannel) (d : ChannelsDue n at (rewritten p counts rows₀ n) log G) (hn : n < 3) where
     -- the log has room for one more
     pub channels-room : (room : ℕ) → at₀ + 192 * K ≤ room → at + 64 * K ≤ room
     channels-room room h = let m = d .few in omega (arith, next-room n K hn)
 
     -- the rows as the definition has them by now; the code's are rewritten behind the varblock
-    abbrev rows : Grids
+    abbrev rows : PerChannel
     rows = rewritten p counts rows₀ n
 
     abbrev before : Reading
@@ -102,12 +102,12 @@ module _ (p : Plan) (group : Group) (clusters : ℕ) (presetMap store symbols : 
     unfolding readItems
     due-now = ap (λ (l : List Item). readItems shift clusters presetMap l before) (sym (next-item n hn)) ∙ d .due
 
-    module _ (w : WalkEnd) (count : ℕ) (log₁ : List ℕ) (G₁ : Grids) (t : ChannelShown p group clusters presetMap store symbols at shift rows₀ log G n w count log₁ G₁) where
+    module _ (w : WalkEnd) (count : ℕ) (log₁ : List ℕ) (G₁ : PerChannel) (t : ChannelShown p group clusters presetMap store symbols at shift rows₀ log G n w count log₁ G₁) where
       shown : Shown symbols (at + 64 * K) w (rowBy rows (channelWalked n) (p .shape .x) (p .shape .wide) count) log₁ G₁ stepped
       shown = t .shown rows (d .left) (row-kept p counts rows₀ n hn)
 
       -- the reading stopped in this channel
-      pub channels-stop : isStopped w ≡ true → (most : ℕ) (rows₁ : Grids) → Shown symbols most w rows₁ log₁ G₁ whole
+      pub channels-stop : isStopped w ≡ true → (most : ℕ) (rows₁ : PerChannel) → Shown symbols most w rows₁ log₁ G₁ whole
       channels-stop e most rows₁ =
           subst (Shown symbols most w rows₁ log₁ G₁) due-now
           (shown-stop symbols shift clusters presetMap (drop (n + 1) items) (at + 64 * K) most w (rowBy rows (channelWalked n) (p .shape .x) (p .shape .wide) count) rows₁ log₁ G₁ stepped shown e)
@@ -128,6 +128,6 @@ module _ (p : Plan) (group : Group) (clusters : ℕ) (presetMap store symbols : 
           })
 
 -- before the first channel
-pub channels-start : (p : Plan) (group : Group) (clusters : ℕ) (presetMap store symbols : List ℕ) (at₀ shift : ℕ) (rows : Grids) (log : List ℕ) (G : Grids) (left : ℕ)
+pub channels-start : (p : Plan) (group : Group) (clusters : ℕ) (presetMap store symbols : List ℕ) (at₀ shift : ℕ) (rows : PerChannel) (log : List ℕ) (G : PerChannel) (left : ℕ)
     → ChannelsDue p group clusters presetMap store symbols at₀ shift (readItems shift clusters presetMap (itemsBy p group store) (going (drop at₀ symbols) at₀ log G (three rows) left)) 0 at₀ (three rows) log G
 channels-start p group clusters presetMap store symbols at₀ shift rows log G left = record { left = left; due = refl; few = omega arith }

@@ -25,7 +25,7 @@ use Rattle.coeff_walk.specs.laws.Outcome.{isStopped, readBy}
 use Rattle.coeff_walk.specs.Item.{Item}
 use Rattle.coeff_group.specs.declared.plan.Plan.{Plan}
 use Rattle.coeff_group.specs.Pass.{Pass, varblocks, itemOf, channels}
-use Rattle.coeff_group.specs.Group.{Grids, zeroRows, Reading, going, refused, readItems, readGroup}
+use Rattle.coeff_group.specs.Group.{PerChannel, zeroRows, Reading, going, refused, readItems, readGroup}
 use Rattle.coeff_group.specs.laws.GroupLaws.{group-refused}
 use Rattle.dct_select.specs.laws.Exponents.{exponentOf, exponent-blocks, exponent-le}
 use Rattle.coeff_group.specs.laws.Stored.{stretch-long}
@@ -41,12 +41,12 @@ abbrev pub logBy : Reading → List ℕ
 logBy (going us at log grids rows left) = log
 logBy (refused why at log grids) = log
 
-abbrev pub gridsBy : Reading → Grids
+abbrev pub gridsBy : Reading → PerChannel
 gridsBy (going us at log grids rows left) = grids
 gridsBy (refused why at log grids) = grids
 
 -- what is handed back of a reading
-pub record GroupShown (r : WalkEnd) (log : List ℕ) (G : Grids) (R : Reading) : Type 0 where
+pub record GroupShown (r : WalkEnd) (log : List ℕ) (G : PerChannel) (R : Reading) : Type 0 where
   pub answer : r ≡ walkOf R
   pub logged : log ≡ logBy R
   pub cells : G ≡ gridsBy R
@@ -91,7 +91,7 @@ abbrev pub rowFrom : Pass → ℕ → ℕ → List layout.Varblock
 rowFrom P x y = cornersRow (K P) (M P) (P .bw - x) x y (rowsFrom P (y + 1))
 
 -- the whole reading
-abbrev pub wholeOf : ℕ → ℕ → List ℕ → Pass → List ℕ → List ℕ → Grids → Reading
+abbrev pub wholeOf : ℕ → ℕ → List ℕ → Pass → List ℕ → List ℕ → PerChannel → Reading
 wholeOf shift clusters presetMap P symbols log G = readGroup shift clusters presetMap P (varblocks P) (going symbols 0 log G zeroRows 0)
 
 -- the symbols of a planned varblock at most
@@ -156,17 +156,17 @@ module _ (P : Pass) (clusters presetMap shift log : ℕ) (r : GroupReady P clust
       context (suc (suc (suc n))) k = absurd (omega arith)
 
 -- what is still due: the varblocks vs, from where the reading stands, give the whole
-pub record Due (shift clusters : ℕ) (presetMap : List ℕ) (P : Pass) (symbols : List ℕ) (most : ℕ) (whole : Reading) (vs : List layout.Varblock) (at₀ : ℕ) (rows : Grids) (log : List ℕ) (G : Grids) : Type 0 where
+pub record Due (shift clusters : ℕ) (presetMap : List ℕ) (P : Pass) (symbols : List ℕ) (most : ℕ) (whole : Reading) (vs : List layout.Varblock) (at₀ : ℕ) (rows : PerChannel) (log : List ℕ) (G : PerChannel) : Type 0 where
   pub left : ℕ
   pub due : readGroup shift clusters presetMap P vs (going (drop at₀ symbols) at₀ log G rows left) ≡ whole
   pub three : length rows ≡ 3
   pub room : at₀ + 192 * area vs ≤ most
 
 module _ (shift clusters : ℕ) (presetMap : List ℕ) (P : Pass) (symbols : List ℕ) (most : ℕ) (whole : Reading) where
-  abbrev Dues : List layout.Varblock → ℕ → Grids → List ℕ → Grids → Type 0
+  abbrev Dues : List layout.Varblock → ℕ → PerChannel → List ℕ → PerChannel → Type 0
   Dues vs at₀ rows log G = Due shift clusters presetMap P symbols most whole vs at₀ rows log G
 
-  module _ (at₀ : ℕ) (rows : Grids) (log : List ℕ) (G : Grids) where
+  module _ (at₀ : ℕ) (rows : PerChannel) (log : List ℕ) (G : PerChannel) where
     -- a row begins
     pub due-row : (y : ℕ) → y < P .bh → Dues (cornersFrom (K P) (M P) (P .bw) (P .bh - y) y) at₀ rows log G
         → Dues (cornersRow (K P) (M P) (P .bw - 0) 0 y (cornersFrom (K P) (M P) (P .bw) (P .bh - (y + 1)) (y + 1))) at₀ rows log G
@@ -207,7 +207,7 @@ module _ (shift clusters : ℕ) (presetMap : List ℕ) (P : Pass) (symbols : Lis
     room-of v l d = let m = d .room in omega arith
 
     module _ (x y : ℕ) (l : List layout.Varblock) (d : Dues (cornerAt P x y ∷ l) at₀ rows log G) (its : List Item) (is : its ≡ channels P (cornerAt P x y))
-        (w : WalkEnd) (rows₁ : Grids) (log₁ : List ℕ) (G₁ : Grids) (few : ℕ) (le : few ≡ at₀ + 192 * (wide (K P x y - 2) * high (K P x y - 2)))
+        (w : WalkEnd) (rows₁ : PerChannel) (log₁ : List ℕ) (G₁ : PerChannel) (few : ℕ) (le : few ≡ at₀ + 192 * (wide (K P x y - 2) * high (K P x y - 2)))
         (shown : (left : ℕ) → Shown symbols few w rows₁ log₁ G₁ (readItems shift clusters presetMap its (going (drop at₀ symbols) at₀ log G rows left))) where
       abbrev R : Reading
       R = readItems shift clusters presetMap its (going (drop at₀ symbols) at₀ log G rows (d .left))
@@ -250,7 +250,7 @@ module _ (shift clusters : ℕ) (presetMap : List ℕ) (P : Pass) (symbols : Lis
         record { answer = ap walkOf f; logged = ap logBy f; cells = ap gridsBy f }
 
 -- a corner of the group, planned as p
-module _ (shift clusters : ℕ) (presetMap : List ℕ) (P : Pass) (symbols : List ℕ) (room : ℕ) (ready : GroupReady P clusters (length presetMap) shift room) (whole : Reading) (x y at₀ : ℕ) (rows : Grids) (log : List ℕ) (G : Grids)
+module _ (shift clusters : ℕ) (presetMap : List ℕ) (P : Pass) (symbols : List ℕ) (room : ℕ) (ready : GroupReady P clusters (length presetMap) shift room) (whole : Reading) (x y at₀ : ℕ) (rows : PerChannel) (log : List ℕ) (G : PerChannel)
     (hx : x < P .bw) (hy : y < P .bh) (corner : 2 ≤ K P x y) (d : Due shift clusters presetMap P symbols (192 * (P .bw * P .bh)) whole (rowFrom P x y) at₀ rows log G) (p : Plan) (ep : p ≡ planAt P x y) where
   here : Due shift clusters presetMap P symbols (192 * (P .bw * P .bh)) whole (cornerAt P x y ∷ rowFrom P (x + 1) y) at₀ rows log G
   here = due-corner shift clusters presetMap P symbols (192 * (P .bw * P .bh)) whole at₀ rows log G x y (rowsFrom P (y + 1)) hx corner d
@@ -273,7 +273,7 @@ module _ (shift clusters : ℕ) (presetMap : List ℕ) (P : Pass) (symbols : Lis
         d .three,
       )
 
-  module _ (w : WalkEnd) (rows₁ : Grids) (log₁ : List ℕ) (G₁ : Grids)
+  module _ (w : WalkEnd) (rows₁ : PerChannel) (log₁ : List ℕ) (G₁ : PerChannel)
       (shown : (left : ℕ) → Shown symbols (at₀ + 192 * 2 ^ (p .shape .exponent)) w rows₁ log₁ G₁ (readItems shift clusters presetMap (itemsBy p (groupAt P) (P .store)) (going (drop at₀ symbols) at₀ log G rows left))) where
     its : itemsBy p (groupAt P) (P .store) ≡ channels P (cornerAt P x y)
     its = ap (λ (q : Plan). itemsBy q (groupAt P) (P .store)) ep ∙ items-are P clusters (length presetMap) shift room ready x y hx hy corner
@@ -290,7 +290,7 @@ module _ (shift clusters : ℕ) (presetMap : List ℕ) (P : Pass) (symbols : Lis
         rw q (due-step shift clusters presetMap P symbols (192 * (P .bw * P .bh)) whole at₀ rows log G x y (rowFrom P (x + 1) y) here (itemsBy p (groupAt P) (P .store)) its
         w rows₁ log₁ G₁ (at₀ + 192 * 2 ^ (p .shape .exponent)) few shown e three)
 
-pub due-start : (shift clusters : ℕ) (presetMap : List ℕ) (P : Pass) (symbols log : List ℕ) (G : Grids) → Layout (P .bw) (P .bh) (P .kinds) (P .hfMul)
+pub due-start : (shift clusters : ℕ) (presetMap : List ℕ) (P : Pass) (symbols log : List ℕ) (G : PerChannel) → Layout (P .bw) (P .bh) (P .kinds) (P .hfMul)
     → Due shift clusters presetMap P symbols (192 * (P .bw * P .bh)) (wholeOf shift clusters presetMap P symbols log G) (rowsFrom P 0) 0 (replicate 3 (replicate 32 0)) log G
 due-start shift clusters presetMap P symbols log G lay =
     let e : P .bh - 0 ≡ P .bh = omega arith in

@@ -6,7 +6,7 @@ use Rattle.refusal.specs.declared.Refusal.{Refusal}
 use Rattle.layout.specs.Varblocks.{Varblock}
 use Rattle.coeff_walk.specs.Item.{Item}
 use Rattle.coeff_group.specs.Pass.{Pass, channels, itemsOf}
-use Rattle.coeff_group.specs.Group.{Grids, Reading, going, refused, readItem, readItems, readVarblock, readGroup}
+use Rattle.coeff_group.specs.Group.{PerChannel, Reading, going, refused, readItem, readItems, readVarblock, readGroup}
 
 -- symbols read
 abbrev pub readOf : Reading → ℕ
@@ -26,12 +26,12 @@ module _ (shift clusters : ℕ) (presetMap : List ℕ) where
   group-items P (v ∷ vs) r = rw (read-append (channels P v) (itemsOf P vs) r) (group-items P vs (readVarblock shift clusters presetMap P v r))
 
   -- what was refused stays so
-  pub read-refused : (its : List Item) (why : ℕ → Refusal) (at : ℕ) (log : List ℕ) (G : Grids) → readItems shift clusters presetMap its (refused why at log G) ≡ refused why at log G
+  pub read-refused : (its : List Item) (why : ℕ → Refusal) (at : ℕ) (log : List ℕ) (G : PerChannel) → readItems shift clusters presetMap its (refused why at log G) ≡ refused why at log G
   unfolding readItems readItem
   read-refused [] why at log G = refl
   read-refused (it ∷ its) why at log G = read-refused its why at log G
 
-  pub group-refused : (P : Pass) (vs : List Varblock) (why : ℕ → Refusal) (at : ℕ) (log : List ℕ) (G : Grids) → readGroup shift clusters presetMap P vs (refused why at log G) ≡ refused why at log G
+  pub group-refused : (P : Pass) (vs : List Varblock) (why : ℕ → Refusal) (at : ℕ) (log : List ℕ) (G : PerChannel) → readGroup shift clusters presetMap P vs (refused why at log G) ≡ refused why at log G
   unfolding readGroup readItems readItem
   group-refused P [] why at log G = refl
   group-refused P (v ∷ vs) why at log G = group-refused P vs why at log G

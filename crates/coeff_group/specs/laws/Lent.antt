@@ -17,7 +17,7 @@ use Rattle.order_store.specs.Store.{PLACES, from}
 use Rattle.order_store.specs.LookedUp.{stretchFrom, stretchAt}
 use Rattle.coeff_walk.specs.declared.WalkEnd.the-variants.{Stopped}
 use Rattle.coeff_group.specs.declared.plan.Plan.{Plan}
-use Rattle.coeff_group.specs.Group.{Grids, Reading, going, refused, readItems}
+use Rattle.coeff_group.specs.Group.{PerChannel, Reading, going, refused, readItems}
 use Rattle.coeff_group.specs.laws.Rewritten.{three, VarblockShown}
 use Rattle.coeff_group.specs.laws.Stored.{stretch-long, lists-are}
 use Rattle.coeff_group.specs.laws.Plans.{itemsBy, Planned}
@@ -46,7 +46,7 @@ varblockFits p group clusters presetMap list at shift log =
     && leb (192 * 2 ^ (p .shape .exponent)) (log - at))
 
 -- the reading of a varblock, `left` of the counts before being left over; nothing is read where what is lent does not fit
-abbrev pub varblockRead : Plan → Group → (clusters : ℕ) (presetMap store : List ℕ) (rows : Grids) (symbols : List ℕ) (at shift : ℕ) (log : List ℕ) (G : Grids) (left : ℕ) → Reading
+abbrev pub varblockRead : Plan → Group → (clusters : ℕ) (presetMap store : List ℕ) (rows : PerChannel) (symbols : List ℕ) (at shift : ℕ) (log : List ℕ) (G : PerChannel) (left : ℕ) → Reading
 varblockRead p group clusters presetMap store rows symbols at shift log G left =
     cond (varblockFits p group clusters (length presetMap) (stretchAt (length store) (p .order) 0 .len) at shift (length log))
     (readItems shift clusters presetMap (itemsBy p group store) (going (drop at symbols) at log G (three rows) left))
@@ -161,7 +161,7 @@ module _ (p : Plan) (group : Group) (clusters : ℕ) (presetMap store : List ℕ
       )
 
 -- the outcomes
-module _ (p : Plan) (group : Group) (clusters : ℕ) (presetMap store : List ℕ) (rows : Grids) (symbols : List ℕ) (at shift : ℕ) (log : List ℕ) (G : Grids) where
+module _ (p : Plan) (group : Group) (clusters : ℕ) (presetMap store : List ℕ) (rows : PerChannel) (symbols : List ℕ) (at shift : ℕ) (log : List ℕ) (G : PerChannel) where
   abbrev fitting : Bool
   fitting = varblockFits p group clusters (length presetMap) (stretchAt (length store) (p .order) 0 .len) at shift (length log)
 

@@ -15,7 +15,7 @@ use Rattle.refusal.specs.declared.Refusal.the-variants.{SymbolsEnd, Count}
 use Rattle.coeff_walk.specs.Walk.{Walked, stopped, walk}
 use Rattle.coeff_walk.specs.laws.Counts.{few-le}
 use Rattle.coeff_walk.specs.Item.{Item, counted, newRow, coeffMapOf, countCluster}
-use Rattle.coeff_group.specs.Group.{Grids, Reading, going, refused, after, readItem, readItems}
+use Rattle.coeff_group.specs.Group.{PerChannel, Reading, going, refused, after, readItem, readItems}
 use Rattle.coeff_group.specs.laws.Symbols.{symbolsIn}
 use Rattle.coeff_walk.specs.Sent.{Words, nonZeros, upTo}
 use Rattle.coeff_group.specs.Sequence.{readCells, sent}
@@ -40,10 +40,10 @@ abbrev pub Sized : List Item → Type 0
 Sized its = (it : Item) → In it its → length (it .cells) ≡ 63 * it .blocks
 
 pub data End : Type 0 where
-  ends : (us : List ℕ) (rows : Grids) (left : ℕ) → End
+  ends : (us : List ℕ) (rows : PerChannel) (left : ℕ) → End
   stops : (why : ℕ → Refusal) → End
 
-abbrev pub readBy : End → ℕ → List ℕ → Grids → Reading
+abbrev pub readBy : End → ℕ → List ℕ → PerChannel → Reading
 readBy (ends us rows left) at log G = going us at log G rows left
 readBy (stops why) at log G = refused why at log G
 
@@ -66,12 +66,12 @@ abbrev pub Tells : List ℕ → ℕ → ℕ → List (List ℕ) → End → Type
 Tells us left k dss (ends us′ rows left′) = Taken us left k dss us′ left′
 Tells us left k dss (stops why) = Stop (length us) k why
 
-pub record Reads (its : List Item) (us : List ℕ) (left : ℕ) (F : ℕ → ℕ → List ℕ → Grids → Reading) (F′ : List ℕ → ℕ → ℕ → List ℕ → Grids → Reading) : Type 0 where
+pub record Reads (its : List Item) (us : List ℕ) (left : ℕ) (F : ℕ → ℕ → List ℕ → PerChannel → Reading) (F′ : List ℕ → ℕ → ℕ → List ℕ → PerChannel → Reading) : Type 0 where
   pub clusters : List ℕ
   pub dss : List (List ℕ)
   pub end : End
-  pub is : (s at : ℕ) (log : List ℕ) (G : Grids) → F s at log G ≡ readBy end (at + length clusters) (sets log at clusters) (adds s G (readCells its) (joined dss))
-  pub further : Goes end → (vs : List ℕ) (s at : ℕ) (log : List ℕ) (G : Grids)
+  pub is : (s at : ℕ) (log : List ℕ) (G : PerChannel) → F s at log G ≡ readBy end (at + length clusters) (sets log at clusters) (adds s G (readCells its) (joined dss))
+  pub further : Goes end → (vs : List ℕ) (s at : ℕ) (log : List ℕ) (G : PerChannel)
       → F′ vs s at log G ≡ readBy (longer vs end) (at + length clusters) (sets log at clusters) (adds s G (readCells its) (joined dss))
   pub all : Long its dss
   pub few : length clusters ≤ symbolsIn its
@@ -90,14 +90,14 @@ words-both [] vs a b = b
 words-both (u ∷ us) vs a b = (a .0, words-both us vs (a .1) b)
 
 -- one item's cells, then the others'
-cells-step : (s : ℕ) (it : Item) (its : List Item) (G : Grids) (ds es : List ℕ) → length ds ≡ length (it .cells)
+cells-step : (s : ℕ) (it : Item) (its : List Item) (G : PerChannel) (ds es : List ℕ) → length ds ≡ length (it .cells)
     → adds s (set G (it .channel) (gains s (getD G (it .channel) []) (it .cells) ds)) (readCells its) es ≡ adds s G (readCells (it ∷ its)) (ds ++ es)
 unfolding readCells
 cells-step s it its G ds es e =
-    ap (λ (H : Grids). adds s H (readCells its) es) (adds-in s G (it .channel) (it .cells) ds)
+    ap (λ (H : PerChannel). adds s H (readCells its) es) (adds-in s G (it .channel) (it .cells) ds)
     ∙ sym (adds-both s G (map (λ (p : ℕ). (it .channel, p)) (it .cells)) (readCells its) ds es (e ∙ sym (length-map (it .cells) (λ (p : ℕ). (it .channel, p)))))
 
-adds-nones : (s : ℕ) (its : List Item) (G : Grids) → adds s G (readCells its) (joined (nones its)) ≡ G
+adds-nones : (s : ℕ) (its : List Item) (G : PerChannel) → adds s G (readCells its) (joined (nones its)) ≡ G
 unfolding readCells
 adds-nones s [] G = refl
 adds-nones s (it ∷ its) G =
@@ -106,8 +106,8 @@ adds-nones s (it ∷ its) G =
     ∙ rw (gains-none s (getD G (it .channel) []) (it .cells)) (set-getD G (it .channel) [])
 
 -- refused before the first place
-refused-here : (its : List Item) (us : List ℕ) (left : ℕ) (ks : List ℕ) (why : ℕ → Refusal) (F : ℕ → ℕ → List ℕ → Grids → Reading) (F′ : List ℕ → ℕ → ℕ → List ℕ → Grids → Reading)
-    → ((s at : ℕ) (log : List ℕ) (G : Grids) → F s at log G ≡ refused why (at + length ks) (sets log at ks) G) → length ks ≤ symbolsIn its → Stop (length us) (length ks) why → Reads its us left F F′
+refused-here : (its : List Item) (us : List ℕ) (left : ℕ) (ks : List ℕ) (why : ℕ → Refusal) (F : ℕ → ℕ → List ℕ → PerChannel → Reading) (F′ : List ℕ → ℕ → ℕ → List ℕ → PerChannel → Reading)
+    → ((s at : ℕ) (log : List ℕ) (G : PerChannel) → F s at log G ≡ refused why (at + length ks) (sets log at ks) G) → length ks ≤ symbolsIn its → Stop (length us) (length ks) why → Reads its us left F F′
 refused-here its us left ks why F F′ e f t = record {
   clusters = ks;
   dss = nones its;
@@ -134,36 +134,36 @@ tells-on n k₁ left m k us ds us₁ dss (stops why) w t =
     walks.stop-later (suc m) (length us₁) k (suc (length us)) (suc (m + k)) why (omega (arith, w .read)) (omega arith) t
 
 module _ (clusters : ℕ) (stretch : List ℕ) where
-  read-refused : (s : ℕ) (its : List Item) (why : ℕ → Refusal) (at : ℕ) (log : List ℕ) (G : Grids) → readItems s clusters stretch its (refused why at log G) ≡ refused why at log G
+  read-refused : (s : ℕ) (its : List Item) (why : ℕ → Refusal) (at : ℕ) (log : List ℕ) (G : PerChannel) → readItems s clusters stretch its (refused why at log G) ≡ refused why at log G
   unfolding readItems readItem
   read-refused s [] why at log G = refl
   read-refused s (it ∷ its) why at log G = read-refused s its why at log G
 
   abbrev Claim : List Item → Type 0
-  Claim its = (us : List ℕ) (rows : Grids) (left : ℕ)
+  Claim its = (us : List ℕ) (rows : PerChannel) (left : ℕ)
       → Reads its us left (λ s at log G. readItems s clusters stretch its (going us at log G rows left)) (λ vs s at log G. readItems s clusters stretch its (going (us ++ vs) at log G rows left))
 
-  module _ (it : Item) (its : List Item) (ih : Claim its) (n : ℕ) (us : List ℕ) (rows : Grids) (left : ℕ) where
+  module _ (it : Item) (its : List Item) (ih : Claim its) (n : ℕ) (us : List ℕ) (rows : PerChannel) (left : ℕ) where
     abbrev c : ℕ
     c = it .channel
 
     abbrev k : ℕ
     k = countCluster clusters stretch it (getD rows c [])
 
-    abbrev rows₁ : Grids
+    abbrev rows₁ : PerChannel
     rows₁ = set rows c (newRow it (getD rows c []) (n ∷ us))
 
     abbrev W : List ℕ → ℕ → ℕ → List ℕ → List ℕ → Walked
     W vs s at log g = walk s (it .blocks) (coeffMapOf clusters stretch it) (it .cells) 0 (cond (leb n (4 * it .blocks)) 1 0) n vs at log g
 
-    abbrev on : (b : Bool) → List ℕ → ℕ → ℕ → List ℕ → Grids → Reading
+    abbrev on : (b : Bool) → List ℕ → ℕ → ℕ → List ℕ → PerChannel → Reading
     on b vs s at log G = readItems s clusters stretch its (after c G rows₁ left (cond b (W vs s (at + 1) (set log at k) (getD G c [])) (stopped Count (at + 1) (set log at k) (getD G c []))))
 
     module _ (ks ds : List ℕ) (long : length ds ≡ length (it .cells)) where
-      grids : ℕ → Grids → Grids
+      grids : ℕ → PerChannel → PerChannel
       grids s G = set G c (gains s (getD G c []) (it .cells) ds)
 
-      both : (s at : ℕ) (log : List ℕ) (G : Grids) (e : End) (ls es : List ℕ)
+      both : (s at : ℕ) (log : List ℕ) (G : PerChannel) (e : End) (ls es : List ℕ)
           → readBy e (at + 1 + length ks + length ls) (sets (sets (set log at k) (at + 1) ks) (at + 1 + length ks) ls) (adds s (set G c (gains s (getD G c []) (it .cells) ds)) (readCells its) es)
           ≡ readBy e (at + suc (length (ks ++ ls))) (sets (set log at k) (suc at) (ks ++ ls)) (adds s G (readCells (it ∷ its)) (ds ++ es))
       both s at log G e ls es =
@@ -239,13 +239,13 @@ module _ (clusters : ℕ) (stretch : List ℕ) where
   reads (it ∷ its) us rows left = next it its (reads its) us rows left
 
   -- Symbols that are sent are read.
-  pub record Sent (its : List Item) (dss : List (List ℕ)) (s at : ℕ) (log : List ℕ) (G rows : Grids) (left : ℕ) : Type 0 where
+  pub record Sent (its : List Item) (dss : List (List ℕ)) (s at : ℕ) (log : List ℕ) (G rows : PerChannel) (left : ℕ) : Type 0 where
     pub at′ : ℕ
     pub log′ : List ℕ
-    pub rows′ : Grids
+    pub rows′ : PerChannel
     pub is : readItems s clusters stretch its (going (sent dss) at log G rows left) ≡ going [] at′ log′ (adds s G (readCells its) (joined dss)) rows′ left
 
-  pub read-sent : (its : List Item) (dss : List (List ℕ)) → Long its dss → Sized its → (s at : ℕ) (log : List ℕ) (G rows : Grids) (left : ℕ) → Sent its dss s at log G rows left
+  pub read-sent : (its : List Item) (dss : List (List ℕ)) → Long its dss → Sized its → (s at : ℕ) (log : List ℕ) (G rows : PerChannel) (left : ℕ) → Sent its dss s at log G rows left
   unfolding readItems readItem counted sent
   read-sent [] [] l z s at log G rows left = record { at′ = at; log′ = log; rows′ = rows; is = refl }
   read-sent [] (ds ∷ dss) l z s at log G rows left = absurd l
@@ -263,5 +263,5 @@ module _ (clusters : ℕ) (stretch : List ℕ) where
         at′ = r .at′;
         log′ = r .log′;
         rows′ = r .rows′;
-        is = rw (le-leb n (63 * it .blocks) (omega (arith, nonZeros-le ds)), w .is, e) (r .is ∙ ap (λ (X : Grids). going [] (r .at′) (r .log′) X (r .rows′) left) (cells-step s it its G ds (joined dss) a));
+        is = rw (le-leb n (63 * it .blocks) (omega (arith, nonZeros-le ds)), w .is, e) (r .is ∙ ap (λ (X : PerChannel). going [] (r .at′) (r .log′) X (r .rows′) left) (cells-step s it its G ds (joined dss) a));
       }

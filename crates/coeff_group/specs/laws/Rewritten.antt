@@ -10,16 +10,16 @@ use Rattle.coeff_walk.specs.declared.WalkEnd.{WalkEnd}
 use Rattle.coeff_walk.specs.laws.Outcome.{isStopped}
 use Rattle.laws.specs.Lists.{fillFrom}
 use Rattle.coeff_group.specs.declared.plan.Plan.{Plan}
-use Rattle.coeff_group.specs.Group.{Grids, Reading, going, refused}
+use Rattle.coeff_group.specs.Group.{PerChannel, Reading, going, refused}
 use Rattle.coeff_group.specs.laws.Steps.{rowBy, Shown}
 use Rattle.coeff_group.specs.laws.Plans.{channelWalked}
 
 -- three rows
-abbrev pub three : Grids → Grids
+abbrev pub three : PerChannel → PerChannel
 three rows = getD rows 0 [] ∷ getD rows 1 [] ∷ getD rows 2 [] ∷ []
 
 -- the rows after the first n channels walked, by the counts of channels 0, 1, 2 over the varblock's blocks
-abbrev pub rewritten : Plan → List ℕ → Grids → ℕ → Grids
+abbrev pub rewritten : Plan → List ℕ → PerChannel → ℕ → PerChannel
 rewritten p countsOver rows zero = three rows
 rewritten p countsOver rows (suc n) =
     let c = channelWalked n in
@@ -31,13 +31,13 @@ countsBy x (going us at log grids rows left) = getD (getD rows 0 []) x 0 ∷ get
 countsBy x (refused why at log grids) = 0 ∷ 0 ∷ 0 ∷ []
 
 -- what the reading R of a varblock hands back: how it ended, the counts, log and grids; the rows are rewritten by the counts
-pub record VarblockShown (p : Plan) (symbols : List ℕ) (most : ℕ) (w : WalkEnd) (countsOver : List ℕ) (rows : Grids) (log : List ℕ) (G : Grids) (R : Reading) : Type 0 where
+pub record VarblockShown (p : Plan) (symbols : List ℕ) (most : ℕ) (w : WalkEnd) (countsOver : List ℕ) (rows : PerChannel) (log : List ℕ) (G : PerChannel) (R : Reading) : Type 0 where
   pub shown : Shown symbols most w (rewritten p countsOver rows 3) log G R
   pub none : isStopped w ≡ true → countsOver ≡ 0 ∷ 0 ∷ 0 ∷ []
   -- of rows that have a number in that column, as rows of 32 do
   pub counted : ((c : ℕ) → c < 3 → p .shape .x < length (getD rows c [])) → countsOver ≡ countsBy (p .shape .x) R
 
-module _ (p : Plan) (countsOver : List ℕ) (rows : Grids) where
+module _ (p : Plan) (countsOver : List ℕ) (rows : PerChannel) where
   -- a channel's own row is still as it was when the channel is walked
   pub row-kept : (n : ℕ) → n < 3 → getD (rewritten p countsOver rows n) (channelWalked n) [] ≡ getD rows (channelWalked n) []
   row-kept zero h = refl
@@ -66,12 +66,12 @@ row-first row x zero v h l = absurd (omega arith)
 row-first row x (suc n) v h l = row-before (set row x v) (x + 1) n v x (omega arith) ∙ getD-set-same row x v 0 l
 
 -- the counts of a reading that was stopped, and of one that was not
-module _ (p : Plan) (symbols : List ℕ) (most : ℕ) (w : WalkEnd) (log : List ℕ) (G : Grids) where
-  pub counts-none : (rows : Grids) (R : Reading) → Shown symbols most w rows log G R → isStopped w ≡ true → 0 ∷ 0 ∷ 0 ∷ [] ≡ countsBy (p .shape .x) R
+module _ (p : Plan) (symbols : List ℕ) (most : ℕ) (w : WalkEnd) (log : List ℕ) (G : PerChannel) where
+  pub counts-none : (rows : PerChannel) (R : Reading) → Shown symbols most w rows log G R → isStopped w ≡ true → 0 ∷ 0 ∷ 0 ∷ [] ≡ countsBy (p .shape .x) R
   counts-none rows (refused why at log′ G′) s e = refl
   counts-none rows (going us at log′ G′ rows′ left) s e = absurd (let f = s .it .answer in let z : _≡_ {A = Bool} true false = sym e ∙ ap isStopped f in true≢false z)
 
-  module _ (countsOver : List ℕ) (rows : Grids) (some : 1 ≤ p .shape .wide) (inside : (c : ℕ) → c < 3 → p .shape .x < length (getD rows c [])) where
+  module _ (countsOver : List ℕ) (rows : PerChannel) (some : 1 ≤ p .shape .wide) (inside : (c : ℕ) → c < 3 → p .shape .x < length (getD rows c [])) where
     at-column : (c : ℕ) → c < 3 → getD (fillFrom (getD rows c []) (p .shape .x) (p .shape .wide) (getD countsOver c 0)) (p .shape .x) 0 ≡ getD countsOver c 0
     at-column c h = row-first (getD rows c []) (p .shape .x) (p .shape .wide) (getD countsOver c 0) some (inside c h)
 
@@ -88,7 +88,7 @@ module _ (p : Plan) (symbols : List ℕ) (most : ℕ) (w : WalkEnd) (log : List 
         rw (s .it .counts, at-column 0 (omega arith), at-column 1 (omega arith), at-column 2 (omega arith)) (listed countsOver e)
 
 -- three rows as a list of three
-pub three-is : (rows : Grids) → length rows ≡ 3 → three rows ≡ rows
+pub three-is : (rows : PerChannel) → length rows ≡ 3 → three rows ≡ rows
 three-is (a ∷ b ∷ c ∷ []) e = refl
 three-is [] e = absurd (omega arith)
 three-is (a ∷ []) e = absurd (omega arith)
@@ -96,12 +96,12 @@ three-is (a ∷ b ∷ []) e = absurd (omega arith)
 three-is (a ∷ b ∷ c ∷ d ∷ l) e = absurd (omega arith)
 
 -- the three rows, rewritten one after the other
-pub rows-are : (p : Plan) (countsOver : List ℕ) (rows : Grids) → length rows ≡ 3 → (r₀ r₁ r₂ : List ℕ) → r₁ ≡ fillFrom (getD rows 1 []) (p .shape .x) (p .shape .wide) (getD countsOver 1 0)
+pub rows-are : (p : Plan) (countsOver : List ℕ) (rows : PerChannel) → length rows ≡ 3 → (r₀ r₁ r₂ : List ℕ) → r₁ ≡ fillFrom (getD rows 1 []) (p .shape .x) (p .shape .wide) (getD countsOver 1 0)
     → r₀ ≡ fillFrom (getD (set rows 1 r₁) 0 []) (p .shape .x) (p .shape .wide) (getD countsOver 0 0)
     → r₂ ≡ fillFrom (getD (set (set rows 1 r₁) 0 r₀) 2 []) (p .shape .x) (p .shape .wide) (getD countsOver 2 0)
     → set (set (set rows 1 r₁) 0 r₀) 2 r₂ ≡ rewritten p countsOver rows 3
 rows-are p countsOver rows f r₀ r₁ r₂ e₁ e₀ e₂ =
-    subst (λ (l : Grids). r₁ ≡ fillFrom (getD l 1 []) (p .shape .x) (p .shape .wide) (getD countsOver 1 0)
+    subst (λ (l : PerChannel). r₁ ≡ fillFrom (getD l 1 []) (p .shape .x) (p .shape .wide) (getD countsOver 1 0)
     → r₀ ≡ fillFrom (getD (set l 1 r₁) 0 []) (p .shape .x) (p .shape .wide) (getD countsOver 0 0)
     → r₂ ≡ fillFrom (getD (set (set l 1 r₁) 0 r₀) 2 []) (p .shape .x) (p .shape .wide) (getD countsOver 2 0)
     → set (set (set l 1 r₁) 0 r₀) 2 r₂ ≡ rewritten p countsOver rows 3) (three-is rows f) (λ a b d. rw (d, b, a)) e₁ e₀ e₂

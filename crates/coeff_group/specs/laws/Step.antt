@@ -8,15 +8,15 @@ use Rattle.lent_check.specs.declared.Group.{Group}
 use Rattle.coeff_walk.specs.declared.WalkEnd.{WalkEnd}
 use Rattle.coeff_walk.specs.laws.Outcome.{isStopped}
 use Rattle.coeff_group.specs.declared.plan.Plan.{Plan}
-use Rattle.coeff_group.specs.Group.{Grids, Reading, going, readItems}
+use Rattle.coeff_group.specs.Group.{PerChannel, Reading, going, readItems}
 use Rattle.coeff_group.specs.laws.Steps.{Shown}
 use Rattle.coeff_group.specs.laws.Plans.{itemsBy, Planned}
 use Rattle.coeff_group.specs.laws.Rewritten.{three-is, rewritten, VarblockShown}
 use Rattle.coeff_group.specs.laws.Lent.{varblockRead, varblock-is}
 use Rattle.coeff_group.specs.laws.Channels.{shown-stopped}
 
-module _ (p : Plan) (group : Group) (clusters : ℕ) (presetMap store : List ℕ) (rows : Grids) (symbols : List ℕ) (at shift : ℕ) (log : List ℕ) (G : Grids)
-    (planned : Planned p group clusters presetMap store shift) (room : at + 192 * 2 ^ (p .shape .exponent) ≤ length log) (three : length rows ≡ 3) (w : WalkEnd) (counts log₁ : List ℕ) (G₁ : Grids)
+module _ (p : Plan) (group : Group) (clusters : ℕ) (presetMap store : List ℕ) (rows : PerChannel) (symbols : List ℕ) (at shift : ℕ) (log : List ℕ) (G : PerChannel)
+    (planned : Planned p group clusters presetMap store shift) (room : at + 192 * 2 ^ (p .shape .exponent) ≤ length log) (three : length rows ≡ 3) (w : WalkEnd) (counts log₁ : List ℕ) (G₁ : PerChannel)
     (told : (left : ℕ) → VarblockShown p symbols (at + 192 * 2 ^ (p .shape .exponent)) w counts rows log₁ G₁ (varblockRead p group clusters presetMap store rows symbols at shift log G left)) where
   abbrev most : ℕ
   most = at + 192 * 2 ^ (p .shape .exponent)
@@ -28,7 +28,7 @@ module _ (p : Plan) (group : Group) (clusters : ℕ) (presetMap store : List ℕ
   shown left =
       subst (Shown symbols most w (rewritten p counts rows 3) log₁ G₁)
       (varblock-is p group clusters presetMap store rows symbols at shift log G planned room left
-      ∙ ap (λ (r : Grids). readItems shift clusters presetMap (itemsBy p group store) (going (drop at symbols) at log G r left)) (three-is rows three))
+      ∙ ap (λ (r : PerChannel). readItems shift clusters presetMap (itemsBy p group store) (going (drop at symbols) at log G r left)) (three-is rows three))
       (told left .shown)
 
   -- the reading stopped in it
@@ -36,5 +36,5 @@ module _ (p : Plan) (group : Group) (clusters : ℕ) (presetMap store : List ℕ
   step-stops e left = shown-stopped symbols most w (rewritten p counts rows 3) rows log₁ G₁ (whole left) (shown left) e
 
   -- it was read
-  pub step-goes : (rows₁ : Grids) → rows₁ ≡ rewritten p counts rows 3 → (length rows₁ ≡ 3) × ((left : ℕ) → Shown symbols most w rows₁ log₁ G₁ (whole left))
-  step-goes rows₁ e = (ap length e, λ left. subst (λ (r : Grids). Shown symbols most w r log₁ G₁ (whole left)) (sym e) (shown left))
+  pub step-goes : (rows₁ : PerChannel) → rows₁ ≡ rewritten p counts rows 3 → (length rows₁ ≡ 3) × ((left : ℕ) → Shown symbols most w rows₁ log₁ G₁ (whole left))
+  step-goes rows₁ e = (ap length e, λ left. subst (λ (r : PerChannel). Shown symbols most w r log₁ G₁ (whole left)) (sym e) (shown left))

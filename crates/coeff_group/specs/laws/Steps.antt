@@ -9,20 +9,20 @@ use Rattle.coeff_walk.specs.declared.WalkEnd.the-variants.{Done, Stopped}
 use Rattle.coeff_walk.specs.Walk.{Walked}
 use Rattle.coeff_walk.specs.laws.Outcome.{answerOf, logOf, gridOf, WalkShown}
 use Rattle.laws.specs.Lists.{fillFrom}
-use Rattle.coeff_group.specs.Group.{Grids, Reading, going, refused}
+use Rattle.coeff_group.specs.Group.{PerChannel, Reading, going, refused}
 
 -- a walk in grid c of three
-pub record InGrid (c : ℕ) (G : Grids) (r : WalkEnd) (log : List ℕ) (G′ : Grids) (walked : List ℕ → Walked) : Type 0 where
+pub record InGrid (c : ℕ) (G : PerChannel) (r : WalkEnd) (log : List ℕ) (G′ : PerChannel) (walked : List ℕ → Walked) : Type 0 where
   pub answer : r ≡ answerOf (walked (getD G c []))
   pub logged : log ≡ logOf (walked (getD G c []))
   pub cells : G′ ≡ set G c (gridOf (walked (getD G c [])))
 
 -- row c with v from x on, n times
-abbrev pub rowBy : Grids → ℕ → ℕ → ℕ → ℕ → Grids
+abbrev pub rowBy : PerChannel → ℕ → ℕ → ℕ → ℕ → PerChannel
 rowBy rows c x n v = set rows c (fillFrom (getD rows c []) x n v)
 
 -- what the code holds of a reading that goes on, at most `most` symbols read
-pub record Going (symbols : List ℕ) (most : ℕ) (w : WalkEnd) (rows : Grids) (log : List ℕ) (G : Grids) (us : List ℕ) (at : ℕ) (log′ : List ℕ) (G′ rows′ : Grids) : Type 0 where
+pub record Going (symbols : List ℕ) (most : ℕ) (w : WalkEnd) (rows : PerChannel) (log : List ℕ) (G : PerChannel) (us : List ℕ) (at : ℕ) (log′ : List ℕ) (G′ rows′ : PerChannel) : Type 0 where
   pub answer : w ≡ Done at
   pub rest : us ≡ drop at symbols
   pub few : at ≤ most
@@ -31,17 +31,17 @@ pub record Going (symbols : List ℕ) (most : ℕ) (w : WalkEnd) (rows : Grids) 
   pub cells : G′ ≡ G
 
 -- and of one that was refused
-pub record Ends (w : WalkEnd) (log : List ℕ) (G : Grids) (why : ℕ → Refusal) (at : ℕ) (log′ : List ℕ) (G′ : Grids) : Type 0 where
+pub record Ends (w : WalkEnd) (log : List ℕ) (G : PerChannel) (why : ℕ → Refusal) (at : ℕ) (log′ : List ℕ) (G′ : PerChannel) : Type 0 where
   pub answer : w ≡ Stopped (why at)
   pub logged : log′ ≡ log
   pub cells : G′ ≡ G
 
-abbrev pub ShownBy : List ℕ → ℕ → WalkEnd → Grids → List ℕ → Grids → Reading → Type 0
+abbrev pub ShownBy : List ℕ → ℕ → WalkEnd → PerChannel → List ℕ → PerChannel → Reading → Type 0
 ShownBy symbols most w rows log G (going us at log′ G′ rows′ left) = Going symbols most w rows log G us at log′ G′ rows′
 ShownBy symbols most w rows log G (refused why at log′ G′) = Ends w log G why at log′ G′
 
 -- what the code holds of a reading
-pub record Shown (symbols : List ℕ) (most : ℕ) (w : WalkEnd) (rows : Grids) (log : List ℕ) (G : Grids) (R : Reading) : Type 0 where
+pub record Shown (symbols : List ℕ) (most : ℕ) (w : WalkEnd) (rows : PerChannel) (log : List ℕ) (G : PerChannel) (R : Reading) : Type 0 where
   pub it : ShownBy symbols most w rows log G R
 
 -- the grid by the channel

@@ -21,7 +21,7 @@ use Rattle.coeff_walk.specs.laws.Outcome.{WalkShown, walk-used}
 use Rattle.coeff_walk.specs.laws.Lent.{lentFits, placesRead}
 use Rattle.order_natural.specs.laws.Flat.{paired-drop}
 use Rattle.coeff_walk.specs.declared.WalkEnd.{WalkEnd}
-use Rattle.coeff_walk.specs.declared.place.Spot.{Spot}
+use Rattle.coeff_walk.specs.declared.spot.Spot.{Spot}
 use Rattle.coeff_walk.specs.declared.shape.Shape.{Shape}
 
 -- the item of a varblock in a group bw blocks wide, in a channel of this block context and list;

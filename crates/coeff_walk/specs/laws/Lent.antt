@@ -9,7 +9,7 @@ use lib.Dec.{leb, eqb}
 use lib.ListN.{length, drop}
 use Rattle.laws.specs.laws.Cases.{and-true}
 use Rattle.refusal.specs.declared.Refusal.the-variants.{Length, Count}
-use Rattle.coeff_walk.specs.declared.place.Spot.{Spot}
+use Rattle.coeff_walk.specs.declared.spot.Spot.{Spot}
 use Rattle.coeff_walk.specs.Walk.{Walked, stopped, walk}
 use Rattle.coeff_walk.specs.laws.Outcome.{spotCells, Ready}
 

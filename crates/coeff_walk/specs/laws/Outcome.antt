@@ -17,7 +17,7 @@ use Rattle.order_natural.specs.Places.{paired}
 use Rattle.coeff_walk.specs.Places.{cellsOf}
 use Rattle.coeff_walk.specs.declared.WalkEnd.{WalkEnd}
 use Rattle.coeff_walk.specs.declared.WalkEnd.the-variants.{Done, Stopped}
-use Rattle.coeff_walk.specs.declared.place.Spot.{Spot}
+use Rattle.coeff_walk.specs.declared.spot.Spot.{Spot}
 
 -- of an answer: whether it was stopped, and the symbols read if not
 abbrev pub isStopped : WalkEnd → Bool

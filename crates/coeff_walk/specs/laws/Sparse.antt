@@ -7,7 +7,7 @@ use lib.ListN.{length, getD, set, take, drop, length-set}
 use Rattle.coeff_walk.specs.Walk.{Walked, walk, coeffContext, NUM-NONZERO, gain}
 use Rattle.coeff_walk.specs.declared.WalkEnd.the-variants.{Done, Stopped}
 use Rattle.refusal.specs.declared.Refusal.the-variants.{SymbolsEnd}
-use Rattle.coeff_walk.specs.declared.place.Spot.{Spot}
+use Rattle.coeff_walk.specs.declared.spot.Spot.{Spot}
 use Rattle.coeff_walk.specs.laws.Outcome.{spotCells, Ready, WalkShown, walk-used, walk-done, walk-15, walk-zero, walk-more, ends}
 use Rattle.coeff_walk.specs.laws.Kept.{length-gain}
 use Rattle.coeff_walk.specs.laws.PlaceLaws.{places-count}

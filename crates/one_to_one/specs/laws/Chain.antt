@@ -13,7 +13,7 @@ use Rattle.lent_cut.specs.laws.Theorems.{cut-checks}
 use Rattle.layout_call.specs.Call.{layoutOf}
 use Rattle.layout_accepted.specs.Outcome.{bwOf, bhOf}
 use Rattle.context_call.specs.laws.Accepted.{accepted-fit}
-use Rattle.coeff_group.specs.Group.{Grids}
+use Rattle.coeff_group.specs.Group.{PerChannel}
 use Rattle.coeff_call.specs.Call.{Lent}
 use Rattle.one_to_one.specs.Filling.{Fixed, Given, Filling, Fills, Fails}
 use Rattle.one_to_one.specs.laws.Demand3.{one-sequence, every-other}
@@ -42,9 +42,9 @@ module _ (L : Lent) (given : Given L) where
   }
 
   -- one sequence and only one, from the calls' answers
-  pub one-sequence-by-calls : (W : Grids) → Filling L W → Words (theSequence (L .pass) (L .grids) W) × ((s : List ℕ) → Words s → Fills L s W ↔ (s ≡ theSequence (L .pass) (L .grids) W))
+  pub one-sequence-by-calls : (W : PerChannel) → Filling L W → Words (theSequence (L .pass) (L .grids) W) × ((s : List ℕ) → Words s → Fills L s W ↔ (s ≡ theSequence (L .pass) (L .grids) W))
   one-sequence-by-calls W filling = one-sequence L fixed-by-calls W filling
 
   -- and every other sequence fails
-  pub every-other-by-calls : (W : Grids) → Filling L W → (s : List ℕ) → Words s → Fails L s W ↔ (s ≡ theSequence (L .pass) (L .grids) W → ⊥)
+  pub every-other-by-calls : (W : PerChannel) → Filling L W → (s : List ℕ) → Words s → Fails L s W ↔ (s ≡ theSequence (L .pass) (L .grids) W → ⊥)
   every-other-by-calls W filling = every-other L fixed-by-calls W filling

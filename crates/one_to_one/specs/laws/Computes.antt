@@ -27,7 +27,7 @@ use Rattle.context_call.specs.Call.{contextsOf}
 use Rattle.coeff_walk.specs.Walk.{walk, coeffContext, FREQ, NUM-NONZERO}
 use Rattle.coeff_walk.specs.Places.{cellsOf}
 use Rattle.coeff_walk.specs.Item.{counted}
-use Rattle.coeff_group.specs.Group.{Grids, readItem, readItems}
+use Rattle.coeff_group.specs.Group.{PerChannel, readItem, readItems}
 use Rattle.coeff_group.specs.Pass.{itemOf, itemsOf}
 use Rattle.one_to_one.specs.Filling.{isLow, wanted}
 use Rattle.coeff_group.specs.Sequence.{cell, sent, theSequence}
@@ -66,7 +66,7 @@ below m z (v ∷ l) t (suc i) = below m z l (and-r (ltb v m) (every (λ (v : ℕ
 abbrev small : List ℕ → Bool
 small g = every (λ (v : ℕ). ltb v (2 ^ 32)) g
 
-pub cells-below : (G : Grids) → T (every small G) → (c p : ℕ) → cell G c p < 2 ^ 32
+pub cells-below : (G : PerChannel) → T (every small G) → (c p : ℕ) → cell G c p < 2 ^ 32
 cells-below [] t c p = omega arith
 cells-below (g ∷ G) t zero p = below (2 ^ 32) (omega arith) g (and-l (small g) (every small G) t) p
 cells-below (g ∷ G) t (suc c) p = cells-below G (and-r (small g) (every small G) t) c p

@@ -10,7 +10,7 @@ use Rattle.layout.specs.laws.Corners.{Apart, corners-apart}
 use Rattle.layout.specs.laws.Rectangles.{right, bottom, covers}
 use Rattle.layout.specs.laws.Theorems.{disjoint, layout-area}
 use Rattle.layout.specs.Varblocks.{Varblock, area}
-use Rattle.coeff_group.specs.Group.{Grids, zeroRows}
+use Rattle.coeff_group.specs.Group.{PerChannel, zeroRows}
 use Rattle.coeff_group.specs.Pass.{varblocks, itemsOf}
 use Rattle.coeff_group.specs.Work.{clustersOf}
 use Rattle.coeff_call.specs.Call.{Lent, presetMap}
@@ -22,7 +22,7 @@ use Rattle.coeff_walk.specs.Sent.{Words}
 use Rattle.coeff_group.specs.Sequence.{theSequence}
 
 module _ (L : Lent) (fixed : Fixed L) where
-  module _ (W : Grids) (filling : Filling L W) where
+  module _ (W : PerChannel) (filling : Filling L W) where
     -- these 32-bit symbols fill the cells so, and no other symbols do
     pub one-sequence : Words (theSequence (L .pass) (L .grids) W) × ((s : List ℕ) → Words s → Fills L s W ↔ (s ≡ theSequence (L .pass) (L .grids) W))
     unfolding theSequence

@@ -15,7 +15,7 @@ use Rattle.coeff_walk.specs.laws.Kept.{length-gain}
 use Rattle.coeff_walk.specs.laws.Counts.{count-over}
 use Rattle.laws.specs.Lists.{fillFrom}
 use Rattle.coeff_walk.specs.Item.{Item, predicted, countIndex, countOver, newRow, countCluster, coeffMapOf, counted, countEntry}
-use Rattle.coeff_group.specs.Group.{Grids, Reading, going, refused, after, readItem}
+use Rattle.coeff_group.specs.Group.{PerChannel, Reading, going, refused, after, readItem}
 use Rattle.coeff_walk.specs.laws.Walks.{End, ends, stops, walkedBy, gains, length-gains, run}
 use Rattle.coeff_group.specs.laws.Cells.{set-below, put-all, In}
 use Rattle.coeff_group.specs.laws.Symbols.{symbolsIn}
@@ -95,7 +95,7 @@ pub record Sound (width cells clusters : ℕ) (it : Item) : Type 0 where
   pub places : (p : ℕ) → In p (it .cells) → p < cells
 
 -- a reading with three grids of so many cells, three rows so wide, and room in the log for so many more symbols
-pub record Sane (width gridCells due at : ℕ) (log : List ℕ) (grids rows : Grids) : Type 0 where
+pub record Sane (width gridCells due at : ℕ) (log : List ℕ) (grids rows : PerChannel) : Type 0 where
   pub three : 3 ≤ length grids
   pub cells : (c : ℕ) → c < 3 → length (getD grids c []) ≡ gridCells
   pub rows3 : length rows ≡ 3
@@ -151,7 +151,7 @@ module _ (shift clusters : ℕ) (presetMap : List ℕ) (whole : length presetMap
         )
 
     -- what the item leaves, however its walk ended, with its row rewritten
-    after-fine : (rest at : ℕ) (grids rows : Grids) (left : ℕ) (row log : List ℕ) (e : End) (at′ : ℕ) (log′ g : List ℕ) → Sane width cells (suc (length (it .cells)) + rest) at log grids rows
+    after-fine : (rest at : ℕ) (grids rows : PerChannel) (left : ℕ) (row log : List ℕ) (e : End) (at′ : ℕ) (log′ g : List ℕ) → Sane width cells (suc (length (it .cells)) + rest) at log grids rows
         → at′ ≤ at + suc (length (it .cells)) → length log′ ≡ length log → length g ≡ cells → length row ≡ width → Small row
         → Fine width cells rest (after (it .channel) grids (set rows (it .channel) row) left (walkedBy e at′ log′ g))
     after-fine rest at grids rows left row log (stops why) at′ log′ g f a b c e m = tt

@@ -26,7 +26,7 @@ use Rattle.order_call.specs.Call.{Wrote}
 use Rattle.order_call.specs.laws.Wrote.{listOf, wrote-order, wrote-stretch}
 use Rattle.coeff_walk.specs.laws.PlaceLaws.{length-places}
 use Rattle.coeff_walk.specs.Item.{Item}
-use Rattle.coeff_group.specs.Group.{Grids}
+use Rattle.coeff_group.specs.Group.{PerChannel}
 use Rattle.coeff_group.specs.Pass.{Pass, varblocks, blocksOf, cellsIn, itemOf, itemsOf}
 use Rattle.dct_select.specs.laws.Sides.{order-lt}
 use Rattle.one_to_one.specs.Filling.{gridCells, ReadAt, LaidOut, Sized, Low, LowKept}
@@ -165,7 +165,7 @@ module _ (P : Pass) (lay : LaidOut P) (ord : Ordered P) where
   pub item-size : (it : Item) → In it (itemsOf P (varblocks P)) → (it .blocks ≤ 1024) × (length (it .cells) ≡ 63 * it .blocks)
   item-size = each-item P (λ it. (it .blocks ≤ 1024) × (length (it .cells) ≡ 63 * it .blocks)) (varblocks P) (λ v j n c hn hc. unfold itemOf in (few lay v j, places-size v j c hc))
 
-  pub cells-fit : (G : Grids) → Sized P G → ((c p : ℕ) → cell G c p < 2 ^ 32) → Fit G (readCells (itemsOf P (varblocks P)))
+  pub cells-fit : (G : PerChannel) → Sized P G → ((c p : ℕ) → cell G c p < 2 ^ 32) → Fit G (readCells (itemsOf P (varblocks P)))
   cells-fit G sz small = record {
     channel = λ x j. let r = held P (varblocks P) (x .0) (x .1) j in omega (arith, sz .three, r .2);
     place = λ x j. let r = held P (varblocks P) (x .0) (x .1) j in rw (sz .cells (x .0) (r .2)) (places-inside (r .0) (r .1) (x .0) (r .2) (x .1) (r .3));
@@ -255,7 +255,7 @@ module _ (P : Pass) (lay : LaidOut P) (ord : Ordered P) where
       spread v i c (s .2) .upper (r .0) (r .1) (omega arith) (omega arith)
 
   -- so, of grids that agree in the low-frequency cells, each cell is read or the same in both
-  pub place-or-same : (G W : Grids) → Sized P G → Sized P W → LowKept P G W → (c p : ℕ) → ReadAt P c p ⊎ ((ReadAt P c p → ⊥) × (cell W c p ≡ cell G c p))
+  pub place-or-same : (G W : PerChannel) → Sized P G → Sized P W → LowKept P G W → (c p : ℕ) → ReadAt P c p ⊎ ((ReadAt P c p → ⊥) × (cell W c p ≡ cell G c p))
   place-or-same G W sg sw kept c p = channel (decLt c 3)
     where
       at-cell : c < 3 → Dec (p < gridCells P) → ReadAt P c p ⊎ ((ReadAt P c p → ⊥) × (cell W c p ≡ cell G c p))

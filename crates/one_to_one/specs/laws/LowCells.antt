@@ -8,7 +8,7 @@ use native.Mathlib.Decide.{ℕ-discrete, decLt}
 use lib.ListN.{length, getD, set, length-set}
 use lib.Seq.{sets, set-out, getD-set-same, getD-set-other}
 use Rattle.layout.specs.laws.Theorems.{layout-iff}
-use Rattle.coeff_group.specs.Group.{Grids}
+use Rattle.coeff_group.specs.Group.{PerChannel}
 use Rattle.coeff_group.specs.Pass.{Pass, varblocks, itemsOf}
 use Rattle.coeff_call.specs.Call.{Lent, Outcome, outcome, call}
 use Rattle.coeff_call.specs.laws.CallLaws.{lengths-fit}
@@ -53,7 +53,7 @@ module _ (L : Lent) (fixed : Fixed L) where
       go (inr i) = inr (i, λ (l : Low P p). low-not-held P (fixed .layout) ordered c p l i)
 
   -- any 32-bit number may be asked for in any cell that is not low-frequency
-  pub others-free : (W : Grids) → Filling L W → (c p v : ℕ) → (Low (L .pass) p → ⊥) → v < 2 ^ 32 → Filling L (put W c p v)
+  pub others-free : (W : PerChannel) → Filling L W → (c p v : ℕ) → (Low (L .pass) p → ⊥) → v < 2 ^ 32 → Filling L (put W c p v)
   others-free W f c p v n h = go (decLt c (length W))
     where
       g : List ℕ

@@ -26,7 +26,7 @@ use Rattle.order_store.specs.Store.{PLACES, stretch, placesFit}
 use Rattle.order_places.specs.Places.{Inside}
 use Rattle.order_places.specs.laws.Places.{fits-at}
 use Rattle.coeff_walk.specs.Item.{Item}
-use Rattle.coeff_group.specs.Group.{Grids, Reading, going, readItem, readItems, zeroRows}
+use Rattle.coeff_group.specs.Group.{PerChannel, Reading, going, readItem, readItems, zeroRows}
 use Rattle.coeff_group.specs.Pass.{Pass, varblocks, blocksOf, contextEntry, cellsIn, itemOf, channels, itemsOf}
 use Rattle.coeff_group.specs.Work.{clustersOf}
 use Rattle.dct_select.specs.laws.Sides.{order-lt}
@@ -119,7 +119,7 @@ zeros-small zero i = omega arith
 zeros-small (suc n) zero = omega arith
 zeros-small (suc n) (suc i) = zeros-small n i
 
-some-there : (G : Grids) (n : ℕ) → length (getD G 2 []) ≡ n → 0 < n → 3 ≤ length G
+some-there : (G : PerChannel) (n : ℕ) → length (getD G 2 []) ≡ n → 0 < n → 3 ≤ length G
 some-there [] n e h = absurd (omega arith)
 some-there (a ∷ []) n e h = absurd (omega arith)
 some-there (a ∷ b ∷ []) n e h = absurd (omega arith)

@@ -11,7 +11,7 @@ use Rattle.coded_numbers.specs.Signed.{symbol}
 use Rattle.coeff_walk.specs.Walk.{less}
 use Rattle.coeff_walk.specs.Item.{Item}
 use Rattle.refusal.specs.Answer.{gives}
-use Rattle.coeff_group.specs.Group.{leftOf, Grids, Reading, going, refused, readItems}
+use Rattle.coeff_group.specs.Group.{leftOf, PerChannel, Reading, going, refused, readItems}
 use Rattle.coeff_call.specs.Call.{outcome}
 use Rattle.coeff_walk.specs.laws.Walks.{nonZeros-le}
 use Rattle.coeff_group.specs.laws.Cells.{Distinct, Shape, same-shape, adds, adds-shape, adds-off, Fit, change, only-symbols, symbols-turn, In}
@@ -21,13 +21,13 @@ use Rattle.coeff_group.specs.Sequence.{cell, sent, changes, GridCell, readCells
 use Rattle.coeff_walk.specs.Sent.{Words, nonZeros, upTo}
 
 -- accepted, read to the last symbol, every count used up, these grids
-pub record Filled (r : Reading) (s : List ℕ) (W : Grids) : Type 0 where
+pub record Filled (r : Reading) (s : List ℕ) (W : PerChannel) : Type 0 where
   pub accepted : outcome r .answer ≡ gives (length s)
   pub used : leftOf r ≡ 0
   pub grids : outcome r .grids ≡ W
 
 -- what is held fixed, and a filling: each cell is read at, or kept
-pub record Group (its : List Item) (G W : Grids) : Type 0 where
+pub record Group (its : List Item) (G W : PerChannel) : Type 0 where
   pub few : (it : Item) → In it its → length (it .cells) < 2 ^ 32
   pub sized : Sized its
   pub distinct : Distinct (readCells its)
@@ -36,11 +36,11 @@ pub record Group (its : List Item) (G W : Grids) : Type 0 where
   pub shape : Shape W G
   pub kept : (c p : ℕ) → In (c, p) (readCells its) ⊎ ((In (c, p) (readCells its) → ⊥) × (cell W c p ≡ cell G c p))
 
-abbrev pub reading : ℕ → List ℕ → List Item → List ℕ → List ℕ → Grids → Grids → Reading
+abbrev pub reading : ℕ → List ℕ → List Item → List ℕ → List ℕ → PerChannel → PerChannel → Reading
 reading clusters presetMap its s log G rows = readItems 0 clusters presetMap its (going s 0 log G rows 0)
 
 -- symbols item by item, and cell by cell
-module _ (G W : Grids) where
+module _ (G W : PerChannel) where
   changes-long : (its : List Item) → Long its (map (changes G W) its)
   changes-long [] = tt
   changes-long (it ∷ its) = (length-map (it .cells) _, changes-long its)
@@ -85,7 +85,7 @@ upTo-words n [] w = tt
 upTo-words zero (d ∷ ds) w = tt
 upTo-words (suc n) (d ∷ ds) w = (w .0, upTo-words (less d n) ds (w .1))
 
-pub sequence-words : (its : List Item) (G W : Grids) → ((it : Item) → In it its → length (it .cells) < 2 ^ 32) → Words (sent (map (changes G W) its))
+pub sequence-words : (its : List Item) (G W : PerChannel) → ((it : Item) → In it its → length (it .cells) < 2 ^ 32) → Words (sent (map (changes G W) its))
 unfolding sent
 sequence-words [] G W f = tt
 sequence-words (it ∷ its) G W f =
@@ -97,7 +97,7 @@ none : (l : List ℕ) → length l ≡ 0 → l ≡ []
 none [] e = refl
 none (x ∷ l) e = absurd (omega arith)
 
-module _ (clusters : ℕ) (presetMap : List ℕ) (its : List Item) (G W : Grids) (group : Group its G W) (log : List ℕ) (rows : Grids) where
+module _ (clusters : ℕ) (presetMap : List ℕ) (its : List Item) (G W : PerChannel) (group : Group its G W) (log : List ℕ) (rows : PerChannel) where
   abbrev dss : List (List ℕ)
   dss = map (changes G W) its
 
@@ -111,10 +111,10 @@ module _ (clusters : ℕ) (presetMap : List ℕ) (its : List Item) (G W : Grids)
       go c p (inr n) = adds-off 0 G (readCells its) (joined dss) (c, p) (n .0) ∙ sym (n .1)
 
   -- a reading to the last symbol reads as many as there are
-  to-last : (s : List ℕ) (at : ℕ) (log′ : List ℕ) (F rows′ : Grids) (left : ℕ) → reading clusters presetMap its s log G rows ≡ going [] at log′ F rows′ left → at ≡ length s
+  to-last : (s : List ℕ) (at : ℕ) (log′ : List ℕ) (F rows′ : PerChannel) (left : ℕ) → reading clusters presetMap its s log G rows ≡ going [] at log′ F rows′ left → at ≡ length s
   to-last s at log′ F rows′ left e = let q = run.reads clusters presetMap its s rows 0 in go (length (q .clusters)) (sets log 0 (q .clusters)) (adds 0 G (readCells its) (joined (q .dss))) (q .dss) (q .end) (q .is 0 0 log G) (q .tells)
     where
-      go : (k : ℕ) (l : List ℕ) (H : Grids) (ess : List (List ℕ)) (e₁ : run.End) → reading clusters presetMap its s log G rows ≡ run.readBy e₁ (0 + k) l H → run.Tells s 0 k ess e₁ → at ≡ length s
+      go : (k : ℕ) (l : List ℕ) (H : PerChannel) (ess : List (List ℕ)) (e₁ : run.End) → reading clusters presetMap its s log G rows ≡ run.readBy e₁ (0 + k) l H → run.Tells s 0 k ess e₁ → at ≡ length s
       go k l H ess (run.ends us rows₁ left₁) f t =
           let g : going [] at log′ F rows′ left ≡ going us (0 + k) l H rows₁ left₁ = sym e ∙ f in
           let a : at ≡ 0 + k = cc in let b : _≡_ {A = List ℕ} [] us = cc in
@@ -144,7 +144,7 @@ module _ (clusters : ℕ) (presetMap : List ℕ) (its : List Item) (G W : Grids)
           let d : ess ≡ dss =
           joined-only its ess dss long (changes-long G W its)
           (only-symbols G (readCells its) (joined ess) (group .distinct) (group .fit) (t .words h) (long-joined its ess long)
-          ∙ ap (λ (X : Grids). map (change G X) (readCells its)) g ∙ sym (changes-joined G W its)) in
+          ∙ ap (λ (X : PerChannel). map (change G X) (readCells its)) g ∙ sym (changes-joined G W its)) in
           t .used (sym (ap leftOf e) ∙ f .used) ∙ rw (none us (omega (arith, t .read)), d) (append-nil (sent dss))
       go k l ess (run.stops why) long e t =
           let a = sym (ap (λ (x : Reading). outcome x .answer) e) ∙ f .accepted in

@@ -13,7 +13,7 @@ use Rattle.layout.specs.laws.Theorems.{layout-check}
 use Rattle.order_call.specs.laws.Wrote.{wrote-fits}
 use Rattle.coeff_walk.specs.Item.{Item}
 use Rattle.refusal.specs.Answer.{Answer, gives, refuses}
-use Rattle.coeff_group.specs.Group.{Grids, Reading, going, leftOf, zeroRows}
+use Rattle.coeff_group.specs.Group.{PerChannel, Reading, going, leftOf, zeroRows}
 use Rattle.coeff_group.specs.laws.GroupLaws.{group-items}
 use Rattle.coeff_group.specs.Pass.{Pass, varblocks, itemsOf}
 use Rattle.coeff_group.specs.Work.{clustersOf}
@@ -26,7 +26,7 @@ use Rattle.one_to_one.specs.laws.Items.{wrote-ordered, Ordered, item-siz
 use Rattle.one_to_one.specs.laws.OneToOne as over
 use Rattle.one_to_one.specs.laws.SymbolsRead.{never-more}
 
-pub shapes : (P : Pass) (G W : Grids) → Sized P G → Sized P W → Shape W G
+pub shapes : (P : Pass) (G W : PerChannel) → Sized P G → Sized P W → Shape W G
 shapes P G W g w = record { count = w .three ∙ sym (g .three); sizes = λ (c : ℕ). at c (decLt c 3) }
   where
     at : (c : ℕ) → Dec (c < 3) → length (getD W c []) ≡ length (getD G c [])
@@ -64,7 +64,7 @@ module _ (L : Lent) (fixed : Fixed L) where
       parameters : (shift presets : ℕ) → shift ≤ 3 → presets ≤ 256 → parametersFit shift presets ≡ true
       parameters shift presets a b = rw (le-leb shift 3 a, le-leb presets 256 b)
 
-  module _ (W : Grids) (filling : Filling L W) where
+  module _ (W : PerChannel) (filling : Filling L W) where
     pub group : over.Group items (L .grids) W
     group = record {
       few = λ it i. let z = item-size P (fixed .layout) ordered it i in let a = z .0 in let b = z .1 in omega arith;
@@ -113,14 +113,14 @@ module _ (L : Lent) (fixed : Fixed L) where
         }
 
 -- no sequence fails that fills
-pub fills-not : (L : Lent) (s : List ℕ) (W : Grids) → Fills L s W → Fails L s W → ⊥
+pub fills-not : (L : Lent) (s : List ℕ) (W : PerChannel) → Fills L s W → Fails L s W → ⊥
 fills-not L s W f (refused why e) = let a = f .accepted in let z : _≡_ {A = ℕ} 0 1 = cc in omega arith
 fills-not L s W f (unread n h e) = let a : gives n ≡ gives (length s) = sym e ∙ f .accepted in let b : n ≡ length s = cc in omega arith
 fills-not L s W f (leftOver h) = let a = f .used in omega arith
 fills-not L s W f (otherGrids n) = n (f .grids)
 
 -- a sequence that does not fill fails
-pub not-fills : (L : Lent) (s : List ℕ) (W : Grids) → (Fills L s W → ⊥) → Fails L s W
+pub not-fills : (L : Lent) (s : List ℕ) (W : PerChannel) → (Fills L s W → ⊥) → Fails L s W
 not-fills L s W n = by-answer (call (withSymbols L s) .answer) refl
   where
     by-rest : call (withSymbols L s) .answer ≡ gives (length s) → Dec (leftover (withSymbols L s) ≡ 0) → Fails L s W

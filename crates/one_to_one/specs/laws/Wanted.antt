@@ -13,7 +13,7 @@ use Rattle.dct_select.specs.Transforms.{wide, high}
 use Rattle.layout.specs.laws.Grid.{grid-length, grid-at, Cell, cell-at}
 use Rattle.layout.specs.Varblocks.{Varblock}
 use Rattle.layout.specs.Listed.{Among, first, later}
-use Rattle.coeff_group.specs.Group.{Grids}
+use Rattle.coeff_group.specs.Group.{PerChannel}
 use Rattle.coeff_group.specs.Pass.{Pass, varblocks}
 use Rattle.coeff_call.specs.Call.{Lent}
 use Rattle.one_to_one.specs.Filling.{gridCells, Low, LowKept, lowIn, lowInSome, isLow, Sized, Fixed, Filling, asked, gridWanted, wanted, Fills, Fails}
@@ -118,10 +118,10 @@ module _ (L : Lent) (fixed : Fixed L) (f : ℕ → ℕ → ℕ) (words : (c p : 
   sized : Sized (L .pass) (wanted L f)
   sized = record { three = three L f; cells = λ c h. ap length (channel-is L f c h) ∙ grid-long L f c }
 
-  outside : (W : Grids) → Sized (L .pass) W → (c p : ℕ) → c < 3 → (p < gridCells (L .pass) → ⊥) → cell W c p ≡ 0
+  outside : (W : PerChannel) → Sized (L .pass) W → (c p : ℕ) → c < 3 → (p < gridCells (L .pass) → ⊥) → cell W c p ≡ 0
   outside W s c p h n = let a : length (getD W c []) ≡ gridCells (L .pass) = s .cells c h in List·getD-eq-default (getD W c []) 0 (omega arith)
 
-  no-channel : (W : Grids) → length W ≡ 3 → (c p : ℕ) → (c < 3 → ⊥) → cell W c p ≡ 0
+  no-channel : (W : PerChannel) → length W ≡ 3 → (c p : ℕ) → (c < 3 → ⊥) → cell W c p ≡ 0
   no-channel W e c p n = rw (List·getD-eq-default W [] {n = c} (omega arith))
 
   -- each cell that is not low-frequency holds what is asked for
@@ -156,7 +156,7 @@ module _ (L : Lent) (fixed : Fixed L) (f : ℕ → ℕ → ℕ) (words : (c p : 
   wanted-filling = record { sized = sized; words = small; low = low }
 
   -- and no other filling holds these numbers
-  pub wanted-only : (W : Grids) → Filling L W → ((c p : ℕ) → c < 3 → p < gridCells (L .pass) → (Low (L .pass) p → ⊥) → cell W c p ≡ f c p) → W ≡ wanted L f
+  pub wanted-only : (W : PerChannel) → Filling L W → ((c p : ℕ) → c < 3 → p < gridCells (L .pass) → (Low (L .pass) p → ⊥) → cell W c p ≡ f c p) → W ≡ wanted L f
   wanted-only W filling g =
       same-shape W (wanted L f) (shapes (L .pass) (wanted L f) W sized (filling .sized)) (λ (c : ℕ). λ (p : ℕ). at-cell c p (decLt c 3) (decLt p (gridCells (L .pass))))
     where

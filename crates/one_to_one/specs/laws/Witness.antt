@@ -15,7 +15,7 @@ use Rattle.order_store.specs.Store.{PLACES}
 use Rattle.context_call.specs.Call.{contextsOf}
 use Rattle.layout.specs.laws.Theorems.{layout-check}
 use Rattle.refusal.specs.Answer.{gives}
-use Rattle.coeff_group.specs.Group.{Grids, Reading, going, leftOf, readItems, zeroRows}
+use Rattle.coeff_group.specs.Group.{PerChannel, Reading, going, leftOf, readItems, zeroRows}
 use Rattle.coeff_group.specs.laws.GroupLaws.{group-items}
 use Rattle.coeff_group.specs.Pass.{varblocks, itemsOf}
 use Rattle.coeff_call.specs.Call.{Lent, Outcome, lengthsFit, presetBits, presetMap, reading, outcome as outcomeOf, leftoverAt, leftover, call}
@@ -149,5 +149,5 @@ pub left-over : leftover (withSymbols one leaving) ≡ 1
 left-over = ap (leftoverAt L) no-bits ∙ ap leftOf by-items ∙ end-is (presetMap L 0) .0
 
 -- so these symbols fill no grids in the sense of demand 3
-pub left-fails : (W : Grids) → Fails one leaving W
+pub left-fails : (W : PerChannel) → Fails one leaving W
 left-fails W = leftOver (omega (arith, left-over))

@@ -14,18 +14,18 @@ abbrev μ-loop : tie.MeasureT-loop
 loop-holds : tie.Need-loop-holds Inv-loop μ-loop
 loop-holds c = let a = c .before .before .before .args in zeros-start (a .exponent) (a .entries .now) (a .symbols .now) (a .start) (a .from) (a .stop) (a .log .now) (c .before .before .before .pre .1 .begins)
 
-place-entry-requires : tie.Need-place-entry-requires Inv-loop μ-loop
-place-entry-requires c κs = (c .before .before .before .before .before .before .before .pre .0, c .before .before .before .before .before .before .before .pre .1 .small, omega (arith, c .before .before .before .before .before .before .before .pre .1 .places))
+frequency-entry-requires : tie.Need-frequency-entry-requires Inv-loop μ-loop
+frequency-entry-requires c κs = (c .before .before .before .before .before .before .before .pre .0, c .before .before .before .before .before .before .before .pre .1 .small, omega (arith, c .before .before .before .before .before .before .before .pre .1 .places))
 
 shared-slice-read-log : tie.Need-shared-slice-read-log Inv-loop μ-loop
-shared-slice-read-log c = omega (arith, c .before .place-entry .ensures .0, c .before .before .before .before .before .before .before .before .before .pre .1 .enough, freq-at (c .before .before .before .before .before .before .before .before .before .args .exponent) (c .before .before .before .before .before .loop .k) (omega (arith, c .before .before .before .before .before .before .before .before .before .pre .1 .places)))
+shared-slice-read-log c = omega (arith, c .before .frequency-entry .ensures .0, c .before .before .before .before .before .before .before .before .before .pre .1 .enough, freq-at (c .before .before .before .before .before .before .before .before .before .args .exponent) (c .before .before .before .before .before .loop .k) (omega (arith, c .before .before .before .before .before .before .before .before .before .pre .1 .places)))
 
 loop-again : tie.Need-loop-again Inv-loop μ-loop
 loop-again c =
     let a = c .before .before .before .before .before .before .before .before .before .args in
     let l = c .before .before .before .before .before .loop in
     let p = c .before .before .before .before .before .before .before .before .before .pre in
-    rw (c .before .place-entry .ensures .0) (zeros-turn (a .exponent) (a .entries .now) (a .symbols .now) (a .start) (a .from) (a .stop) (a .log .now) (l .k) (l .log) (omega arith) (p .1 .places) (p .1 .lent) (c .before .before .if1 .left) (l .inv))
+    rw (c .before .frequency-entry .ensures .0) (zeros-turn (a .exponent) (a .entries .now) (a .symbols .now) (a .start) (a .from) (a .stop) (a .log .now) (l .k) (l .log) (omega arith) (p .1 .places) (p .1 .lent) (c .before .before .if1 .left) (l .inv))
 
 pub pass-zeros-spec : {M : Type 1} → statement M
 pass-zeros-spec =
@@ -39,7 +39,7 @@ pass-zeros-spec =
     (λ c. search needs)
     (λ c. search needs)
     (λ c. search needs)
-    place-entry-requires
+    frequency-entry-requires
     (λ c. search needs)
     shared-slice-read-log
     (λ c. search needs)

@@ -34,8 +34,8 @@ turning : (c : tie.Else1 Inv-loop μ-loop) → Turn (c .before .before .before .
 turning c = turn (c .before .before .loop .inv) (c .before .before .before .before .before .before .before .before .before .before .pre .2) (c .before .loop-test .taken) (c .if1 .left)
 
 -- The count's entry.
-entry : (c : tie.After-count-entry Inv-loop μ-loop) → 2 * c .count-entry .result ≡ 2 * getD NUM-NONZERO ((c .before .before .before .before .before .before .before .loop .left - 1) / 2 ^ (c .before .before .before .before .before .before .before .before .before .before .before .before .before .before .before .args .spot .exponent)) 0
-entry c = ap (λ (n : ℕ). 2 * n) (c .count-entry .ensures .0)
+entry : (c : tie.After-nonzeros-entry Inv-loop μ-loop) → 2 * c .nonzeros-entry .result ≡ 2 * getD NUM-NONZERO ((c .before .before .before .before .before .before .before .loop .left - 1) / 2 ^ (c .before .before .before .before .before .before .before .before .before .before .before .before .before .before .before .args .spot .exponent)) 0
+entry c = ap (λ (n : ℕ). 2 * n) (c .nonzeros-entry .ensures .0)
 
 loop-holds : tie.Need-loop-holds Inv-loop μ-loop
 loop-holds c = let m = c .lesser-of .ensures in let b = c .before .behind .ensures in sparse-start (c .before .before .before .before .before .before .before .pre .2) (c .before .before .before .before .before .before .before .pre .3) (c .lesser-of .result) (m .0) (omega (arith, m .1, b)) (λ h. m .2 h ∙ b)
@@ -46,8 +46,8 @@ coeff-context-requires c κs = let t = turning c in (c .before .before .before .
 shared-slice-read-log : tie.Need-shared-slice-read-log Inv-loop μ-loop
 shared-slice-read-log c = omega (arith, c .before .before .coeff-context .ensures, turning (c .before .before .before) .context, c .before .before .before .before .before .before .before .before .before .before .before .before .before .pre .2 .entries)
 
-count-entry-requires : tie.Need-count-entry-requires Inv-loop μ-loop
-count-entry-requires c κs = (c .before .before .before .before .before .before .before .before .before .before .before .before .before .before .pre .0, c .before .before .before .before .before .before .before .before .before .before .before .before .before .before .pre .2 .exponent, turning (c .before .before .before .before) .counts)
+nonzeros-entry-requires : tie.Need-nonzeros-entry-requires Inv-loop μ-loop
+nonzeros-entry-requires c κs = (c .before .before .before .before .before .before .before .before .before .before .before .before .before .before .pre .0, c .before .before .before .before .before .before .before .before .before .before .before .before .before .before .pre .2 .exponent, turning (c .before .before .before .before) .counts)
 
 sub-zeros-from : tie.Need-sub-zeros-from Inv-loop μ-loop
 sub-zeros-from c = omega (arith, entry c, turning (c .before .before .before .before .before) .entry)
@@ -88,8 +88,8 @@ walk-sparse-spec =
     shared-slice-read-log
     (λ c. turning (c .before .before .before) .room)
     (λ c. turning (c .before .before .before .before) .due)
-    count-entry-requires
-    (λ c. omega (arith, c .count-entry .ensures .1))
+    nonzeros-entry-requires
+    (λ c. omega (arith, c .nonzeros-entry .ensures .1))
     (λ c. next-fits (c .before .before .before .before .before .before .before))
     sub-zeros-from
     sub-zeros-from
