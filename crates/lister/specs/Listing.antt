@@ -1,9 +1,8 @@
 -- The text that the lister prints (document 01, The lister).
-use mathlib.Core.Bool.{Bool, cond, _&&_}
+use mathlib.Core.Bool.{cond, _&&_}
 use mathlib.Core.List.{List, [], _∷_}
 use Prim.Native.Nat.{ℕ, _*_}
 use lib.ListN.{replicate}
-use lib.Ieee.{Float}
 use Rattle.refusal.specs.Answer.{Answer, answeredBy}
 use Rattle.layout_sizes.specs.Blocks.{bwIn, bhIn}
 use Rattle.layout_filter.specs.declared.Filter.the-variants.{Off}

@@ -7,7 +7,7 @@ use Rattle.coeff_group.specs.laws.WorkLaws.{WorkReady, part-long}
 use Rattle.coeff_call.specs.Call.{Lent, lent, Passed, reading}
 use Rattle.coeff_call.specs.laws.CallSteps.{checks-refused, checks-passed, preset-refused, below, work-ready, call-done}
 use borrow.Author.Needs.{needs}
-use mathlib.Core.Path.{_≡_, _∙_, ap, sym}
+use mathlib.Core.Path.{_≡_, _∙_, ap}
 use Rattle.coeff_call.proofs.write_hf_coeff.Statement.{statement}
 use Rattle.coeff_call.proofs.write_hf_coeff.Tie as tie
 

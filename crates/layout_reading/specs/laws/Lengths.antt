@@ -1,14 +1,13 @@
 -- The reading as the code goes: its checks before work, one law for each way out, and what it hands back.
-use mathlib.Core.Path.{_≡_, refl, ap, sym, _∙_}
+use mathlib.Core.Path.{_≡_, ap, sym, _∙_}
 use mathlib.Core.Bool.{Bool, true, false, _&&_}
 use mathlib.Core.List.{List}
 use Prim.Native.Nat.{ℕ, _*_, _≤_, _<_}
 use lib.Dec.{leb}
-use lib.ListN.{length, replicate}
+use lib.ListN.{replicate}
 use borrow.Author.Tests.{le-leb, lt-leb, leb-true}
 use Rattle.laws.specs.laws.Cases.{and-true}
 use Rattle.refusal.specs.declared.Refusal.{Refusal}
-use Rattle.refusal.specs.declared.Said.{Said}
 use Rattle.refusal.specs.Said.{saidAt, said}
 use Rattle.refusal.specs.Answer.{gives, refuses, passed}
 use Rattle.refusal.specs.laws.Answer.{pass}

@@ -1,17 +1,17 @@
 -- Each cell by itself: what its kind and hf_mul must be, wherever it stands.
-use mathlib.Core.Path.{_≡_, refl, ap, sym, _∙_}
+use mathlib.Core.Path.{_≡_, refl, sym, _∙_}
 use mathlib.Core.Bool.{Bool, true, false, _&&_, cond, not}
 use mathlib.Core.Logic.{⊎-elim}
 use mathlib.Core.List.{List, [], _∷_}
 use Prim.Native.Nat.{ℕ, zero, suc, _+_, _*_, _^_, _≤_, _<_}
 use native.Mathlib.Omega.{arith}
-use lib.Dec.{T, ltb, eqb}
+use lib.Dec.{ltb, eqb}
 use lib.ListN.{length, getD}
 use borrow.Author.Tests.{ltb-true, ltb-false, eqb-true, eqb-false, lt-ltb, le-ltb, eq-eqb, ne-eqb}
 use Rattle.laws.specs.laws.Cases.{eq-or-ne, le-or-lt, and-true}
 use Rattle.bytes_below.specs.Below.{bytesBelow}
 use Rattle.layout.specs.Grid.{blockAt}
-use Rattle.layout.specs.laws.Grid.{place-lt, Cell, cell-at}
+use Rattle.layout.specs.laws.Grid.{place-lt, cell-at}
 use Rattle.layout.specs.Valid.{Layout}
 use Rattle.layout.specs.Check.{isLayout}
 use Rattle.layout.specs.laws.Theorems.{layout-iff}

@@ -1,11 +1,11 @@
 -- The listing as the code goes: one law for each way out.
 use mathlib.Core.Path.{_≡_, refl, ap, sym, _∙_}
-use mathlib.Core.Bool.{Bool, true, false, cond, _&&_}
+use mathlib.Core.Bool.{Bool, true, false, _&&_}
 use mathlib.Core.List.{List, [], _∷_, _++_}
 use Prim.Native.Nat.{ℕ, zero, suc, _+_, _*_, _≤_, _<_}
 use native.Mathlib.Nat.{mul-le-mul}
 use native.Mathlib.Omega.{arith}
-use lib.Dec.{leb, eqb}
+use lib.Dec.{leb}
 use lib.ListN.{length, getD, take, drop, replicate}
 use lib.Seq.{take-at}
 use Rattle.laws.specs.Lists.{tabulate}
@@ -14,9 +14,8 @@ use lib.Ieee.{Float}
 use borrow.Author.Tests.{le-leb, lt-leb, eq-eqb, ne-eqb}
 use Rattle.refusal.specs.declared.Refusal.{Refusal}
 use Rattle.refusal.specs.Said.{said}
-use Rattle.layout.specs.Valid.{Layout}
 use Rattle.layout.specs.Varblocks.{varblocksOf, area}
-use Rattle.layout_sizes.specs.Blocks.{blocks, bwIn, bhIn}
+use Rattle.layout_sizes.specs.Blocks.{bwIn, bhIn}
 use Rattle.layout_call.specs.declared.LayoutAnswer.the-variants.{Accepted, Refused}
 use Rattle.layout_call.specs.Call.{Outcome, leaves, inputs, layoutOf}
 use Rattle.layout_accepted.specs.laws.Theorems.{accepted-layout, accepted-area}

@@ -1,5 +1,5 @@
 use Rattle.text.specs.laws.Decimal.{fewest-decimal}
-use Rattle.text.specs.Text.{Puts, decimal}
+use Rattle.text.specs.Text.{Puts}
 use mathlib.Core.List.{List}
 use mathlib.Core.Path.{subst}
 use borrow.Author.Needs.{needs}

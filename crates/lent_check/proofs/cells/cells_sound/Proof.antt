@@ -1,12 +1,11 @@
-use mathlib.Core.Path.{_≡_, _∙_, ap, sym, refl}
+use mathlib.Core.Path.{_≡_, _∙_, ap, sym}
 use Prim.Native.Nat.{ℕ, _≤_, _-_, _+_, _*_}
 use lib.Dec.{eqb}
 use lib.ListN.{length}
 use borrow.Author.Tests.{not-true, not-false}
 use native.Mathlib.Omega.{arith}
 use borrow.Author.Needs.{needs}
-use Rattle.bytes_below.specs.Below.{bytesBelow}
-use Rattle.lent_check.specs.laws.Flaws.{flaws, isSound, sound-unknown, sound-known, flaws-start, flaws-step}
+use Rattle.lent_check.specs.laws.Flaws.{flaws, sound-unknown, sound-known, flaws-start, flaws-step}
 use Rattle.lent_check.proofs.cells.cells_sound.Statement.{statement}
 use Rattle.lent_check.proofs.cells.cells_sound.Tie as tie
 
