@@ -11,43 +11,53 @@ use mathlib.Core.Path.{_≡_, _∙_, ap}
 use Rattle.coeff_call.proofs.write_hf_coeff.Statement.{statement}
 use Rattle.coeff_call.proofs.write_hf_coeff.Tie as tie
 
+-- Stages: from one to an earlier one.
+abbrev to-start : tie.After-shared-slice-known7 → tie.Start
+to-start c = c .before .before .before .before .before .before .before
+
+abbrev to-shared-slice-known7 : tie.After-before-work → tie.After-shared-slice-known7
+to-shared-slice-known7 c = c .before .before .before .before .before .before .before
+
+abbrev to-preset-map-of : tie.After-g0 → tie.After-preset-map-of
+to-preset-map-of c = c .before .before .before .before .before .before .before .before
+
 abbrev lentAt : tie.Start → Lent
 lentAt c =
     let a = c .args in
     lent (passWith (a .group) (a .kinds .now) (a .hf-mul .now) (a .contexts) (a .lf-there) (a .lf0 .now) (a .lf1 .now) (a .lf2 .now) (a .store .now)) (a .presets) (a .cluster-map .now) (a .shift) (a .bytes .now) (a .symbols .now) (a .log .now) (a .g0 .now) (a .g1 .now) (a .g2 .now)
 
 -- The checks let it pass.
-passed : (c : tie.After-enum-told) → Passed (lentAt (c .before .before .before .before .before .before .before .before .before .before .before .before .before .before .before .before))
-passed c = checks-passed (lentAt (c .before .before .before .before .before .before .before .before .before .before .before .before .before .before .before .before)) (c .before .before .before-work .result) (c .before .before .before-work .ensures) (c .enum-told .given .1)
+passed : (c : tie.After-enum-told) → Passed (lentAt (to-start (to-shared-slice-known7 (c .before .before))))
+passed c = checks-passed (lentAt (to-start (to-shared-slice-known7 (c .before .before)))) (c .before .before .before-work .result) (c .before .before .before-work .ensures) (c .enum-told .given .1)
 
 -- What the work asks for, with the preset that was read.
-ready : (c : tie.After-known-told3) → WorkReady (lentAt (c .before .before .before .before .before .before .before .before .before .before .before .before .before .before .before .before .before .before .before .before) .pass) (length (lentAt (c .before .before .before .before .before .before .before .before .before .before .before .before .before .before .before .before .before .before .before .before) .clusterMap)) (lentAt (c .before .before .before .before .before .before .before .before .before .before .before .before .before .before .before .before .before .before .before .before) .shift) (length (lentAt (c .before .before .before .before .before .before .before .before .before .before .before .before .before .before .before .before .before .before .before .before) .log)) (c .before .chosen2 .given .0 .0)
+ready : (c : tie.After-known-told3) → WorkReady (lentAt (to-start (to-shared-slice-known7 (c .before .before .before .before .before .before))) .pass) (length (lentAt (to-start (to-shared-slice-known7 (c .before .before .before .before .before .before))) .clusterMap)) (lentAt (to-start (to-shared-slice-known7 (c .before .before .before .before .before .before))) .shift) (length (lentAt (to-start (to-shared-slice-known7 (c .before .before .before .before .before .before))) .log)) (c .before .chosen2 .given .0 .0)
 ready c =
     let n = c .before .chosen2 .given in
     let p = passed (c .before .before .before .before) in
-    work-ready (lentAt (c .before .before .before .before .before .before .before .before .before .before .before .before .before .before .before .before .before .before .before .before)) p (n .0 .0) (below (lentAt (c .before .before .before .before .before .before .before .before .before .before .before .before .before .before .before .before .before .before .before .before)) p (c .before .before .before .read-preset .result) (c .before .before .before .read-preset .ensures) (n .0 .0) (n .1))
+    work-ready (lentAt (to-start (to-shared-slice-known7 (c .before .before .before .before .before .before)))) p (n .0 .0) (below (lentAt (to-start (to-shared-slice-known7 (c .before .before .before .before .before .before)))) p (c .before .before .before .read-preset .result) (c .before .before .before .read-preset .ensures) (n .0 .0) (n .1))
 
 returns : tie.Need-returns
-returns c = let w = c .before .checked .given in checks-refused (lentAt (c .before .before .before .before .before .before .before .before .before .before .before .before .before .before .before .before .before)) (c .before .before .before .before-work .result) (c .before .before .before .before-work .ensures) (w .0 .0) (w .1)
+returns c = let w = c .before .checked .given in checks-refused (lentAt (to-start (to-shared-slice-known7 (c .before .before .before)))) (c .before .before .before .before-work .result) (c .before .before .before .before-work .ensures) (w .0 .0) (w .1)
 
 read-group-requires : tie.Need-read-group-requires
 read-group-requires c κs =
-    let L = lentAt (c .before .before .before .before .before .before .before .before .before .before .before .before .before .before .before .before .before .before .before .before .before .before .before .before .before) in
+    let L = lentAt (to-start (to-shared-slice-known7 (c .before .before .before .before .before .before .before .before .before .before .before))) in
     let w = ready (c .before .before .before .before .before) in
     w .ready _ (ap length (c .before .before .before .before .preset-map-of .ensures) ∙ part-long (L .clusterMap) (495 * clustersOf (L .pass)) (c .before .before .before .before .before .before .chosen2 .given .0 .0) (w .part))
 
 returns-2 : tie.Need-returns-2
 returns-2 c =
     let w = c .before .chosen .given in
-    preset-refused (lentAt (c .before .before .before .before .before .before .before .before .before .before .before .before .before .before .before .before .before .before .before .before)) (passed (c .before .before .before .before)) (c .before .before .before .read-preset .result) (c .before .before .before .read-preset .ensures) (w .0 .0) (w .1)
+    preset-refused (lentAt (to-start (to-shared-slice-known7 (c .before .before .before .before .before .before)))) (passed (c .before .before .before .before)) (c .before .before .before .read-preset .result) (c .before .before .before .read-preset .ensures) (w .0 .0) (w .1)
 
 returns-3 : tie.Need-returns-3
 unfolding reading
 returns-3 c =
-    let n = c .before .before .before .before .before .before .before .before .before .before .before .before .before .before .before .before .chosen2 .given in
+    let n = to-preset-map-of (c .before .before .before .before .before .before) .before .before .chosen2 .given in
     let g = c .before .before .before .before .before .before .before .before .before .read-group in
     let l = g .last .1 .1 .1 .1 .1 .1 .1 .1 .1 .1 .1 .1 in
-    call-done (lentAt (c .before .before .before .before .before .before .before .before .before .before .before .before .before .before .before .before .before .before .before .before .before .before .before .before .before .before .before .before .before .before .before .before .before .before .before)) (passed (c .before .before .before .before .before .before .before .before .before .before .before .before .before .before .before .before .before .before .before)) (c .before .before .before .before .before .before .before .before .before .before .before .before .before .before .before .before .before .before .read-preset .result) (c .before .before .before .before .before .before .before .before .before .before .before .before .before .before .before .before .before .before .read-preset .ensures) (n .0 .0) (n .1) (g .result) (c .answer .result) (l .0) (l .1 .0) (l .1 .1 .0) (l .1 .1 .1 .0) (c .answer .ensures) (rw (c .before .before .before .before .before .before .before .before .before .before .before .before .before .before .preset-map-of .ensures) at (g .ensures))
+    call-done (lentAt (to-start (to-shared-slice-known7 (to-preset-map-of (c .before .before .before .before .before .before) .before .before .before .before .before .before .before)))) (passed (to-preset-map-of (c .before .before .before .before .before .before) .before .before .before .before .before)) (to-preset-map-of (c .before .before .before .before .before .before) .before .before .before .before .read-preset .result) (to-preset-map-of (c .before .before .before .before .before .before) .before .before .before .before .read-preset .ensures) (n .0 .0) (n .1) (g .result) (c .answer .result) (l .0) (l .1 .0) (l .1 .1 .0) (l .1 .1 .1 .0) (c .answer .ensures) (rw (to-preset-map-of (c .before .before .before .before .before .before) .preset-map-of .ensures) at (g .ensures))
 
 pub write-hf-coeff-spec : {M : Type 1} → statement M
 write-hf-coeff-spec =

@@ -11,35 +11,39 @@ use Rattle.coeff_walk.specs.laws.Lent.{lentFits, fits-ready}
 use Rattle.coeff_places.proofs.read_places.Statement.{statement}
 use Rattle.coeff_places.proofs.read_places.Tie as tie
 
+-- Stages: from one to an earlier one.
+abbrev to-start : tie.Else1 → tie.Start
+to-start c = c .before .before .before .before .before .before .before
+
 -- What is lent fits.
-fitting : (c : tie.Else1) → lentFits (c .before .before .before .before .before .before .before .args .spot) (length (c .before .before .before .before .before .before .before .args .list .now)) (c .before .before .before .before .before .before .before .args .start) (length (c .before .before .before .before .before .before .before .args .coeff-map .now)) (c .before .before .before .before .before .before .before .args .shift) (length (c .before .before .before .before .before .before .before .args .log .now)) ≡ true
+fitting : (c : tie.Else1) → lentFits (to-start c .args .spot) (length (to-start c .args .list .now)) (to-start c .args .start) (length (to-start c .args .coeff-map .now)) (to-start c .args .shift) (length (to-start c .args .log .now)) ≡ true
 fitting c = sym (c .before .lent-fits .ensures) ∙ not-false (c .before .lent-fits .result) (c .if1 .left)
 
-small : (c : tie.Else1) → c .before .before .before .before .before .before .before .args .spot .exponent ≤ 10
-small c = let a = c .before .before .before .before .before .before .before .args in fits-ready (a .spot) (a .list .now) (a .start) 0 0 (length (a .coeff-map .now)) (a .shift) (length (a .log .now)) (fitting c) (omega arith) (omega arith) .exponent
+small : (c : tie.Else1) → to-start c .args .spot .exponent ≤ 10
+small c = let a = to-start c .args in fits-ready (a .spot) (a .list .now) (a .start) 0 0 (length (a .coeff-map .now)) (a .shift) (length (a .log .now)) (fitting c) (omega arith) (omega arith) .exponent
 
 -- The count is small enough.
-below : (c : tie.Else2) → c .before .before .before .before .before .before .before .before .before .args .count ≤ 63 * 2 ^ (c .before .before .before .before .before .before .before .before .before .args .spot .exponent)
-below c = omega (arith, c .if2 .left, shifted-left 63 (c .before .before .before .before .before .before .before .before .before .args .spot .exponent) (omega arith) (small (c .before .before)))
+below : (c : tie.Else2) → to-start (c .before .before) .args .count ≤ 63 * 2 ^ (to-start (c .before .before) .args .spot .exponent)
+below c = omega (arith, c .if2 .left, shifted-left 63 (to-start (c .before .before) .args .spot .exponent) (omega arith) (small (c .before .before)))
 
 returns : tie.Need-returns
 returns c = rw (sym (c .before .lent-fits .ensures) ∙ not-true (c .before .lent-fits .result) (c .if1 .taken)) (record { answer = refl; logged = refl; cells = refl })
 
 returns-2 : tie.Need-returns-2
 returns-2 c =
-    let a = c .before .before .before .before .before .before .before .before .before .args in
+    let a = to-start (c .before .before) .args in
     rw (fitting (c .before .before), lt-leb (a .count) (63 * 2 ^ (a .spot .exponent)) (omega (arith, c .if2 .taken, shifted-left 63 (a .spot .exponent) (omega arith) (small (c .before .before)))))
     (record { answer = refl; logged = refl; cells = refl })
 
 walk-places-requires : tie.Need-walk-places-requires
 unfolding NUM-NONZERO FREQ
 walk-places-requires c κs =
-    let a = c .before .before .before .before .before .before .before .before .before .before .before .before .before .before .args in
+    let a = to-start (c .before .before .before .before .before .before .before) .args in
     (refl, refl, fits-ready (a .spot) (a .list .now) (a .start) (a .count) (c .before .before .to-usize .result) (length (a .coeff-map .now)) (a .shift) (length (a .log .now)) (fitting (c .before .before .before .before .before .before .before)) (below (c .before .before .before .before .before)) (c .before .before .to-usize .ensures .1))
 
 returns-3 : tie.Need-returns-3
 returns-3 c =
-    let a = c .before .before .before .before .before .before .before .before .before .before .before .before .before .before .before .before .before .before .before .args in
+    let a = to-start (c .before .before .before .before .before .before .before .before .before .before .before .before) .args in
     rw (fitting (c .before .before .before .before .before .before .before .before .before .before .before .before), le-leb (a .count) (63 * 2 ^ (a .spot .exponent)) (below (c .before .before .before .before .before .before .before .before .before .before)), sym (c .before .before .before .before .before .before .before .to-usize .ensures .0)) (c .before .before .before .before .walk-places .ensures)
 
 pub read-places-spec : {M : Type 1} → statement M

@@ -26,6 +26,13 @@ Inv-loop lists plan group clusters preset-map store symbols at shift rows log₀
 abbrev μ-loop : tie.MeasureT-loop
 μ-loop lists plan group clusters preset-map store symbols at shift rows log₀ g0₀ g1₀ g2₀ counts₀ at₀ n₀ log g0 g1 g2 counts at' n = 3 - n
 
+-- Stages: from one to an earlier one.
+abbrev to-start : tie.At-loop Inv-loop μ-loop → tie.Start Inv-loop μ-loop
+to-start c = c .before .before .before .before .before .before .before .before
+
+abbrev to-in-loop : tie.After-g0 Inv-loop μ-loop → tie.In-loop Inv-loop μ-loop
+to-in-loop c = c .before .before .before .before .before .before .before .before
+
 less : (n : ℕ) → n < 3 → 3 - (n + 1) < 3 - n
 less n h = omega arith
 
@@ -43,33 +50,33 @@ loop-holds c =
 
 read-channel-requires : tie.Need-read-channel-requires Inv-loop μ-loop
 read-channel-requires c κs =
-    let s = c .before .before .before .before .before .before .before .before .before .before .before .before .before in
+    let s = to-start (c .before .before .before .before .before) in
     let a = s .args in
     let l = c .before .before .before .before .before .loop in
     let left : ℕ = 0 in
     (c .before .before .before .before .loop-test .taken, s .pre .0, s .pre .1, rw (l .inv .0) (channels-room (a .plan) (a .group) (a .clusters) (a .preset-map .now) (a .store .now) (a .symbols .now) (a .at) (a .shift) (wholeAt s left) (l .n) (l .at) (l .counts-over) (a .rows .now) (l .log) (l .g0 ∷ l .g1 ∷ l .g2 ∷ []) (l .inv .6 left) (c .before .before .before .before .loop-test .taken) (length (a .log .now)) (s .pre .2)))
 
 same-length : tie.Need-same-length Inv-loop μ-loop
-same-length c = c .before .before .before .before .before .before .before .before .before .log .given ∙ c .before .before .before .before .before .before .before .before .before .before .before .before .before .before .before .before .loop .inv .0
+same-length c = c .before .before .before .before .before .before .before .before .before .log .given ∙ to-in-loop (c .before .before .before .before .before .before .before) .before .loop .inv .0
 
 same-length-2 : tie.Need-same-length-2 Inv-loop μ-loop
-same-length-2 c = c .before .before .before .before .before .before .before .g0 .given ∙ c .before .before .before .before .before .before .before .before .before .before .before .before .before .before .before .before .loop .inv .1
+same-length-2 c = c .before .before .before .before .before .before .before .g0 .given ∙ to-in-loop (c .before .before .before .before .before .before .before) .before .loop .inv .1
 
 same-length-3 : tie.Need-same-length-3 Inv-loop μ-loop
-same-length-3 c = c .before .before .before .before .before .g1 .given ∙ c .before .before .before .before .before .before .before .before .before .before .before .before .before .before .before .before .loop .inv .2
+same-length-3 c = c .before .before .before .before .before .g1 .given ∙ to-in-loop (c .before .before .before .before .before .before .before) .before .loop .inv .2
 
 same-length-4 : tie.Need-same-length-4 Inv-loop μ-loop
-same-length-4 c = c .before .before .before .g2 .given ∙ c .before .before .before .before .before .before .before .before .before .before .before .before .before .before .before .before .loop .inv .3
+same-length-4 c = c .before .before .before .g2 .given ∙ to-in-loop (c .before .before .before .before .before .before .before) .before .loop .inv .3
 
 returns : tie.Need-returns Inv-loop μ-loop
 returns c =
-    let s = c .before .before .before .before .before .before .before .before .before .before .before .before .before .before .before .before .before .before .before .before .before .before .before .before in
+    let s = to-start (to-in-loop (c .before .before .before .before .before .before .before) .before) in
     let a = s .args in
-    let l = c .before .before .before .before .before .before .before .before .before .before .before .before .before .before .before .before .loop in
+    let l = to-in-loop (c .before .before .before .before .before .before .before) .before .loop in
     let w = c .before .before .before .before .before .before .before .before .before .before .read-channel in
     let z = w .last .1 .1 .1 .1 .1 .1 .1 .1 .1 .1 .1 in
     λ left.
-    let t = channels-stop (a .plan) (a .group) (a .clusters) (a .preset-map .now) (a .store .now) (a .symbols .now) (a .at) (a .shift) (wholeAt s left) (l .n) (l .at) (l .counts-over) (a .rows .now) (l .log) (l .g0 ∷ l .g1 ∷ l .g2 ∷ []) (l .inv .6 left) (c .before .before .before .before .before .before .before .before .before .before .before .before .before .before .before .loop-test .taken) (w .result .walk) (w .result .«count_over») (z .0) (z .1 .0 ∷ z .1 .1 .0 ∷ z .1 .1 .1 .0 ∷ []) (w .ensures) (sym (c .before .is-stopped .ensures) ∙ c .if1 .taken) (a .at + 192 * 2 ^ (a .plan .shape .exponent)) (rewritten (a .plan) (0 ∷ 0 ∷ 0 ∷ []) (a .rows .now) 3) in
+    let t = channels-stop (a .plan) (a .group) (a .clusters) (a .preset-map .now) (a .store .now) (a .symbols .now) (a .at) (a .shift) (wholeAt s left) (l .n) (l .at) (l .counts-over) (a .rows .now) (l .log) (l .g0 ∷ l .g1 ∷ l .g2 ∷ []) (l .inv .6 left) (to-in-loop (c .before .before .before .before .before .before .before) .loop-test .taken) (w .result .walk) (w .result .«count_over») (z .0) (z .1 .0 ∷ z .1 .1 .0 ∷ z .1 .1 .1 .0 ∷ []) (w .ensures) (sym (c .before .is-stopped .ensures) ∙ c .if1 .taken) (a .at + 192 * 2 ^ (a .plan .shape .exponent)) (rewritten (a .plan) (0 ∷ 0 ∷ 0 ∷ []) (a .rows .now) 3) in
     record {
       shown = t;
       none = λ stops. refl;
@@ -77,30 +84,30 @@ returns c =
     }
 
 channel-walked-requires : tie.Need-channel-walked-requires Inv-loop μ-loop
-channel-walked-requires c κs = c .before .before .before .before .before .before .before .before .before .before .before .before .before .before .before .loop-test .taken
+channel-walked-requires c κs = to-in-loop (c .before .before .before .before .before .before .before) .loop-test .taken
 
 loop-less : tie.Need-loop-less Inv-loop μ-loop
-loop-less c = less (c .before .before .before .before .before .before .before .before .before .before .before .before .before .before .before .before .before .before .loop .n) (c .before .before .before .before .before .before .before .before .before .before .before .before .before .before .before .before .before .loop-test .taken)
+loop-less c = less (to-in-loop (c .before .before .before .before .before .before .before .before .before) .before .loop .n) (to-in-loop (c .before .before .before .before .before .before .before .before .before) .loop-test .taken)
 
 loop-again : tie.Need-loop-again Inv-loop μ-loop
 loop-again c =
-    let s = c .before .before .before .before .before .before .before .before .before .before .before .before .before .before .before .before .before .before .before .before .before .before .before .before .before .before in
+    let s = to-start (to-in-loop (c .before .before .before .before .before .before .before .before .before) .before) in
     let a = s .args in
-    let l = c .before .before .before .before .before .before .before .before .before .before .before .before .before .before .before .before .before .before .loop in
+    let l = to-in-loop (c .before .before .before .before .before .before .before .before .before) .before .loop in
     let w = c .before .before .before .before .before .before .before .before .before .before .before .before .read-channel in
     let z = w .last .1 .1 .1 .1 .1 .1 .1 .1 .1 .1 .1 in (
       c .before .before .before .before .before .before .before .before .before .before .before .log .given ∙ l .inv .0,
       c .before .before .before .before .before .before .before .before .before .g0 .given ∙ l .inv .1,
       c .before .before .before .before .before .before .before .g1 .given ∙ l .inv .2,
       c .before .before .before .before .before .g2 .given ∙ l .inv .3,
-      omega (arith, c .before .before .before .before .before .before .before .before .before .before .before .before .before .before .before .before .before .loop-test .taken),
+      omega (arith, to-in-loop (c .before .before .before .before .before .before .before .before .before) .loop-test .taken),
       length-set (l .counts-over) (c .before .channel-walked .result) (w .result .«count_over») ∙ l .inv .5,
-      λ left. channels-go (a .plan) (a .group) (a .clusters) (a .preset-map .now) (a .store .now) (a .symbols .now) (a .at) (a .shift) (wholeAt s left) (l .n) (l .at) (l .counts-over) (a .rows .now) (l .log) (l .g0 ∷ l .g1 ∷ l .g2 ∷ []) (l .inv .6 left) (c .before .before .before .before .before .before .before .before .before .before .before .before .before .before .before .before .before .loop-test .taken) (w .result .walk) (w .result .«count_over») (z .0) (z .1 .0 ∷ z .1 .1 .0 ∷ z .1 .1 .1 .0 ∷ []) (w .ensures) (sym (c .before .before .before .is-stopped .ensures) ∙ c .before .before .if1 .left) (c .symbols-read .result) (c .before .channel-walked .result) _ (c .symbols-read .ensures) (l .inv .5) (c .before .channel-walked .ensures .1) refl,
+      λ left. channels-go (a .plan) (a .group) (a .clusters) (a .preset-map .now) (a .store .now) (a .symbols .now) (a .at) (a .shift) (wholeAt s left) (l .n) (l .at) (l .counts-over) (a .rows .now) (l .log) (l .g0 ∷ l .g1 ∷ l .g2 ∷ []) (l .inv .6 left) (to-in-loop (c .before .before .before .before .before .before .before .before .before) .loop-test .taken) (w .result .walk) (w .result .«count_over») (z .0) (z .1 .0 ∷ z .1 .1 .0 ∷ z .1 .1 .1 .0 ∷ []) (w .ensures) (sym (c .before .before .before .is-stopped .ensures) ∙ c .before .before .if1 .left) (c .symbols-read .result) (c .before .channel-walked .result) _ (c .symbols-read .ensures) (l .inv .5) (c .before .channel-walked .ensures .1) refl,
     )
 
 returns-2 : tie.Need-returns-2 Inv-loop μ-loop
 returns-2 c =
-    let s = c .before .before .before .before .before .before .before .before .before in
+    let s = to-start (c .before) in
     let a = s .args in
     let l = c .before .loop in
     λ left.

@@ -11,6 +11,10 @@ use Rattle.context_call.specs.laws.CallLaws.{WasList, WasShort, list-was
 use Rattle.context_call.proofs.by_lists.Statement.{statement}
 use Rattle.context_call.proofs.by_lists.Tie as tie
 
+-- Stages: from one to an earlier one.
+abbrev to-read-list3 : tie.After-lf1 → tie.After-read-list3
+to-read-list3 c = c .before .before .before .before .before .before
+
 bytes : (c : tie.After-read-list) → Bytes (c .before .before .before .args .bytes .now)
 bytes c i = c .before .before .shared-slice-known .given i .fits
 
@@ -45,10 +49,10 @@ ended-requires-3 c κs = omega (arith, short-third (c .before) .near, second (c 
 
 with-qf-requires : tie.Need-with-qf-requires
 with-qf-requires c κs =
-    let l = first (c .before .before .before .before .before .before .before .before .before .before .before .before .before .before .before .before .before .before .before) in
-    let m = second (c .before .before .before .before .before .before .before .before .before .before .before .before .before .before .before) in
+    let l = first (to-read-list3 (c .before .before .before .before .before .before .before) .before .before .before .before .before .before) in
+    let m = second (to-read-list3 (c .before .before .before .before .before .before .before) .before .before) in
     let n = third (c .before .before .before .before .before .before .before .before .before .before .before) in
-    (omega (arith, n .near, m .near, l .near, c .before .before .before .before .before .before .before .before .before .before .before .before .before .before .before .before .before .before .before .before .before .before .before .before .pre), l .few, m .few, n .few)
+    (omega (arith, n .near, m .near, l .near, to-read-list3 (c .before .before .before .before .before .before .before) .before .before .before .before .before .before .before .before .before .before .before .pre), l .few, m .few, n .few)
 
 returns : tie.Need-returns
 returns c =
@@ -76,16 +80,16 @@ returns-3 c =
 
 returns-4 : tie.Need-returns-4
 returns-4 c =
-    let a = c .before .before .before .before .before .before .before .before .before .before .before .before .before .before .before .before .before .before .before .before .before .before .before .before .before .args in
+    let a = to-read-list3 (c .before .before .before .before .before .before .before .before) .before .before .before .before .before .before .before .before .before .before .before .args in
     let s = a .bytes .now in
-    let l = first (c .before .before .before .before .before .before .before .before .before .before .before .before .before .before .before .before .before .before .before .before) in
-    let m = second (c .before .before .before .before .before .before .before .before .before .before .before .before .before .before .before .before) in
+    let l = first (to-read-list3 (c .before .before .before .before .before .before .before .before) .before .before .before .before .before .before) in
+    let m = second (to-read-list3 (c .before .before .before .before .before .before .before .before) .before .before) in
     let n = third (c .before .before .before .before .before .before .before .before .before .before .before .before) in
     let at = bitsBefore (c .before .before .before .before .before .before .before .before .before .before .before .before .step22 .given .0 .1 .0) in
     c .with-qf .ensures
     ∙ kept-same (a .lf-thresholds .now) (a .qf-thresholds .now) (a .block-ctx-map .now) _ _
-    (behind-lf (a .num-clusters) (a .map .now) (l .vs) (m .vs) (n .vs) (c .before .before .before .before .before .before .before .before .before .before .before .before .before .before .before .before .before .before .before .before .before .before .read-list .result .values) (c .before .before .before .before .before .before .before .before .before .before .before .before .before .before .before .before .before .before .read-list2 .result .values) (c .before .before .before .before .before .before .before .before .before .before .before .before .before .before .read-list3 .result .values) (c .before .before .before .before .joined .result)
-    (c .before .before .before .before .before .before .before .before .before .before .before .before .before .before .before .before .before .before .before .before .step02 .given .0 .0) (c .before .before .before .before .before .before .before .before .before .before .before .before .before .before .before .before .step12 .given .0 .0) (c .before .before .before .before .before .before .before .before .before .before .before .before .step22 .given .0 .0) (l .count) (m .count) (n .count) (l .values) (m .values) (n .values) (c .before .before .before .before .joined .ensures) (readList s (qfValue s) at)
+    (behind-lf (a .num-clusters) (a .map .now) (l .vs) (m .vs) (n .vs) (to-read-list3 (c .before .before .before .before .before .before .before .before) .before .before .before .before .before .before .before .before .read-list .result .values) (to-read-list3 (c .before .before .before .before .before .before .before .before) .before .before .before .before .read-list2 .result .values) (to-read-list3 (c .before .before .before .before .before .before .before .before) .read-list3 .result .values) (c .before .before .before .before .joined .result)
+    (to-read-list3 (c .before .before .before .before .before .before .before .before) .before .before .before .before .before .before .step02 .given .0 .0) (to-read-list3 (c .before .before .before .before .before .before .before .before) .before .before .step12 .given .0 .0) (c .before .before .before .before .before .before .before .before .before .before .before .before .step22 .given .0 .0) (l .count) (m .count) (n .count) (l .values) (m .values) (n .values) (c .before .before .before .before .joined .ensures) (readList s (qfValue s) at)
     ∙ ap (λ (r : Read Lists). orEnded r (judgedLists (a .num-clusters) (a .map .now))) (sym (whole s (bitsBefore (a .p)) (l .vs) _ (l .is) (m .vs) _ (m .is) (n .vs) at (n .is))))
 
 pub by-lists-spec : {M : Type 1} → statement M

@@ -15,6 +15,10 @@ use mathlib.Core.Path.{_≡_, _∙_, ap, sym}
 use Rattle.context_call.proofs.parse_into.Statement.{statement}
 use Rattle.context_call.proofs.parse_into.Tie as tie
 
+-- Stages: from one to an earlier one.
+abbrev to-start : tie.After-first2 → tie.Start
+to-start c = c .before .before .before .before .before .before
+
 -- The first bit, where it is there.
 bit : (c : tie.After-first2) → WasValue (readBits (c .before .before .before .before .before .before .args .bytes .now) 0 1) (c .first2 .given .0 .0) (c .first2 .given .0 .1 .0)
 bit c =
@@ -31,7 +35,7 @@ bit-near c =
 returns : tie.Need-returns
 returns c =
     let f = c .before .before .before .before .before .before .before in
-    let a = c .before .before .before .before .before .before .before .before .before .before .before .before .before .args in
+    let a = to-start (c .before .before .before .before .before .before .before) .args in
     let b = bit f in
     let at : c .before .before .before .before .bits-read .result ≡ b .at = omega (arith, bit-near f) in
     c .default-contexts .ensures
@@ -59,7 +63,7 @@ returns-2 c =
 returns-3 : tie.Need-returns-3
 returns-3 c =
     let f = c .before .before .before .before .before .before in
-    let a = c .before .before .before .before .before .before .before .before .before .before .before .before .args in
+    let a = to-start (c .before .before .before .before .before .before) .args in
     let b = bit f in
     c .by-lists .ensures
     ∙ kept-same (a .lf-thresholds .now) (a .qf-thresholds .now) (a .block-ctx-map .now) _ _

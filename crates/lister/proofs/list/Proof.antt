@@ -8,6 +8,10 @@ use Prim.Native.Nat.{ℕ}
 use Rattle.lister.proofs.list.Statement.{statement}
 use Rattle.lister.proofs.list.Tie as tie
 
+-- Stages: from one to an earlier one.
+abbrev to-start : tie.After-number162 → tie.Start
+to-start c = c .before .before .before .before .before .before .before
+
 returns : tie.Need-returns
 returns c =
     let a = c .before .before .before .before .before .before .before .args in
@@ -22,13 +26,13 @@ returns-2 c =
 
 returns-3 : tie.Need-returns-3
 returns-3 c =
-    let a = c .before .before .before .before .before .before .before .before .before .before .before .before .args in
+    let a = to-start (c .before .before .before .before .before) .args in
     let b = c .before .before .put-bad3 in
     subst (λ (s : List ℕ). Puts (a .out .now) 0 s (b .last .0) (b .result)) (bad-wide (a .job .now) (omega arith) (c .before .before .before .before .before .before .before .if2 .left) (omega (arith, c .before .before .before .before .if3 .taken, c .before .before .before .before .before .before .number16 .ensures))) (b .ensures)
 
 returns-4 : tie.Need-returns-4
 returns-4 c =
-    let a = c .before .before .before .before .before .before .before .before .before .before .before .before .before .args in
+    let a = to-start (c .before .before .before .before .before .before) .args in
     let b = c .before .before .put-bad4 in
     subst (λ (s : List ℕ). Puts (a .out .now) 0 s (b .last .0) (b .result)) (bad-high (a .job .now) (omega arith) (c .before .before .before .before .before .before .before .before .if2 .left) (omega (arith, c .before .before .before .before .before .if3 .left, c .before .before .before .before .before .before .before .number16 .ensures)) (omega (arith, c .before .before .before .before .if4 .taken, c .before .before .before .before .before .before .number162 .ensures))) (b .ensures)
 

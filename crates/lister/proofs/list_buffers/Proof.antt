@@ -11,10 +11,14 @@ use lib.ListN.{length}
 use Rattle.lister.proofs.list_buffers.Statement.{statement}
 use Rattle.lister.proofs.list_buffers.Tie as tie
 
+-- Stages: from one to an earlier one.
+abbrev to-start : tie.After-blocks-of → tie.Start
+to-start c = c .before .before .before .before .before .before .before .before
+
 mul-n : tie.Need-mul-n
 mul-n c =
-    let a = c .before .before .before .before .before .before .before .before .args in
-    let h = c .before .before .before .before .before .before .before .before .pre in
+    let a = to-start c .args in
+    let h = to-start c .pre in
     let b = c .blocks-of in
     let ew = ap (λ (s : Blocks). s .bw) (b .ensures) in
     let eh = ap (λ (s : Blocks). s .bh) (b .ensures) in
@@ -25,8 +29,8 @@ mul-n c =
 
 slice-aggregate-list-layout : tie.Need-slice-aggregate-list-layout
 slice-aggregate-list-layout c =
-    let a = c .before .before .before .before .before .before .before .before .before .before .args in
-    let h = c .before .before .before .before .before .before .before .before .before .before .pre in
+    let a = to-start (c .before .before) .args in
+    let h = to-start (c .before .before) .pre in
     let b = c .before .before .blocks-of in
     let ew = ap (λ (s : Blocks). s .bw) (b .ensures) in
     let eh = ap (λ (s : Blocks). s .bh) (b .ensures) in
@@ -38,8 +42,8 @@ slice-aggregate-list-layout c =
 
 slice-relend-prefix-list-layout : tie.Need-slice-relend-prefix-list-layout
 slice-relend-prefix-list-layout c =
-    let a = c .before .before .before .before .before .before .before .before .before .before .args in
-    let h = c .before .before .before .before .before .before .before .before .before .before .pre in
+    let a = to-start (c .before .before) .args in
+    let h = to-start (c .before .before) .pre in
     let b = c .before .before .blocks-of in
     let ew = ap (λ (s : Blocks). s .bw) (b .ensures) in
     let eh = ap (λ (s : Blocks). s .bh) (b .ensures) in
@@ -51,8 +55,8 @@ slice-relend-prefix-list-layout c =
 
 slice-aggregate-list-layout-2 : tie.Need-slice-aggregate-list-layout-2
 slice-aggregate-list-layout-2 c =
-    let a = c .before .before .before .before .before .before .before .before .before .before .before .args in
-    let h = c .before .before .before .before .before .before .before .before .before .before .before .pre in
+    let a = to-start (c .before .before .before) .args in
+    let h = to-start (c .before .before .before) .pre in
     let b = c .before .before .before .blocks-of in
     let ew = ap (λ (s : Blocks). s .bw) (b .ensures) in
     let eh = ap (λ (s : Blocks). s .bh) (b .ensures) in
@@ -64,8 +68,8 @@ slice-aggregate-list-layout-2 c =
 
 slice-relend-prefix-list-layout-2 : tie.Need-slice-relend-prefix-list-layout-2
 slice-relend-prefix-list-layout-2 c =
-    let a = c .before .before .before .before .before .before .before .before .before .before .before .args in
-    let h = c .before .before .before .before .before .before .before .before .before .before .before .pre in
+    let a = to-start (c .before .before .before) .args in
+    let h = to-start (c .before .before .before) .pre in
     let b = c .before .before .before .blocks-of in
     let ew = ap (λ (s : Blocks). s .bw) (b .ensures) in
     let eh = ap (λ (s : Blocks). s .bh) (b .ensures) in
@@ -77,8 +81,8 @@ slice-relend-prefix-list-layout-2 c =
 
 slice-aggregate-list-layout-3 : tie.Need-slice-aggregate-list-layout-3
 slice-aggregate-list-layout-3 c =
-    let a = c .before .before .before .before .before .before .before .before .before .before .before .before .args in
-    let h = c .before .before .before .before .before .before .before .before .before .before .before .before .pre in
+    let a = to-start (c .before .before .before .before) .args in
+    let h = to-start (c .before .before .before .before) .pre in
     let b = c .before .before .before .before .blocks-of in
     let ew = ap (λ (s : Blocks). s .bw) (b .ensures) in
     let eh = ap (λ (s : Blocks). s .bh) (b .ensures) in
@@ -90,8 +94,8 @@ slice-aggregate-list-layout-3 c =
 
 slice-relend-prefix-list-layout-3 : tie.Need-slice-relend-prefix-list-layout-3
 slice-relend-prefix-list-layout-3 c =
-    let a = c .before .before .before .before .before .before .before .before .before .before .before .before .args in
-    let h = c .before .before .before .before .before .before .before .before .before .before .before .before .pre in
+    let a = to-start (c .before .before .before .before) .args in
+    let h = to-start (c .before .before .before .before) .pre in
     let b = c .before .before .before .before .blocks-of in
     let ew = ap (λ (s : Blocks). s .bw) (b .ensures) in
     let eh = ap (λ (s : Blocks). s .bh) (b .ensures) in
@@ -103,8 +107,8 @@ slice-relend-prefix-list-layout-3 c =
 
 slice-aggregate-list-layout-4 : tie.Need-slice-aggregate-list-layout-4
 slice-aggregate-list-layout-4 c =
-    let a = c .before .before .before .before .before .before .before .before .before .before .before .before .before .args in
-    let h = c .before .before .before .before .before .before .before .before .before .before .before .before .before .pre in
+    let a = to-start (c .before .before .before .before .before) .args in
+    let h = to-start (c .before .before .before .before .before) .pre in
     let b = c .before .before .before .before .before .blocks-of in
     let ew = ap (λ (s : Blocks). s .bw) (b .ensures) in
     let eh = ap (λ (s : Blocks). s .bh) (b .ensures) in
@@ -116,8 +120,8 @@ slice-aggregate-list-layout-4 c =
 
 list-layout-requires : tie.Need-list-layout-requires
 list-layout-requires c κs =
-    let a = c .before .before .before .before .before .before .before .before .before .before .before .before .before .args in
-    let h = c .before .before .before .before .before .before .before .before .before .before .before .before .before .pre in
+    let a = to-start (c .before .before .before .before .before) .args in
+    let h = to-start (c .before .before .before .before .before) .pre in
     let b = c .before .before .before .before .before .blocks-of in
     let ew = ap (λ (s : Blocks). s .bw) (b .ensures) in
     let eh = ap (λ (s : Blocks). s .bh) (b .ensures) in

@@ -14,6 +14,13 @@ use lib.ListN.{length, take}
 use Rattle.lister.proofs.list_job.Statement.{statement}
 use Rattle.lister.proofs.list_job.Tie as tie
 
+-- Stages: from one to an earlier one.
+abbrev to-start : tie.After-read-columns → tie.Start
+to-start c = c .before .before .before .before .before
+
+abbrev to-read-columns : tie.After-all-muls2 → tie.After-read-columns
+to-read-columns c = c .before .before .before .before .before .before .before
+
 mul-end : tie.Need-mul-end
 mul-end c =
     let a = c .before .before .before .before .before .args in
@@ -36,8 +43,8 @@ add-end c =
 
 returns : tie.Need-returns
 returns c =
-    let a = c .before .before .before .before .before .before .before .before .before .before .args in
-    let h = c .before .before .before .before .before .before .before .before .before .before .pre in
+    let a = to-start (c .before .before .before .before .before) .args in
+    let h = to-start (c .before .before .before .before .before) .pre in
     let v = c .before .before .before .before .before .read-columns in
     let r = v .ensures in
     let m = columns-most (a .job .now) in
@@ -47,8 +54,8 @@ returns c =
 
 returns-2 : tie.Need-returns-2
 returns-2 c =
-    let a = c .before .before .before .before .before .before .before .before .before .before .before .before .args in
-    let h = c .before .before .before .before .before .before .before .before .before .before .before .before .pre in
+    let a = to-start (c .before .before .before .before .before .before .before) .args in
+    let h = to-start (c .before .before .before .before .before .before .before) .pre in
     let v = c .before .before .before .before .before .before .before .read-columns in
     let r = v .ensures in
     let m = columns-most (a .job .now) in
@@ -58,9 +65,9 @@ returns-2 c =
 
 slice-aggregate-list-columns : tie.Need-slice-aggregate-list-columns
 slice-aggregate-list-columns c =
-    let a = c .before .before .before .before .before .before .before .before .before .before .before .before .before .before .args in
-    let h = c .before .before .before .before .before .before .before .before .before .before .before .before .before .before .pre in
-    let v = c .before .before .before .before .before .before .before .before .before .read-columns in
+    let a = to-start (to-read-columns (c .before .before)) .args in
+    let h = to-start (to-read-columns (c .before .before)) .pre in
+    let v = to-read-columns (c .before .before) .read-columns in
     let r = v .ensures in
     let m = columns-most (a .job .now) in
     let k = r .count in
@@ -68,9 +75,9 @@ slice-aggregate-list-columns c =
 
 slice-aggregate-list-columns-2 : tie.Need-slice-aggregate-list-columns-2
 slice-aggregate-list-columns-2 c =
-    let a = c .before .before .before .before .before .before .before .before .before .before .before .before .before .before .before .args in
-    let h = c .before .before .before .before .before .before .before .before .before .before .before .before .before .before .before .pre in
-    let v = c .before .before .before .before .before .before .before .before .before .before .read-columns in
+    let a = to-start (to-read-columns (c .before .before .before)) .args in
+    let h = to-start (to-read-columns (c .before .before .before)) .pre in
+    let v = to-read-columns (c .before .before .before) .read-columns in
     let r = v .ensures in
     let m = columns-most (a .job .now) in
     let k = r .count in
@@ -78,9 +85,9 @@ slice-aggregate-list-columns-2 c =
 
 returns-3 : tie.Need-returns-3
 returns-3 c =
-    let a = c .before .before .before .before .before .before .before .before .before .before .before .before .before .before .before .before .before .before .args in
-    let h = c .before .before .before .before .before .before .before .before .before .before .before .before .before .before .before .before .before .before .pre in
-    let v = c .before .before .before .before .before .before .before .before .before .before .before .before .before .read-columns in
+    let a = to-start (to-read-columns (c .before .before .before .before .before .before)) .args in
+    let h = to-start (to-read-columns (c .before .before .before .before .before .before)) .pre in
+    let v = to-read-columns (c .before .before .before .before .before .before) .read-columns in
     let r = v .ensures in
     let m = columns-most (a .job .now) in
     let k = r .count in

@@ -15,11 +15,21 @@ use Prim.Native.Nat.{ℕ}
 use Rattle.lister.proofs.list_layout.Statement.{statement}
 use Rattle.lister.proofs.list_layout.Tie as tie
 
+-- Stages: from one to an earlier one.
+abbrev to-start : tie.After-layout → tie.Start
+to-start c = c .before .before .before .before .before .before .before .before .before .before .before
+
+abbrev to-layout-from-at-match-keys2 : tie.At-match-keys2 → tie.After-layout
+to-layout-from-at-match-keys2 c = c .before .before .before .before .before .before .before
+
+abbrev to-layout-from-at-match-keys1 : tie.At-match-keys1 → tie.After-layout
+to-layout-from-at-match-keys1 c = c .before .before .before .before .before .before .before
+
 put-accepted-requires : tie.Need-put-accepted-requires
 put-accepted-requires c κs =
-    let a = c .before .before .before .before .before .before .before .before .before .before .before .before .before .before .before .before .before .before .before .before .before .before .args in
-    let h = c .before .before .before .before .before .before .before .before .before .before .before .before .before .before .before .before .before .before .before .before .before .before .pre in
-    let v = c .before .before .before .before .before .before .before .before .before .before .before .layout in
+    let a = to-start (to-layout-from-at-match-keys1 (c .before .before .before .before)) .args in
+    let h = to-start (to-layout-from-at-match-keys1 (c .before .before .before .before)) .pre in
+    let v = to-layout-from-at-match-keys1 (c .before .before .before .before) .layout in
     let e = v .ensures ∙ listed-is (a .width) (a .height) (a .types .now) (a .muls .now) (a .bw) (a .bh) (a .sharpness .now) (a .kinds .now) (a .hf-mul .now) (a .sigma .now) _ (h .0) (h .1) (h .4) (h .5) (h .6) (h .7) (ap (λ (z : Float). replicate 8 z) zero-bits) in
     let f = sym (ap (λ (z : LayoutAnswer). leaves z (v .last .1 .1 .1 .1 .1 .1 .1 .1 .1 .0) (v .last .1 .1 .1 .1 .1 .1 .1 .1 .1 .1 .0) (v .last .1 .1 .1 .1 .1 .1 .1 .1 .1 .1 .1 .0)) (c .before .before .before .enum-told .given .1)) ∙ e in
     let r = accepts (a .width) (a .height) (a .types .now) (a .muls .now) (a .bw) (a .bh) (h .0) (h .1) (v .last .1 .1 .1 .1 .1 .1 .1 .1 .1 .0) (v .last .1 .1 .1 .1 .1 .1 .1 .1 .1 .1 .0) (v .last .1 .1 .1 .1 .1 .1 .1 .1 .1 .1 .1 .0) _ f in
@@ -27,9 +37,9 @@ put-accepted-requires c κs =
 
 returns : tie.Need-returns
 returns c =
-    let a = c .before .before .before .before .before .before .before .before .before .before .before .before .before .before .before .before .before .before .before .before .before .before .before .before .before .args in
-    let h = c .before .before .before .before .before .before .before .before .before .before .before .before .before .before .before .before .before .before .before .before .before .before .before .before .before .pre in
-    let v = c .before .before .before .before .before .before .before .before .before .before .before .before .before .before .layout in
+    let a = to-start (to-layout-from-at-match-keys1 (c .before .before .before .before .before .before .before)) .args in
+    let h = to-start (to-layout-from-at-match-keys1 (c .before .before .before .before .before .before .before)) .pre in
+    let v = to-layout-from-at-match-keys1 (c .before .before .before .before .before .before .before) .layout in
     let e = v .ensures ∙ listed-is (a .width) (a .height) (a .types .now) (a .muls .now) (a .bw) (a .bh) (a .sharpness .now) (a .kinds .now) (a .hf-mul .now) (a .sigma .now) _ (h .0) (h .1) (h .4) (h .5) (h .6) (h .7) (ap (λ (z : Float). replicate 8 z) zero-bits) in
     let f = sym (ap (λ (z : LayoutAnswer). leaves z (v .last .1 .1 .1 .1 .1 .1 .1 .1 .1 .0) (v .last .1 .1 .1 .1 .1 .1 .1 .1 .1 .1 .0) (v .last .1 .1 .1 .1 .1 .1 .1 .1 .1 .1 .1 .0)) (c .before .before .before .before .before .before .enum-told .given .1)) ∙ e in
     let r = accepts (a .width) (a .height) (a .types .now) (a .muls .now) (a .bw) (a .bh) (h .0) (h .1) (v .last .1 .1 .1 .1 .1 .1 .1 .1 .1 .0) (v .last .1 .1 .1 .1 .1 .1 .1 .1 .1 .1 .0) (v .last .1 .1 .1 .1 .1 .1 .1 .1 .1 .1 .1 .0) _ f in
@@ -37,9 +47,9 @@ returns c =
 
 returns-2 : tie.Need-returns-2
 returns-2 c =
-    let a = c .before .before .before .before .before .before .before .before .before .before .before .before .before .before .before .before .before .before .before .before .before .before .before .before .before .args in
-    let h = c .before .before .before .before .before .before .before .before .before .before .before .before .before .before .before .before .before .before .before .before .before .before .before .before .before .pre in
-    let v = c .before .before .before .before .before .before .before .before .before .before .before .before .before .before .layout in
+    let a = to-start (to-layout-from-at-match-keys2 (c .before .before .before .before .before .before .before)) .args in
+    let h = to-start (to-layout-from-at-match-keys2 (c .before .before .before .before .before .before .before)) .pre in
+    let v = to-layout-from-at-match-keys2 (c .before .before .before .before .before .before .before) .layout in
     let e = v .ensures ∙ listed-is (a .width) (a .height) (a .types .now) (a .muls .now) (a .bw) (a .bh) (a .sharpness .now) (a .kinds .now) (a .hf-mul .now) (a .sigma .now) _ (h .0) (h .1) (h .4) (h .5) (h .6) (h .7) (ap (λ (z : Float). replicate 8 z) zero-bits) in
     let f = sym (ap (λ (z : LayoutAnswer). leaves z (v .last .1 .1 .1 .1 .1 .1 .1 .1 .1 .0) (v .last .1 .1 .1 .1 .1 .1 .1 .1 .1 .1 .0) (v .last .1 .1 .1 .1 .1 .1 .1 .1 .1 .1 .1 .0)) (c .before .before .before .before .before .before .answer .given .1)) ∙ e in
     let t = ap refusedText (c .before .before .before .numbers .ensures) ∙ refuses (a .width) (a .height) (a .types .now) (a .muls .now) (a .bw) (a .bh) (h .0) (h .1) (v .last .1 .1 .1 .1 .1 .1 .1 .1 .1 .0) (v .last .1 .1 .1 .1 .1 .1 .1 .1 .1 .1 .0) (v .last .1 .1 .1 .1 .1 .1 .1 .1 .1 .1 .1 .0) (c .before .before .before .before .before .before .answer .given .0 .0) f in

@@ -39,6 +39,22 @@ Inv-loop group kinds hf-mul lf-there lf0 lf1 lf2 store preset-map shift symbols 
 abbrev μ-loop : tie.MeasureT-loop
 μ-loop group kinds hf-mul lf-there lf0 lf1 lf2 store preset-map shift symbols log₀ g0₀ g1₀ g2₀ contexts bw bh clusters lengths rows₀ at₀ y₀ log g0 g1 g2 rows at y = group .bh - y
 
+-- Stages: from one to an earlier one.
+abbrev to-start : tie.After-shared-slice-known7 Inv-loop2 μ-loop2 Inv-loop μ-loop → tie.Start Inv-loop2 μ-loop2 Inv-loop μ-loop
+to-start c = c .before .before .before .before .before .before .before
+
+abbrev to-shared-slice-known7 : tie.After-lengths Inv-loop2 μ-loop2 Inv-loop μ-loop → tie.After-shared-slice-known7 Inv-loop2 μ-loop2 Inv-loop μ-loop
+to-shared-slice-known7 c = c .before .before .before .before .before .before
+
+abbrev to-lengths : tie.Else1 Inv-loop2 μ-loop2 Inv-loop μ-loop → tie.After-lengths Inv-loop2 μ-loop2 Inv-loop μ-loop
+to-lengths c = c .before .before .before .before .before .before
+
+abbrev to-else1 : tie.After-plan-of Inv-loop2 μ-loop2 Inv-loop μ-loop → tie.Else1 Inv-loop2 μ-loop2 Inv-loop μ-loop
+to-else1 c = c .before .before .before .before .before .before
+
+abbrev to-plan-of : tie.After-log Inv-loop2 μ-loop2 Inv-loop μ-loop → tie.After-plan-of Inv-loop2 μ-loop2 Inv-loop μ-loop
+to-plan-of c = c .before .before .before .before .before .before .before
+
 less : (x n : ℕ) → x < n → n - (x + 1) < n - x
 less x n h = omega arith
 
@@ -59,7 +75,7 @@ few y w x a b d = let m : y * w ≤ 31 * 32 = mul-le-mul (let e : y ≤ 31 = ome
 
 -- A corner is found: the stages that lead there, what is due, how long the lent lists are, and that it lies inside.
 abbrev startOf : tie.Else1 Inv-loop2 μ-loop2 Inv-loop μ-loop → tie.Start Inv-loop2 μ-loop2 Inv-loop μ-loop
-startOf c = c .before .before .before .before .before .before .before .before .before .before .before .before .before .before .before .before .before .before .before
+startOf c = to-start (to-shared-slice-known7 (to-lengths c))
 
 abbrev rowOf : tie.Else1 Inv-loop2 μ-loop2 Inv-loop μ-loop → tie.At-loop Inv-loop2 μ-loop2 Inv-loop μ-loop
 rowOf c = c .before .before .before .before .before
@@ -89,35 +105,35 @@ inside c = let r = startOf c .pre in (omega (arith, c .before .before .loop2-tes
 
 -- The varblock is read: its corner.
 abbrev corner : tie.After-slice-known8 Inv-loop2 μ-loop2 Inv-loop μ-loop → tie.Else1 Inv-loop2 μ-loop2 Inv-loop μ-loop
-corner c = c .before .before .before .before .before .before .before .before .before .before .before .before .before .before .before .before .before .before .before .before
+corner c = to-else1 (to-plan-of (c .before .before .before .before .before .before .before))
 
 loop-holds : tie.Need-loop-holds Inv-loop2 μ-loop2 Inv-loop μ-loop
 loop-holds c =
-    let s = c .before .before .before .before .before .before .before .before .before .before .before .before .before in
+    let s = to-start (to-shared-slice-known7 c) in
     let a = s .args in
     (refl, refl, refl, refl, omega arith, due-start (a .shift) (a .t4 .«num_block_clusters») (a .preset-map .now) (passAt s) (a .symbols .now) (a .log .now) (a .g0 .now ∷ a .g1 .now ∷ a .g2 .now ∷ []) (s .pre .layout))
 
 mul-i : tie.Need-mul-i Inv-loop2 μ-loop2 Inv-loop μ-loop
 mul-i c =
-    let h = c .before .before .before .before .before .before .before .before .before .before .before .before .before .before .before .before .before .pre .below in
-    let k = c .before .before .before .before .before .before .before .before .before .before .before .before .before .before .before .before .before .pre .across in
-    omega (arith, few (c .before .before .before .loop .y) (c .before .before .before .before .before .before .before .before .before .before .before .before .before .before .before .before .before .args .group .bw) 0 (omega (arith, c .before .before .loop-test .taken)) k (omega arith))
+    let h = to-start (to-shared-slice-known7 (c .before .before .before .before)) .pre .below in
+    let k = to-start (to-shared-slice-known7 (c .before .before .before .before)) .pre .across in
+    omega (arith, few (c .before .before .before .loop .y) (to-start (to-shared-slice-known7 (c .before .before .before .before)) .args .group .bw) 0 (omega (arith, c .before .before .loop-test .taken)) k (omega arith))
 
 add-i : tie.Need-add-i Inv-loop2 μ-loop2 Inv-loop μ-loop
 add-i c =
-    let h = c .before .before .before .before .before .before .before .before .before .before .before .before .before .before .before .before .before .pre .below in
-    let k = c .before .before .before .before .before .before .before .before .before .before .before .before .before .before .before .before .before .pre .across in
-    omega (arith, few (c .before .before .before .loop .y) (c .before .before .before .before .before .before .before .before .before .before .before .before .before .before .before .before .before .args .group .bw) (c .before .loop2 .x) (omega (arith, c .before .before .loop-test .taken)) k (omega (arith, c .loop2-test .taken)))
+    let h = to-start (to-shared-slice-known7 (c .before .before .before .before)) .pre .below in
+    let k = to-start (to-shared-slice-known7 (c .before .before .before .before)) .pre .across in
+    omega (arith, few (c .before .before .before .loop .y) (to-start (to-shared-slice-known7 (c .before .before .before .before)) .args .group .bw) (c .before .loop2 .x) (omega (arith, c .before .before .loop-test .taken)) k (omega (arith, c .loop2-test .taken)))
 
 shared-slice-read-kind : tie.Need-shared-slice-read-kind Inv-loop2 μ-loop2 Inv-loop μ-loop
-shared-slice-read-kind c = rw (c .before .before .before .before .before .before .before .before .before .before .before .before .before .before .before .before .before .before .pre .layout .kindsLength) (digits-lt (c .before .before .before .loop-test .taken) (c .before .loop2-test .taken))
+shared-slice-read-kind c = rw (to-start (to-shared-slice-known7 (c .before .before .before .before .before)) .pre .layout .kindsLength) (digits-lt (c .before .before .before .loop-test .taken) (c .before .loop2-test .taken))
 
 loop2-less : tie.Need-loop2-less Inv-loop2 μ-loop2 Inv-loop μ-loop
-loop2-less c = less (c .before .before .before .loop2 .x) (c .before .before .before .before .before .before .before .before .before .before .before .before .before .before .before .before .before .before .before .args .group .bw) (c .before .before .loop2-test .taken)
+loop2-less c = less (c .before .before .before .loop2 .x) (to-start (to-shared-slice-known7 (c .before .before .before .before .before .before)) .args .group .bw) (c .before .before .loop2-test .taken)
 
 loop2-again : tie.Need-loop2-again Inv-loop2 μ-loop2 Inv-loop μ-loop
 loop2-again c =
-    let s = c .before .before .before .before .before .before .before .before .before .before .before .before .before .before .before .before .before .before .before in
+    let s = to-start (to-shared-slice-known7 (c .before .before .before .before .before .before)) in
     let a = s .args in
     let o = c .before .before .before .before .before .loop in
     let l = c .before .before .before .loop2 in
@@ -127,14 +143,14 @@ mul-plan-of : tie.Need-mul-plan-of Inv-loop2 μ-loop2 Inv-loop μ-loop
 mul-plan-of c = let k = inside c in omega (arith, few (rowOf c .loop .y) (startOf c .args .group .bw) (blockOf c .loop2 .x) (k .1) (startOf c .pre .across) (k .0))
 
 shared-slice-read-plan-of : tie.Need-shared-slice-read-plan-of Inv-loop2 μ-loop2 Inv-loop μ-loop
-shared-slice-read-plan-of c = rw (c .before .before .before .before .before .before .before .before .before .before .before .before .before .before .before .before .before .before .before .before .pre .layout .hfMulLength) (digits-lt (c .before .before .before .before .before .loop-test .taken) (c .before .before .before .loop2-test .taken))
+shared-slice-read-plan-of c = rw (to-start (to-shared-slice-known7 (to-lengths (c .before))) .pre .layout .hfMulLength) (digits-lt (c .before .before .before .before .before .loop-test .taken) (c .before .before .before .loop2-test .taken))
 
 plan-of-requires : tie.Need-plan-of-requires Inv-loop2 μ-loop2 Inv-loop μ-loop
 plan-of-requires c κs = let e = c .before .before .before .before .before in let k = inside e in (e .if1 .left, k .0, k .1, startOf e .pre .across)
 
 step-varblock-requires : tie.Need-step-varblock-requires Inv-loop2 μ-loop2 Inv-loop μ-loop
 step-varblock-requires c κs =
-    let e = c .before .before .before .before .before .before .before .before .before .before .before in
+    let e = to-else1 (c .before .before .before .before .before) in
     let s = startOf e in
     let a = s .args in
     let o = rowOf e .loop in
@@ -161,7 +177,7 @@ returns c =
     let a = s .args in
     let o = rowOf e .loop in
     let l = blockOf e .loop2 in
-    let p = c .before .before .before .before .before .before .before .before .before .before .before .before .before .before .before .before .plan-of in
+    let p = to-plan-of (c .before .before .before .before .before .before .before .before .before) .plan-of in
     let w = c .before .before .before .before .before .before .before .before .before .before .step-varblock in
     let z = w .last .1 .1 .1 .1 .1 .1 .1 .1 in
     corner-stop (a .shift) (a .t4 .«num_block_clusters») (a .preset-map .now) (passAt s) (a .symbols .now) (length (a .log .now)) (s .pre) (wholeAt s) (l .x) (o .y) (l .at) (l .rows) (l .log) (l .g0 ∷ l .g1 ∷ l .g2 ∷ []) (e .before .before .loop2-test .taken) (e .before .before .before .before .loop-test .taken) (e .if1 .left) (due e) (p .result) (p .ensures) (w .result) (z .0) (z .1 .0) (z .1 .1 .0 ∷ z .1 .1 .1 .0 ∷ z .1 .1 .1 .1 .0 ∷ []) (w .ensures .1) (sym (c .before .is-stopped .ensures) ∙ c .if2 .taken)
@@ -179,7 +195,7 @@ loop2-again-2 c =
     let a = s .args in
     let o = rowOf e .loop in
     let l = blockOf e .loop2 in
-    let p = c .before .before .before .before .before .before .before .before .before .before .before .before .before .before .before .before .before .plan-of in
+    let p = to-plan-of (c .before .before .before .before .before .before .before .before .before .before) .plan-of in
     let w = c .before .before .before .before .before .before .before .before .before .before .before .step-varblock in
     let z = w .last .1 .1 .1 .1 .1 .1 .1 .1 in (
       c .before .before .before .before .before .before .before .before .before .before .log .given ∙ l .inv .0,
@@ -191,11 +207,11 @@ loop2-again-2 c =
     )
 
 loop-less : tie.Need-loop-less Inv-loop2 μ-loop2 Inv-loop μ-loop
-loop-less c = less (c .before .before .before .loop .y) (c .before .before .before .before .before .before .before .before .before .before .before .before .before .before .before .before .before .args .group .bh) (c .before .before .loop-test .taken)
+loop-less c = less (c .before .before .before .loop .y) (to-start (to-shared-slice-known7 (c .before .before .before .before)) .args .group .bh) (c .before .before .loop-test .taken)
 
 loop-again : tie.Need-loop-again Inv-loop2 μ-loop2 Inv-loop μ-loop
 loop-again c =
-    let s = c .before .before .before .before .before .before .before .before .before .before .before .before .before .before .before .before .before in
+    let s = to-start (to-shared-slice-known7 (c .before .before .before .before)) in
     let a = s .args in
     let o = c .before .before .before .loop in
     let l = c .before .loop2 in (
@@ -209,7 +225,7 @@ loop-again c =
 
 returns-2 : tie.Need-returns-2 Inv-loop2 μ-loop2 Inv-loop μ-loop
 returns-2 c =
-    let s = c .before .before .before .before .before .before .before .before .before .before .before .before .before .before .before in
+    let s = to-start (to-shared-slice-known7 (c .before .before)) in
     let a = s .args in
     let o = c .before .loop in
     due-end (a .shift) (a .t4 .«num_block_clusters») (a .preset-map .now) (passAt s) (a .symbols .now) (192 * (a .group .bw * a .group .bh)) (wholeAt s) (o .at) (o .rows) (o .log) (o .g0 ∷ o .g1 ∷ o .g2 ∷ []) (o .y) (c .loop-test .left) (o .inv .5)

@@ -24,8 +24,12 @@ abbrev μ-loop : tie.MeasureT-loop
 μ-loop nonzeros frequencies list spot symbols start count first-prev coeff-map shift log₀ grid₀ at₀ left₀ prev₀ k₀ end log grid at left prev k =
     end - k
 
+-- Stages: from one to an earlier one.
+abbrev to-start : tie.In-loop Inv-loop μ-loop → tie.Start Inv-loop μ-loop
+to-start c = c .before .before .before .before .before .before .before
+
 -- There is a place.
-place : (c : tie.Else1 Inv-loop μ-loop) → c .before .before .loop .k < length (spotCells (c .before .before .before .before .before .before .before .before .args .spot) (c .before .before .before .before .before .before .before .before .args .list .now))
+place : (c : tie.Else1 Inv-loop μ-loop) → c .before .before .loop .k < length (spotCells (to-start (c .before) .args .spot) (to-start (c .before) .args .list .now))
 place c = omega (arith, c .before .loop-test .taken, c .before .before .loop .inv .5)
 
 loop-holds : tie.Need-loop-holds Inv-loop μ-loop
@@ -34,32 +38,32 @@ loop-holds c = let a = c .before .before .before .before .before .args in let r 
 returns : tie.Need-returns Inv-loop μ-loop
 returns c =
     let l = c .before .before .loop in
-    let a = c .before .before .before .before .before .before .before .before .args in
+    let a = to-start (c .before) .args in
     ends _ _ _ (walk-used (a .shift) (2 ^ (a .spot .exponent)) (a .coeff-map .now) (spotCells (a .spot) (a .list .now)) (a .symbols .now) (l .k) (l .prev) (l .left) (l .at) (l .log) (l .grid) (c .if1 .taken)) (l .inv .6)
 
 coeff-context-requires : tie.Need-coeff-context-requires Inv-loop μ-loop
-coeff-context-requires c κs = (c .before .before .before .before .before .before .before .before .pre .0, c .before .before .before .before .before .before .before .before .pre .1, c .before .before .before .before .before .before .before .before .pre .2 .exponent, omega (arith, c .if1 .left, c .before .before .loop .inv .1), omega (arith, c .before .loop-test .taken, c .before .before .before .before .before .before .before .before .pre .2 .fits), c .before .before .loop .inv .2)
+coeff-context-requires c κs = (to-start (c .before) .pre .0, to-start (c .before) .pre .1, to-start (c .before) .pre .2 .exponent, omega (arith, c .if1 .left, c .before .before .loop .inv .1), omega (arith, c .before .loop-test .taken, to-start (c .before) .pre .2 .fits), c .before .before .loop .inv .2)
 
 returns-2 : tie.Need-returns-2 Inv-loop μ-loop
 returns-2 c =
     let l = c .before .before .before .before .loop in
-    let a = c .before .before .before .before .before .before .before .before .before .before .args in
+    let a = to-start (c .before .before .before) .args in
     ends _ _ _ (walk-17 (a .shift) (2 ^ (a .spot .exponent)) (a .coeff-map .now) (spotCells (a .spot) (a .list .now)) (a .symbols .now) (l .k) (l .prev) (l .left) (l .at) (l .log) (l .grid) (place (c .before .before)) (omega (arith, c .before .before .if1 .left)) (omega (arith, c .if2 .taken, c .before .coeff-context .ensures))) (l .inv .6)
 
 returns-3 : tie.Need-returns-3 Inv-loop μ-loop
 returns-3 c =
     let l = c .before .before .before .before .before .loop in
-    let a = c .before .before .before .before .before .before .before .before .before .before .before .args in
+    let a = to-start (c .before .before .before .before) .args in
     ends _ _ _ (walk-15 (a .shift) (2 ^ (a .spot .exponent)) (a .coeff-map .now) (spotCells (a .spot) (a .list .now)) (a .symbols .now) (l .k) (l .prev) (l .left) (l .at) (l .log) (l .grid) (place (c .before .before .before)) (omega (arith, c .before .before .before .if1 .left)) (omega (arith, c .before .if2 .left, c .before .before .coeff-context .ensures)) (c .if3 .taken)) (l .inv .6)
 
 shared-slice-read-log : tie.Need-shared-slice-read-log Inv-loop μ-loop
-shared-slice-read-log c = omega (arith, c .before .before .before .if2 .left, c .before .before .before .before .before .before .before .before .before .before .before .before .before .pre .2 .entries)
+shared-slice-read-log c = omega (arith, c .before .before .before .if2 .left, to-start (c .before .before .before .before .before .before) .pre .2 .entries)
 
 slice-write-log : tie.Need-slice-write-log Inv-loop μ-loop
-slice-write-log c = omega (arith, c .before .before .before .before .before .before .before .loop .inv .0, c .before .before .before .before .before .before .before .loop .inv .3, c .before .before .before .before .before .before .loop-test .taken, c .before .before .before .before .before .before .before .before .before .before .before .before .before .pre .2 .room)
+slice-write-log c = omega (arith, c .before .before .before .before .before .before .before .loop .inv .0, c .before .before .before .before .before .before .before .loop .inv .3, c .before .before .before .before .before .before .loop-test .taken, to-start (c .before .before .before .before .before .before) .pre .2 .room)
 
 gain-at-requires : tie.Need-gain-at-requires Inv-loop μ-loop
-gain-at-requires c κs = let r = c .before .before .before .before .before .before .before .before .before .before .before .before .before .before .pre .2 in (c .before .before .before .before .before .before .before .loop-test .taken, r .width, r .left, r .top, r .shifts)
+gain-at-requires c κs = let r = to-start (c .before .before .before .before .before .before .before) .pre .2 in (c .before .before .before .before .before .before .before .loop-test .taken, r .width, r .left, r .top, r .shifts)
 
 sub-left : tie.Need-sub-left Inv-loop μ-loop
 sub-left c = omega (arith, c .flag-of .ensures .1, c .before .before .before .before .before .before .before .before .before .before .if1 .left)
@@ -70,7 +74,7 @@ loop-less c = omega (arith, c .before .before .before .before .before .before .b
 loop-again : tie.Need-loop-again Inv-loop μ-loop
 loop-again c =
     let l = c .before .before .before .before .before .before .before .before .before .before .before .before .loop in
-    let a = c .before .before .before .before .before .before .before .before .before .before .before .before .before .before .before .before .before .before .args in
+    let a = to-start (c .before .before .before .before .before .before .before .before .before .before .before) .args in
     let n : 0 < l .left = omega (arith, c .before .before .before .before .before .before .before .before .before .before .if1 .left) in (
       omega (arith, l .inv .0),
       omega (arith, l .inv .1),

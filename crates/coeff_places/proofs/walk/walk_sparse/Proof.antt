@@ -19,53 +19,57 @@ abbrev μ-loop : tie.MeasureT-loop
 μ-loop nonzeros frequencies list spot symbols start count first-prev coeff-map shift log₀ grid₀ left₀ prev₀ k₀ end stop log grid left prev k =
     stop - k
 
--- Places and symbols read are small numbers.
-position : (c : tie.At-loop Inv-loop μ-loop) → c .before .before .before .before .before .before .before .before .args .start + c .loop .k < 2 ^ 63
-position c = omega (arith, c .loop .inv .below, c .loop .inv .places, c .before .before .before .before .before .before .before .before .pre .2 .room)
+-- Stages: from one to an earlier one.
+abbrev to-start : tie.At-loop Inv-loop μ-loop → tie.Start Inv-loop μ-loop
+to-start c = c .before .before .before .before .before .before .before .before
 
-at-fits : (c : tie.At-loop Inv-loop μ-loop) → Fits w64 (c .before .before .before .before .before .before .before .before .args .start + c .loop .k)
+-- Places and symbols read are small numbers.
+position : (c : tie.At-loop Inv-loop μ-loop) → to-start c .args .start + c .loop .k < 2 ^ 63
+position c = omega (arith, c .loop .inv .below, c .loop .inv .places, to-start c .pre .2 .room)
+
+at-fits : (c : tie.At-loop Inv-loop μ-loop) → Fits w64 (to-start c .args .start + c .loop .k)
 at-fits c = omega (arith, position c)
 
 next-fits : (c : tie.At-loop Inv-loop μ-loop) → Fits w64 (c .loop .k + 1)
 next-fits c = omega (arith, position c)
 
 -- What one turn needs.
-turning : (c : tie.Else1 Inv-loop μ-loop) → Turn (c .before .before .before .before .before .before .before .before .before .before .args .spot) (c .before .before .before .before .before .before .before .before .before .before .args .list .now) (c .before .before .before .before .before .before .before .before .before .before .args .symbols .now) (c .before .before .before .before .before .before .before .before .before .before .args .start) (length (c .before .before .before .before .before .before .before .before .before .before .args .coeff-map .now)) (length (c .before .before .loop .log)) (c .before .before .loop .left) (c .before .before .loop .prev) (c .before .before .loop .k)
-turning c = turn (c .before .before .loop .inv) (c .before .before .before .before .before .before .before .before .before .before .pre .2) (c .before .loop-test .taken) (c .if1 .left)
+turning : (c : tie.Else1 Inv-loop μ-loop) → Turn (to-start (c .before .before) .args .spot) (to-start (c .before .before) .args .list .now) (to-start (c .before .before) .args .symbols .now) (to-start (c .before .before) .args .start) (length (to-start (c .before .before) .args .coeff-map .now)) (length (c .before .before .loop .log)) (c .before .before .loop .left) (c .before .before .loop .prev) (c .before .before .loop .k)
+turning c = turn (c .before .before .loop .inv) (to-start (c .before .before) .pre .2) (c .before .loop-test .taken) (c .if1 .left)
 
 -- The count's entry.
-entry : (c : tie.After-nonzeros-entry Inv-loop μ-loop) → 2 * c .nonzeros-entry .result ≡ 2 * getD NUM-NONZERO ((c .before .before .before .before .before .before .before .loop .left - 1) / 2 ^ (c .before .before .before .before .before .before .before .before .before .before .before .before .before .before .before .args .spot .exponent)) 0
+entry : (c : tie.After-nonzeros-entry Inv-loop μ-loop) → 2 * c .nonzeros-entry .result ≡ 2 * getD NUM-NONZERO ((c .before .before .before .before .before .before .before .loop .left - 1) / 2 ^ (to-start (c .before .before .before .before .before .before .before) .args .spot .exponent)) 0
 entry c = ap (λ (n : ℕ). 2 * n) (c .nonzeros-entry .ensures .0)
 
 loop-holds : tie.Need-loop-holds Inv-loop μ-loop
 loop-holds c = let m = c .lesser-of .ensures in let b = c .before .behind .ensures in sparse-start (c .before .before .before .before .before .before .before .pre .2) (c .before .before .before .before .before .before .before .pre .3) (c .lesser-of .result) (m .0) (omega (arith, m .1, b)) (λ h. m .2 h ∙ b)
 
 coeff-context-requires : tie.Need-coeff-context-requires Inv-loop μ-loop
-coeff-context-requires c κs = let t = turning c in (c .before .before .before .before .before .before .before .before .before .before .pre .0, c .before .before .before .before .before .before .before .before .before .before .pre .1, c .before .before .before .before .before .before .before .before .before .before .pre .2 .exponent, t .counts, t .few, c .before .before .loop .inv .flagged)
+coeff-context-requires c κs = let t = turning c in (to-start (c .before .before) .pre .0, to-start (c .before .before) .pre .1, to-start (c .before .before) .pre .2 .exponent, t .counts, t .few, c .before .before .loop .inv .flagged)
 
 shared-slice-read-log : tie.Need-shared-slice-read-log Inv-loop μ-loop
-shared-slice-read-log c = omega (arith, c .before .before .coeff-context .ensures, turning (c .before .before .before) .context, c .before .before .before .before .before .before .before .before .before .before .before .before .before .pre .2 .entries)
+shared-slice-read-log c = omega (arith, c .before .before .coeff-context .ensures, turning (c .before .before .before) .context, to-start (c .before .before .before .before .before) .pre .2 .entries)
 
 nonzeros-entry-requires : tie.Need-nonzeros-entry-requires Inv-loop μ-loop
-nonzeros-entry-requires c κs = (c .before .before .before .before .before .before .before .before .before .before .before .before .before .before .pre .0, c .before .before .before .before .before .before .before .before .before .before .before .before .before .before .pre .2 .exponent, turning (c .before .before .before .before) .counts)
+nonzeros-entry-requires c κs = (to-start (c .before .before .before .before .before .before) .pre .0, to-start (c .before .before .before .before .before .before) .pre .2 .exponent, turning (c .before .before .before .before) .counts)
 
 sub-zeros-from : tie.Need-sub-zeros-from Inv-loop μ-loop
 sub-zeros-from c = omega (arith, entry c, turning (c .before .before .before .before .before) .entry)
 
 zeros-from-requires : tie.Need-zeros-from-requires Inv-loop μ-loop
-zeros-from-requires c κs = (c .before .before .before .before .before .before .before .before .before .before .before .before .before .before .before .before .before .pre .1, zeros-ready (c .before .before .before .before .before .before .before .before .before .loop .inv) (c .before .before .before .before .before .before .before .before .before .before .before .before .before .before .before .before .before .pre .2) (turning (c .before .before .before .before .before .before .before)) (c .before .before .before .before .before .before .coeff-context .ensures) (entry (c .before .before)) (c .before .before .before .before .before .before .before .before .loop-test .taken))
+zeros-from-requires c κs = (to-start (c .before .before .before .before .before .before .before .before .before) .pre .1, zeros-ready (c .before .before .before .before .before .before .before .before .before .loop .inv) (to-start (c .before .before .before .before .before .before .before .before .before) .pre .2) (turning (c .before .before .before .before .before .before .before)) (c .before .before .before .before .before .before .coeff-context .ensures) (entry (c .before .before)) (c .before .before .before .before .before .before .before .before .loop-test .taken))
 
 loop-again : tie.Need-loop-again Inv-loop μ-loop
-loop-again c = zero-again (c .before .before .before .before .before .before .before .before .before .before .before .before .loop .inv) (c .before .before .before .before .before .before .before .before .before .before .before .before .before .before .before .before .before .before .before .before .pre .2) (turning (c .before .before .before .before .before .before .before .before .before .before)) (c .before .before .before .before .before .before .before .before .before .coeff-context .ensures) (entry (c .before .before .before .before .before)) (c .before .before .before .before .before .before .if2 .taken) (c .before .before .zeros-from .ensures)
+loop-again c = zero-again (c .before .before .before .before .before .before .before .before .before .before .before .before .loop .inv) (to-start (c .before .before .before .before .before .before .before .before .before .before .before .before) .pre .2) (turning (c .before .before .before .before .before .before .before .before .before .before)) (c .before .before .before .before .before .before .before .before .before .coeff-context .ensures) (entry (c .before .before .before .before .before)) (c .before .before .before .before .before .before .if2 .taken) (c .before .before .zeros-from .ensures)
 
 gain-at-requires : tie.Need-gain-at-requires Inv-loop μ-loop
-gain-at-requires c κs = let r = c .before .before .before .before .before .before .before .before .before .before .before .before .before .before .before .pre .2 in (turning (c .before .before .before .before .before) .placed, r .width, r .left, r .top, r .shifts)
+gain-at-requires c κs = let r = to-start (c .before .before .before .before .before .before .before) .pre .2 in (turning (c .before .before .before .before .before) .placed, r .width, r .left, r .top, r .shifts)
 
 loop-again-2 : tie.Need-loop-again-2 Inv-loop μ-loop
-loop-again-2 c = more-again (c .before .before .before .before .before .before .before .before .before .before .loop .inv) (c .before .before .before .before .before .before .before .before .before .before .before .before .before .before .before .before .before .before .pre .2) (turning (c .before .before .before .before .before .before .before .before)) (c .before .before .before .before .before .before .before .coeff-context .ensures) (c .before .before .before .before .before .before .before .before .before .loop-test .taken) (c .before .before .before .before .if2 .left) (c .before .before .gain-at .ensures)
+loop-again-2 c = more-again (c .before .before .before .before .before .before .before .before .before .before .loop .inv) (to-start (c .before .before .before .before .before .before .before .before .before .before) .pre .2) (turning (c .before .before .before .before .before .before .before .before)) (c .before .before .before .before .before .before .before .coeff-context .ensures) (c .before .before .before .before .before .before .before .before .before .loop-test .taken) (c .before .before .before .before .if2 .left) (c .before .before .gain-at .ensures)
 
 returns-4 : tie.Need-returns-4 Inv-loop μ-loop
-returns-4 c = sparse-ends (c .before .before .before .loop .inv) (c .before .before .before .before .before .before .before .before .before .before .before .pre .2) (c .before .before .loop-test .left) (c .before .if3 .left) (c .if4 .left)
+returns-4 c = sparse-ends (c .before .before .before .loop .inv) (to-start (c .before .before .before) .pre .2) (c .before .before .loop-test .left) (c .before .if3 .left) (c .if4 .left)
 
 pub walk-sparse-spec : {M : Type 1} → statement M
 walk-sparse-spec =

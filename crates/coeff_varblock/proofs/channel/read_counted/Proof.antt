@@ -11,34 +11,41 @@ use lib.ListN.{length-set}
 use Rattle.coeff_varblock.proofs.channel.read_counted.Statement.{statement}
 use Rattle.coeff_varblock.proofs.channel.read_counted.Tie as tie
 
+-- Stages: from one to an earlier one.
+abbrev to-start : tie.Else1 → tie.Start
+to-start c = c .before .before .before .before .before .before
+
+abbrev to-count-cluster : tie.After-read-places → tie.After-count-cluster
+to-count-cluster c = c .before .before .before .before .before .before .before .before .before
+
 returns : tie.Need-returns
 returns c = let a = c .before .before .before .before .before .before .args in ends _ _ _ (counted-15 (a .shift) (a .clusters) (a .preset-map .now) (itemAt (a .v) (a .bw) (a .block-context) (a .list .now)) (a .row .now) (a .symbols .now) (a .at) (a .log .now) (a .grid .now) (omega arith)) refl
 
 count-cluster-requires : tie.Need-count-cluster-requires
-count-cluster-requires c κs = let r = c .before .before .before .before .before .before .before .before .pre in (r .left, r .cluster, r .few)
+count-cluster-requires c κs = let r = to-start (c .before .before) .pre in (r .left, r .cluster, r .few)
 
 slice-write-log : tie.Need-slice-write-log
-slice-write-log c = let r = c .before .before .before .before .before .before .before .before .before .pre .room in omega (arith, pow-pos (c .before .before .before .before .before .before .before .before .before .args .v .exponent))
+slice-write-log c = let r = to-start (c .before .before .before) .pre .room in omega (arith, pow-pos (to-start (c .before .before .before) .args .v .exponent))
 
 returns-2 : tie.Need-returns-2
 returns-2 c =
-    let a = c .before .before .before .before .before .before .before .before .before .before .args in
+    let a = to-start (c .before .before .before .before) .args in
     rw (c .before .count-cluster .ensures) (ends _ _ _ (counted-none (a .shift) (a .clusters) (a .preset-map .now) (itemAt (a .v) (a .bw) (a .block-context) (a .list .now)) (a .row .now) (a .symbols .now) (a .at) (a .log .now) (a .grid .now) (omega arith) (sym (c .before .before .to-usize .ensures) ∙ c .if2 .taken)) refl)
 
 spot-of-requires : tie.Need-spot-of-requires
-spot-of-requires c κs = let r = c .before .before .before .before .before .before .before .before .before .before .pre in (r .left, r .top, r .across)
+spot-of-requires c κs = let r = to-start (c .before .before .before .before) .pre in (r .left, r .top, r .across)
 
 mul-read-places : tie.Need-mul-read-places
-mul-read-places c = let p = c .before .before .before .before .before .before .before .before .before .before .before .before .before .pre .exponent in omega (arith, shifted-left 2 (c .before .before .before .before .before .before .before .before .before .before .before .before .before .args .v .exponent) (omega arith) p, power-le (c .before .before .before .before .before .before .before .before .before .before .before .before .before .args .v .exponent) p)
+mul-read-places c = let p = to-start (c .before .before .before .before .before .before .before) .pre .exponent in omega (arith, shifted-left 2 (to-start (c .before .before .before .before .before .before .before) .args .v .exponent) (omega arith) p, power-le (to-start (c .before .before .before .before .before .before .before) .args .v .exponent) p)
 
 returns-3 : tie.Need-returns-3
 returns-3 c =
-    let a = c .before .before .before .before .before .before .before .before .before .before .before .before .before .before .before .before .before .before .before .before .before .before .args in
-    let u = c .before .before .before .before .before .before .before .before .before .before .before .before .before .before .before .before .if1 .left in
+    let a = to-start (to-count-cluster (c .before .before .before .before) .before .before .before) .args in
+    let u = to-count-cluster (c .before .before .before .before) .before .before .before .if1 .left in
     handed-by _ _ _ _ _ (c .before .before .before .before .read-places .ensures)
-    (rw (c .before .before .before .before .before .before .before .before .before .before .before .spot-of .ensures, c .before .before .before .before .before .before .before .before .before .before .before .before .before .count-cluster .ensures)
-    (channel-goes (a .v) (a .bw) (a .block-context) (a .clusters) (a .preset-map .now) (a .list .now) (a .row .now) (a .symbols .now) (a .at) (a .shift) (a .log .now) (a .grid .now) (2 * 2 ^ (a .v .exponent) % 2 ^ 64) (a .block-context * 458 + 37 * a .clusters) (a .block-context * 458 + 37 * a .clusters + 458) (a .at + 1) (c .before .before .before .before .before .before .before .before .before .before .before .before .before .before .to-usize .result) (a .block-context + countIndex (predicted (a .row .now) (a .v .x) (a .v .y)) * a .clusters) (c .before .before .before .before .before .before .before .before .before .before .first-prev .result)
-    (c .before .before .before .before .before .before .before .before .before .before .before .before .before .before .before .before .before .before .before .before .before .before .pre) (shifted-left 2 (a .v .exponent) (omega arith) (c .before .before .before .before .before .before .before .before .before .before .before .before .before .before .before .before .before .before .before .before .before .before .pre .exponent)) refl refl refl (omega arith) (c .before .before .before .before .before .before .before .before .before .before .before .before .before .before .to-usize .ensures) (c .before .before .before .before .before .before .before .before .before .before .first-prev .ensures) refl))
+    (rw (c .before .before .before .before .before .before .before .before .before .before .before .spot-of .ensures, to-count-cluster (c .before .before .before .before) .count-cluster .ensures)
+    (channel-goes (a .v) (a .bw) (a .block-context) (a .clusters) (a .preset-map .now) (a .list .now) (a .row .now) (a .symbols .now) (a .at) (a .shift) (a .log .now) (a .grid .now) (2 * 2 ^ (a .v .exponent) % 2 ^ 64) (a .block-context * 458 + 37 * a .clusters) (a .block-context * 458 + 37 * a .clusters + 458) (a .at + 1) (to-count-cluster (c .before .before .before .before) .before .to-usize .result) (a .block-context + countIndex (predicted (a .row .now) (a .v .x) (a .v .y)) * a .clusters) (c .before .before .before .before .before .before .before .before .before .before .first-prev .result)
+    (to-start (to-count-cluster (c .before .before .before .before) .before .before .before) .pre) (shifted-left 2 (a .v .exponent) (omega arith) (to-start (to-count-cluster (c .before .before .before .before) .before .before .before) .pre .exponent)) refl refl refl (omega arith) (to-count-cluster (c .before .before .before .before) .before .to-usize .ensures) (c .before .before .before .before .before .before .before .before .before .before .first-prev .ensures) refl))
 
 pub read-counted-spec : {M : Type 1} → statement M
 read-counted-spec =
@@ -54,7 +61,7 @@ read-counted-spec =
     (λ c. search needs)
     returns-2
     spot-of-requires
-    (λ c κs. c .before .before .before .before .before .before .before .before .before .before .before .pre .exponent)
+    (λ c κs. to-start (c .before .before .before .before .before) .pre .exponent)
     (λ c. search needs)
     (λ c. search needs)
     (λ c. search needs)

@@ -12,6 +12,13 @@ use lib.ListN.{getD}
 use Rattle.layout_reading.proofs.column.visit.Statement.{statement}
 use Rattle.layout_reading.proofs.column.visit.Tie as tie
 
+-- Stages: from one to an earlier one.
+abbrev to-start : tie.After-judge → tie.Start
+to-start c = c .before .before .before .before .before .before .before .before .before .before .before .before
+
+abbrev to-judge : tie.After-place → tie.After-judge
+to-judge c = c .before .before .before .before .before .before .before
+
 mul-i : tie.Need-mul-i
 mul-i c =
     let a = c .before .before .before .before .before .before .args in
@@ -39,20 +46,20 @@ returns-2 c =
 
 place-requires : tie.Need-place-requires
 place-requires c κs =
-    let a = c .before .before .before .before .before .before .before .before .before .before .before .before .before .before .before .before .before .before .args in
-    let h = c .before .before .before .before .before .before .before .before .before .before .before .before .before .before .before .before .before .before .pre in
+    let a = to-start (c .before .before .before .before .before .before) .args in
+    let h = to-start (c .before .before .before .before .before .before) .pre in
     let m = asks-most (lowEight (getD (a .types .now) (a .used) 0)) (hfMulOf (getD (a .muls .now) (a .used) 0)) (a .x) (a .y) _ (sym (c .before .before .before .before .before .before .judge .ensures) ∙ ap saidJudged (c .before .before .before .before .judged2 .given .1)) in
     (h .0, h .1, h .2, h .3, omega arith, omega arith, m .0, m .1, omega arith, omega arith, search needs, m .2, h .9)
 
 returns-3 : tie.Need-returns-3
 returns-3 c =
-    let a = c .before .before .before .before .before .before .before .before .before .before .before .before .before .before .before .args in
+    let a = to-start (c .before .before .before) .args in
     sym (ap (byJudged (jobWith (a .bw) (a .bh) (a .types .now) (a .muls .now) (a .sharpness .now) (a .filter) (a .lookups .now)) (a .x) (a .y) (stateOf (a .used) (a .kinds .now) (a .hf-mul .now) (a .sigma .now))) (c .before .judged .given .1)) ∙ visit-judged (jobWith (a .bw) (a .bh) (a .types .now) (a .muls .now) (a .sharpness .now) (a .filter) (a .lookups .now)) (a .x) (a .y) (stateOf (a .used) (a .kinds .now) (a .hf-mul .now) (a .sigma .now)) (omega arith) (c .before .before .before .judge .result) (omega arith) (c .before .before .before .judge .ensures)
 
 returns-4 : tie.Need-returns-4
 returns-4 c =
-    let a = c .before .before .before .before .before .before .before .before .before .before .before .before .before .before .before .before .before .before .before .before .before .before .before .before .before .args in
-    c .before .before .before .before .before .before .place .ensures ∙ sym (ap (byJudged (jobWith (a .bw) (a .bh) (a .types .now) (a .muls .now) (a .sharpness .now) (a .filter) (a .lookups .now)) (a .x) (a .y) (stateOf (a .used) (a .kinds .now) (a .hf-mul .now) (a .sigma .now))) (c .before .before .before .before .before .before .before .before .before .before .before .judged2 .given .1)) ∙ visit-judged (jobWith (a .bw) (a .bh) (a .types .now) (a .muls .now) (a .sharpness .now) (a .filter) (a .lookups .now)) (a .x) (a .y) (stateOf (a .used) (a .kinds .now) (a .hf-mul .now) (a .sigma .now)) (omega arith) (c .before .before .before .before .before .before .before .before .before .before .before .before .before .judge .result) (omega arith) (c .before .before .before .before .before .before .before .before .before .before .before .before .before .judge .ensures)
+    let a = to-start (to-judge (c .before .before .before .before .before .before)) .args in
+    c .before .before .before .before .before .before .place .ensures ∙ sym (ap (byJudged (jobWith (a .bw) (a .bh) (a .types .now) (a .muls .now) (a .sharpness .now) (a .filter) (a .lookups .now)) (a .x) (a .y) (stateOf (a .used) (a .kinds .now) (a .hf-mul .now) (a .sigma .now))) (c .before .before .before .before .before .before .before .before .before .before .before .judged2 .given .1)) ∙ visit-judged (jobWith (a .bw) (a .bh) (a .types .now) (a .muls .now) (a .sharpness .now) (a .filter) (a .lookups .now)) (a .x) (a .y) (stateOf (a .used) (a .kinds .now) (a .hf-mul .now) (a .sigma .now)) (omega arith) (to-judge (c .before .before .before .before .before .before) .judge .result) (omega arith) (to-judge (c .before .before .before .before .before .before) .judge .ensures)
 
 pub visit-spec : {M : Type 1} → statement M
 visit-spec =
