@@ -25,6 +25,19 @@ Inv-loop kinds₀ hf-mul₀ sigma₀ types muls sharpness lookups filter bw bh u
 abbrev μ-loop : tie.MeasureT-loop
 μ-loop kinds₀ hf-mul₀ sigma₀ types muls sharpness lookups filter bw bh used₀ y₀ kinds hf-mul sigma used y = bh - y
 
+-- Stages: from one to an earlier one.
+abbrev to-start : tie.At-loop Inv-loop2 μ-loop2 Inv-loop μ-loop → tie.Start Inv-loop2 μ-loop2 Inv-loop μ-loop
+to-start c = c .before .before .before .before .before .before .before
+
+abbrev to-row : tie.At-loop2 Inv-loop2 μ-loop2 Inv-loop μ-loop → tie.At-loop Inv-loop2 μ-loop2 Inv-loop μ-loop
+to-row c = c .before .before
+
+abbrev to-block : tie.After-visit Inv-loop2 μ-loop2 Inv-loop μ-loop → tie.At-loop2 Inv-loop2 μ-loop2 Inv-loop μ-loop
+to-block c = c .before .before .before .before .before
+
+abbrev to-visit : tie.After-slice-known6 Inv-loop2 μ-loop2 Inv-loop μ-loop → tie.After-visit Inv-loop2 μ-loop2 Inv-loop μ-loop
+to-visit c = c .before .before .before .before .before .before
+
 loop2-holds : tie.Need-loop2-holds Inv-loop2 μ-loop2 Inv-loop μ-loop
 loop2-holds c =
     let o = c .before .loop in
@@ -33,36 +46,39 @@ loop2-holds c =
 visit-requires : tie.Need-visit-requires Inv-loop2 μ-loop2 Inv-loop μ-loop
 visit-requires c κs =
     let l = c .before .before .before .before .loop2 in
-    let h = c .before .before .before .before .before .before .before .before .before .before .before .before .before .pre in
+    let h = to-start (to-row (c .before .before .before .before)) .pre in
     (l .inv .1, l .inv .2, l .inv .3, h .3, h .4, h .5, h .6, omega arith, omega arith, h .7)
 
 returns : tie.Need-returns Inv-loop2 μ-loop2 Inv-loop μ-loop
 returns c =
-    let a = c .before .before .before .before .before .before .before .before .before .before .before .before .before .before .before .before .before .before .before .before .before .before .args in
-    let o = c .before .before .before .before .before .before .before .before .before .before .before .before .before .before .before .loop in
-    let l = c .before .before .before .before .before .before .before .before .before .before .before .before .before .loop2 in
-    let v = c .before .before .before .before .before .before .before .before .visit in
+    let s = to-visit (c .before .before) in
+    let a = to-start (to-row (to-block s)) .args in
+    let o = to-row (to-block s) .loop in
+    let l = to-block s .loop2 in
+    let v = s .visit in
     sym (loop-start (visit (jobWith (a .bw) (a .bh) (a .types .now) (a .muls .now) (a .sharpness .now) (a .filter) (a .lookups .now))) (a .bw) (a .bh) (Going (stateOf 0 (a .kinds .now) (a .hf-mul .now) (a .sigma .now))) ∙ o .inv .4 ∙ loop-enter (visit (jobWith (a .bw) (a .bh) (a .types .now) (a .muls .now) (a .sharpness .now) (a .filter) (a .lookups .now))) (a .bw) (a .bh) (o .y) (Going (stateOf (o .used) (o .kinds) (o .hf-mul) (o .sigma))) (omega arith) ∙ l .inv .4 ∙ loop-stop (visit (jobWith (a .bw) (a .bh) (a .types .now) (a .muls .now) (a .sharpness .now) (a .filter) (a .lookups .now))) (a .bw) (a .bh) (o .y) (l .x) (Going (stateOf (l .used) (l .kinds) (l .hf-mul) (l .sigma))) (stepped (v .result) (v .last .0) (v .last .1 .0) (v .last .1 .1 .0)) (stop-stays (jobWith (a .bw) (a .bh) (a .types .now) (a .muls .now) (a .sharpness .now) (a .filter) (a .lookups .now)) (v .result) _ _ (v .last .0) (v .last .1 .0) (v .last .1 .1 .0) (c .enum-told .given .1)) (omega arith) (v .ensures))
 
 loop2-again : tie.Need-loop2-again Inv-loop2 μ-loop2 Inv-loop μ-loop
 loop2-again c =
-    let a = c .before .before .before .before .before .before .before .before .before .before .before .before .before .before .before .before .before .before .before .before .before .before .before .args in
-    let o = c .before .before .before .before .before .before .before .before .before .before .before .before .before .before .before .before .loop in
-    let l = c .before .before .before .before .before .before .before .before .before .before .before .before .before .before .loop2 in
-    let v = c .before .before .before .before .before .before .before .before .before .visit in
-    let e = sym (ap (λ (z : Step). stepped z (v .last .0) (v .last .1 .0) (v .last .1 .1 .0)) (c .before .step .given .1)) ∙ v .ensures in
-    (omega arith, c .before .before .before .before .before .before .before .before .kinds .given ∙ l .inv .1, c .before .before .before .before .before .before .hf-mul .given ∙ l .inv .2, c .before .before .before .before .sigma .given ∙ l .inv .3, l .inv .4 ∙ loop-next (visit (jobWith (a .bw) (a .bh) (a .types .now) (a .muls .now) (a .sharpness .now) (a .filter) (a .lookups .now))) (a .bw) (a .bh) (o .y) (l .x) (Going (stateOf (l .used) (l .kinds) (l .hf-mul) (l .sigma))) _ (omega arith) e)
+    let e = c .before .before .before in
+    let s = to-visit e in
+    let a = to-start (to-row (to-block s)) .args in
+    let o = to-row (to-block s) .loop in
+    let l = to-block s .loop2 in
+    let v = s .visit in
+    let n = sym (ap (λ (z : Step). stepped z (v .last .0) (v .last .1 .0) (v .last .1 .1 .0)) (c .before .step .given .1)) ∙ v .ensures in
+    (omega arith, e .before .before .before .before .before .kinds .given ∙ l .inv .1, e .before .before .before .hf-mul .given ∙ l .inv .2, e .before .sigma .given ∙ l .inv .3, l .inv .4 ∙ loop-next (visit (jobWith (a .bw) (a .bh) (a .types .now) (a .muls .now) (a .sharpness .now) (a .filter) (a .lookups .now))) (a .bw) (a .bh) (o .y) (l .x) (Going (stateOf (l .used) (l .kinds) (l .hf-mul) (l .sigma))) _ (omega arith) n)
 
 loop-again : tie.Need-loop-again Inv-loop2 μ-loop2 Inv-loop μ-loop
 loop-again c =
-    let a = c .before .before .before .before .before .before .before .before .before .before .args in
-    let o = c .before .before .before .loop in
+    let a = to-start (to-row (c .before)) .args in
+    let o = to-row (c .before) .loop in
     let l = c .before .loop2 in
     (omega arith, l .inv .1, l .inv .2, l .inv .3, o .inv .4 ∙ loop-enter (visit (jobWith (a .bw) (a .bh) (a .types .now) (a .muls .now) (a .sharpness .now) (a .filter) (a .lookups .now))) (a .bw) (a .bh) (o .y) (Going (stateOf (o .used) (o .kinds) (o .hf-mul) (o .sigma))) (omega arith) ∙ l .inv .4 ∙ loop-leave (visit (jobWith (a .bw) (a .bh) (a .types .now) (a .muls .now) (a .sharpness .now) (a .filter) (a .lookups .now))) (a .bw) (a .bh) (o .y) (l .x) (Going (stateOf (l .used) (l .kinds) (l .hf-mul) (l .sigma))) (omega arith))
 
 returns-2 : tie.Need-returns-2 Inv-loop2 μ-loop2 Inv-loop μ-loop
 returns-2 c =
-    let a = c .before .before .before .before .before .before .before .before .args in
+    let a = to-start (c .before) .args in
     let o = c .before .loop in
     sym (loop-start (visit (jobWith (a .bw) (a .bh) (a .types .now) (a .muls .now) (a .sharpness .now) (a .filter) (a .lookups .now))) (a .bw) (a .bh) (Going (stateOf 0 (a .kinds .now) (a .hf-mul .now) (a .sigma .now))) ∙ o .inv .4 ∙ loop-finish (visit (jobWith (a .bw) (a .bh) (a .types .now) (a .muls .now) (a .sharpness .now) (a .filter) (a .lookups .now))) (a .bw) (a .bh) (o .y) (Going (stateOf (o .used) (o .kinds) (o .hf-mul) (o .sigma))) (omega arith))
 
