@@ -78,9 +78,9 @@ unfoldable pub reading : Lent → ℕ → Reading
 reading L preset = readingBy (L .pass) (L .clusterMap) (L .shift) (L .symbols) (L .log) (L .grids) preset
 
 -- symbols read; 15 to 17 keep what was added and logged
-abbrev pub outcome : Reading → Outcome
-outcome (going us at log grids rows left) = record { answer = gives at; log = log; grids = grids }
-outcome (refused why at log grids) = record { answer = refuses (said (why at)); log = log; grids = grids }
+abbrev pub outcomeOf : Reading → Outcome
+outcomeOf (going us at log grids rows left) = record { answer = gives at; log = log; grids = grids }
+outcomeOf (refused why at log grids) = record { answer = refuses (said (why at)); log = log; grids = grids }
 
 -- a refusal that writes nothing
 abbrev pub refuse : Lent → Said → Outcome
@@ -90,7 +90,7 @@ abbrev pub presetBits : Lent → Read ℕ
 presetBits L = readBits (L .bytes) 0 (exponent (L .presets))
 
 abbrev pub withPreset : Lent → Read ℕ → Outcome
-withPreset L bits = answeredBy (presetOf (L .presets) bits) (refuse L) (λ preset. outcome (reading L preset))
+withPreset L bits = answeredBy (presetOf (L .presets) bits) (refuse L) (λ preset. outcomeOf (reading L preset))
 
 unfoldable pub call : Lent → Outcome
 call L = answeredBy (beforeWork L) (refuse L) (λ u. withPreset L (presetBits L))

@@ -20,7 +20,7 @@ use Rattle.order_store.specs.Store.{PLACES, stretch}
 use Rattle.order_call.specs.Call.{parsed}
 use Rattle.coeff_call.specs.declared.CoeffAnswer.the-variants.{Accepted}
 use Rattle.refusal.specs.Answer.{gives, refuses}
-use Rattle.coeff_call.specs.Call.{leaves, outcome, refuse, presetBits, call, reading as readingWith}
+use Rattle.coeff_call.specs.Call.{leaves, outcomeOf, refuse, presetBits, call, reading as readingWith}
 use Rattle.lister.specs.Listing.{textOf}
 use Rattle.marked.specs.Lines.{job, lines}
 use Rattle.marked.specs.Coefficients.{gains, dct8, dct16, Room}
@@ -91,7 +91,7 @@ abbrev pub M10 : Type 0
 M10 = (map symbols log g0 g1 g2 : List ℕ) → Room 3 1 map log g0 g1 g2
     → ((b : ℕ) (rest : List ℕ) → presetBits (dct8 3 map (b ∷ rest) symbols log g0 g1 g2) ≡ Value (b % 4) 2)
     × ((rest : List ℕ) → call (dct8 3 map (3 ∷ rest) symbols log g0 g1 g2) ≡ refuse (dct8 3 map (3 ∷ rest) symbols log g0 g1 g2) (said (Preset 2)))
-    × ((n : ℕ) (rest : List ℕ) → n < 3 → call (dct8 3 map (n ∷ rest) symbols log g0 g1 g2) ≡ outcome (readingWith (dct8 3 map (n ∷ rest) symbols log g0 g1 g2) n))
+    × ((n : ℕ) (rest : List ℕ) → n < 3 → call (dct8 3 map (n ∷ rest) symbols log g0 g1 g2) ≡ outcomeOf (readingWith (dct8 3 map (n ∷ rest) symbols log g0 g1 g2) n))
 
 -- M11 one Dct8, default contexts, symbols 2, 3, 0, 4, 0, 0: in channel 1 (0,1) gains −2, (2,0) gains 2; contexts (places in the preset's
 -- stretch, whose bytes are logged) 300, 618, 558, 559, 307, 307. Whatever map, log and grids held; cell (x, y) is 8 y + x.

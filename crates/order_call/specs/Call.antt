@@ -25,12 +25,12 @@ pub record Outcome : Type 0 where
   pub answer : Answer ℕ
   pub store : List ℕ
 
-abbrev pub leaves : Answer ℕ → List ℕ → Outcome
-leaves a s = record { answer = a; store = s }
+abbrev pub outcome : Answer ℕ → List ℕ → Outcome
+outcome a s = record { answer = a; store = s }
 
 -- what the code answers and leaves
-abbrev pub outcome : OrdersAnswer → List ℕ → Outcome
-outcome a s = leaves (answered a) s
+abbrev pub leaves : OrdersAnswer → List ℕ → Outcome
+leaves a s = outcome (answered a) s
 
 -- U32(95, 19, 0, 13 bits)
 abbrev pub usedOrders : List ℕ → Read ℕ
@@ -38,20 +38,20 @@ usedOrders bytes = readU32 bytes 0 (Constant 95) (Constant 19) (Constant 0) (Off
 
 -- the symbols read and the 39 lists; or the refusal, and the whole store zero
 abbrev pub outcomeOf : FromSymbols (List (List Place)) → Outcome
-outcomeOf (Given ls us at) = leaves (gives at) (stored ls)
-outcomeOf (Refused why) = leaves (refuses (said why)) (replicate (2 * PLACES) 0)
+outcomeOf (Given ls us at) = outcome (gives at) (stored ls)
+outcomeOf (Refused why) = outcome (refuses (said why)) (replicate (2 * PLACES) 0)
 
 -- bits that end leave the store as it was
 abbrev pub read : Read ℕ → List ℕ → List ℕ → Outcome
 read (Value used at) symbols store = outcomeOf (orders used symbols)
-read (Ended at) symbols store = leaves (refuses (said (BitsEnd at))) store
+read (Ended at) symbols store = outcome (refuses (said (BitsEnd at))) store
 
 -- before work, a store of another length is refused
 abbrev pub beforeWork : List ℕ → Answer Unit
 beforeWork store = unless 1 (eqb (length store) (2 * PLACES)) passed
 
 unfoldable pub parsed : List ℕ → List ℕ → List ℕ → Outcome
-parsed bytes symbols store = answeredBy (beforeWork store) (λ (s : Said). leaves (refuses s) store) (λ (u : Unit). read (usedOrders bytes) symbols store)
+parsed bytes symbols store = answeredBy (beforeWork store) (λ (s : Said). outcome (refuses s) store) (λ (u : Unit). read (usedOrders bytes) symbols store)
 
 -- a store that an accepted order call wrote, with whatever bits, symbols and earlier contents
 pub record Wrote (store : List ℕ) : Type 0 where
@@ -59,7 +59,7 @@ pub record Wrote (store : List ℕ) : Type 0 where
   pub symbols : List ℕ
   pub earlier : List ℕ
   pub count : ℕ
-  pub call : parsed bytes symbols earlier ≡ leaves (gives count) store
+  pub call : parsed bytes symbols earlier ≡ outcome (gives count) store
 
 -- where the call's 13 stands (document 01, Refused): at the symbols read, the refused length or digit included, so never at 0, 0, where 13 of a
 -- stored place stands: behind at least one symbol, and not behind more than there are

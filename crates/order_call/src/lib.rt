@@ -19,7 +19,7 @@ ghost use Rattle.order_natural.specs.Order.{Size};
 ghost use Rattle.order_store.specs.Store.{stored, from};
 ghost use Rattle.order_naturals.specs.Naturals.{naturals};
 ghost use Rattle.order_call.specs.Orders.{isUsed, byDigits, entryList, orders};
-ghost use Rattle.order_call.specs.Call.{outcome, usedOrders, outcomeOf, parsed};
+ghost use Rattle.order_call.specs.Call.{leaves, usedOrders, outcomeOf, parsed};
 ghost use Rattle.order_call.specs.laws.Lists.{Listed, isRefused, countOf};
 ghost use Rattle.order_call.specs.laws.Progress.{Progress, AfterList};
 
@@ -145,7 +145,7 @@ fn read_at(store: &mut [u16], start: usize, i: usize, used: u32, symbols: &[u32]
 // The 39 lists of a store of natural orders.
 fn read_lists(store: &mut [u16], used: u32, symbols: &[u32]) -> OrdersAnswer
     requires { ⌜ (length (now store) ≡ 787968) × (now store ≡ stored (naturals BLOCK-SIZES)) ⌝ }
-    ensures { λ r. ⌜ outcome r (now (store .exit)) ≡ outcomeOf (orders used (now (symbols .entry))) ⌝ }
+    ensures { λ r. ⌜ leaves r (now (store .exit)) ≡ outcomeOf (orders used (now (symbols .entry))) ⌝ }
 {
     let mut start = 0;
     let mut at = 0;
@@ -167,7 +167,7 @@ fn read_lists(store: &mut [u16], used: u32, symbols: &[u32]) -> OrdersAnswer
 // The orders of a pass, into a store of the right length.
 fn read_orders(store: &mut [u16], used: u32, symbols: &[u32]) -> OrdersAnswer
     requires { ⌜ length (now store) ≡ 787968 ⌝ }
-    ensures { λ r. ⌜ outcome r (now (store .exit)) ≡ outcomeOf (orders used (now (symbols .entry))) ⌝ }
+    ensures { λ r. ⌜ leaves r (now (store .exit)) ≡ outcomeOf (orders used (now (symbols .entry))) ⌝ }
 {
     fill_natural_orders(&mut store[..]);
     read_lists(&mut store[..], used, symbols)
@@ -195,7 +195,7 @@ fn used_orders(bytes: &[u8]) -> Got
 
 // The orders of a pass: the symbols read and the whole store, or a refusal.
 pub fn parse(bytes: &[u8], symbols: &[u32], store: &mut [u16]) -> OrdersAnswer
-    ensures { λ r. ⌜ outcome r (now (store .exit)) ≡ parsed (now (bytes .entry)) (now (symbols .entry)) (now (store .entry)) ⌝ }
+    ensures { λ r. ⌜ leaves r (now (store .exit)) ≡ parsed (now (bytes .entry)) (now (symbols .entry)) (now (store .entry)) ⌝ }
 {
     if store.len() != NUMBERS {
         return OrdersAnswer::Refused(Refusal::Length);

@@ -14,7 +14,7 @@ use Rattle.bits.specs.Bits.{Value, Ended}
 use Rattle.coeff_checks.specs.Checks.{blocks}
 use Rattle.coeff_checks.specs.laws.ChecksLaws as checks
 use Rattle.coeff_group.specs.Group.{PerChannel}
-use Rattle.coeff_call.specs.Call.{Lent, lengthsFit, beforeWork, Passed, presetBits, reading, outcome, refuse, call}
+use Rattle.coeff_call.specs.Call.{Lent, lengthsFit, beforeWork, Passed, presetBits, reading, outcomeOf, refuse, call}
 
 module _ (L : Lent) where
   pub checks-pass : Passed L → beforeWork L ≡ passed
@@ -48,7 +48,7 @@ module _ (L : Lent) where
     call-preset preset at g h = rw (p, g, le-ltb preset (L .presets) h)
 
     -- the group is read
-    pub call-reads : (preset at : ℕ) → presetBits L ≡ Value preset at → preset < L .presets → call L ≡ outcome (reading L preset)
+    pub call-reads : (preset at : ℕ) → presetBits L ≡ Value preset at → preset < L .presets → call L ≡ outcomeOf (reading L preset)
     unfolding call
     call-reads preset at g h = rw (p, g, lt-ltb preset (L .presets) h)
 

@@ -30,7 +30,7 @@ use Rattle.coeff_preset.specs.declared.PresetAnswer.the-variants as preset
 use Rattle.coeff_preset.specs.Preset.{presetOf}
 use Rattle.coeff_preset.specs.laws.PresetLaws as number
 use Rattle.coeff_checks.specs.laws.ChecksLaws.{sides-fit, parameters-fit, few-clusters}
-use Rattle.coeff_call.specs.Call.{Lent, beforeWork, Passed, reading, outcome, answered, leaves, refuse, presetBits, call}
+use Rattle.coeff_call.specs.Call.{Lent, beforeWork, Passed, reading, outcomeOf, answered, leaves, refuse, presetBits, call}
 use Rattle.coeff_call.specs.laws.CallLaws.{checks-pass, passed-by, lengths-fit, call-refused}
 
 -- what the checks answered
@@ -48,7 +48,7 @@ module _ (L : Lent) (p : Passed L) (r : PresetAnswer) (e : number.answered r ≡
   preset-refused why f = rw (checks-pass L p, sym e, f)
 
   module _ (n : ℕ) (f : r ≡ preset.Number n) where
-    call-read : outcome (reading L n) ≡ call L
+    call-read : outcomeOf (reading L n) ≡ call L
     unfolding call
     call-read = rw (checks-pass L p, sym e, f)
 
@@ -68,7 +68,7 @@ abbrev pub answerBy : WalkEnd → CoeffAnswer
 answerBy (walk.Done at) = Accepted at
 answerBy (walk.Stopped why) = Refused why
 
-outcome-by : (r : WalkEnd) (log : List ℕ) (G : PerChannel) (R : Reading) → GroupShown r log G R → record { answer = answered (answerBy r); log = log; grids = G } ≡ outcome R
+outcome-by : (r : WalkEnd) (log : List ℕ) (G : PerChannel) (R : Reading) → GroupShown r log G R → record { answer = answered (answerBy r); log = log; grids = G } ≡ outcomeOf R
 outcome-by r log G (going us at log₁ G₁ rows left) d = rw (d .answer, d .logged, d .cells)
 outcome-by r log G (refused why at log₁ G₁) d = rw (d .answer, d .logged, d .cells)
 

@@ -27,7 +27,7 @@ use Rattle.coeff_group.specs.Group.{Reading, going, readItem, readItems, zeroRo
 use Rattle.coeff_group.specs.laws.GroupLaws.{group-items}
 use Rattle.coeff_group.specs.Pass.{Pass, varblocks, itemOf, itemsOf}
 use Rattle.coeff_checks.specs.Checks.{layoutFits, sidesFit}
-use Rattle.coeff_call.specs.Call.{Outcome, leaves, lengthsFit, presetMap, reading, outcome, refuse, presetBits, call, Passed}
+use Rattle.coeff_call.specs.Call.{Outcome, leaves, lengthsFit, presetMap, reading, outcomeOf, refuse, presetBits, call, Passed}
 use Rattle.coeff_call.specs.laws.CallLaws.{checks-pass, call-preset, call-reads}
 use Rattle.coeff_call.specs.declared.CoeffAnswer.the-variants.{Accepted}
 use Rattle.one_to_one.specs.Plain.{store, plain}
@@ -90,13 +90,13 @@ no-bits bytes = rw (le-leb 0 (length (bitsOf bytes)) (omega arith))
 
 -- M9
 count-252 : (presetMap log g0 g1 g2 : List ℕ)
-    → outcome (readItems 0 15 presetMap (itemsOf square (varblocks square))
+    → outcomeOf (readItems 0 15 presetMap (itemsOf square (varblocks square))
     (going (252 ∷ (replicate 252 2 ++ (0 ∷ 0 ∷ []))) 0 log (g0 ∷ g1 ∷ g2 ∷ []) zeroRows 0)) .answer ≡ gives 255
 unfolding reading-computes
 count-252 presetMap log g0 g1 g2 = rw (order-2 0 (omega arith), order-2 1 (omega arith), order-2 2 (omega arith))
 
 count-253 : (presetMap us log g0 g1 g2 : List ℕ)
-    → outcome (readItems 0 15 presetMap (itemsOf square (varblocks square)) (going (253 ∷ us) 0 log (g0 ∷ g1 ∷ g2 ∷ []) zeroRows 0)) .answer
+    → outcomeOf (readItems 0 15 presetMap (itemsOf square (varblocks square)) (going (253 ∷ us) 0 log (g0 ∷ g1 ∷ g2 ∷ []) zeroRows 0)) .answer
     ≡ refuses (refusals.saidAt 16 1 0)
 unfolding itemsOf itemOf cornersRow cornersFrom wide high TRANSFORMS readItems readItem counted
 count-253 presetMap us log g0 g1 g2 = refl
@@ -108,7 +108,7 @@ clusters presetMap =
     getD presetMap 300 0 ∷ getD part 63 0 ∷ getD part 3 0 ∷ getD part 4 0 ∷ getD presetMap 307 0 ∷ getD presetMap 307 0 ∷ []
 
 dct8-reads : (presetMap log g0 g1 g2 : List ℕ)
-    → outcome (readItems 0 15 presetMap (itemsOf block (varblocks block)) (going (2 ∷ 3 ∷ 0 ∷ 4 ∷ 0 ∷ 0 ∷ []) 0 log (g0 ∷ g1 ∷ g2 ∷ []) zeroRows 0))
+    → outcomeOf (readItems 0 15 presetMap (itemsOf block (varblocks block)) (going (2 ∷ 3 ∷ 0 ∷ 4 ∷ 0 ∷ 0 ∷ []) 0 log (g0 ∷ g1 ∷ g2 ∷ []) zeroRows 0))
     ≡ leaves (Accepted 6) (sets log 0 (clusters presetMap)) g0 (gains (gains g1 8 (2 ^ 32 - 2)) 2 2) g2
 unfolding reading-computes
 dct8-reads presetMap log g0 g1 g2 = rw (order-0 0 (omega arith), order-0 1 (omega arith), order-0 2 (omega arith))
@@ -136,13 +136,13 @@ module _ (map log g0 g1 g2 : List ℕ) (room : Room 1 4 map log g0 g1 g2) where
       )
 
   dct16-call : (symbols : List ℕ) → call (dct16 map symbols log g0 g1 g2)
-      ≡ outcome (readItems 0 15 map (itemsOf square (varblocks square)) (going symbols 0 log (g0 ∷ g1 ∷ g2 ∷ []) zeroRows 0))
+      ≡ outcomeOf (readItems 0 15 map (itemsOf square (varblocks square)) (going symbols 0 log (g0 ∷ g1 ∷ g2 ∷ []) zeroRows 0))
   unfolding reading contextsOf
   dct16-call symbols =
       let start : Reading = going symbols 0 log (g0 ∷ g1 ∷ g2 ∷ []) zeroRows 0 in
       let L = dct16 map symbols log g0 g1 g2 in
       call-reads L (checks-pass L (record { sides = sided .1; parameters = refl; contexts = defaults-fit; lengths = dct16-lengths symbols; layout = square-laid; places = store-fits })) 0 0 (no-bits []) (omega arith)
-      ∙ ap outcome (group-items 0 15 (presetMap L 0) square (varblocks square) start
+      ∙ ap outcomeOf (group-items 0 15 (presetMap L 0) square (varblocks square) start
       ∙ ap (λ (m : List ℕ). readItems 0 15 m (itemsOf square (varblocks square)) start) (whole 7425 map (room .entries)))
 
   -- count 252 passes: accepted, with as many symbols that are not 0
@@ -155,14 +155,14 @@ module _ (map log g0 g1 g2 : List ℕ) (room : Room 1 4 map log g0 g1 g2) where
 
 module _ (map log g0 g1 g2 : List ℕ) (room : Room 1 1 map log g0 g1 g2) where
   dct8-call : (symbols : List ℕ) → call (dct8 1 map [] symbols log g0 g1 g2)
-      ≡ outcome (readItems 0 15 map (itemsOf block (varblocks block)) (going symbols 0 log (g0 ∷ g1 ∷ g2 ∷ []) zeroRows 0))
+      ≡ outcomeOf (readItems 0 15 map (itemsOf block (varblocks block)) (going symbols 0 log (g0 ∷ g1 ∷ g2 ∷ []) zeroRows 0))
   unfolding reading contextsOf
   dct8-call symbols =
       let start : Reading = going symbols 0 log (g0 ∷ g1 ∷ g2 ∷ []) zeroRows 0 in
       let L = dct8 1 map [] symbols log g0 g1 g2 in
       let p = dct8-passed 1 (omega arith) map [] symbols log g0 g1 g2 (room .entries) (room .bytes) (room .cells0) (room .cells1) (room .cells2) in
       call-reads L (checks-pass L p) 0 0 (no-bits []) (omega arith)
-      ∙ ap outcome (group-items 0 15 (presetMap L 0) block (varblocks block) start
+      ∙ ap outcomeOf (group-items 0 15 (presetMap L 0) block (varblocks block) start
       ∙ ap (λ (m : List ℕ). readItems 0 15 m (itemsOf block (varblocks block)) start) (whole 7425 map (room .entries)))
 
   -- the six symbols: what is gained, and the bytes that are logged
@@ -198,7 +198,7 @@ module _ (map symbols log g0 g1 g2 : List ℕ) (room : Room 3 1 map log g0 g1 g2
       call-preset (dct8 3 map (3 ∷ rest) symbols log g0 g1 g2) (checks-pass (dct8 3 map (3 ∷ rest) symbols log g0 g1 g2) p) 3 2 (two-bits 3 rest) (omega arith)
 
   -- 0, 1 and 2 are read with
-  pub takes-others : (n : ℕ) (rest : List ℕ) → n < 3 → call (dct8 3 map (n ∷ rest) symbols log g0 g1 g2) ≡ outcome (reading (dct8 3 map (n ∷ rest) symbols log g0 g1 g2) n)
+  pub takes-others : (n : ℕ) (rest : List ℕ) → n < 3 → call (dct8 3 map (n ∷ rest) symbols log g0 g1 g2) ≡ outcomeOf (reading (dct8 3 map (n ∷ rest) symbols log g0 g1 g2) n)
   takes-others n rest h =
       let p = passed (n ∷ rest) in
       let e : n % 4 ≡ n = omega arith in

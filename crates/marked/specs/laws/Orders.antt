@@ -14,7 +14,7 @@ use Rattle.order_store.specs.Store.{PLACES, stored, stretch}
 use Rattle.order_naturals.specs.Naturals.{naturals}
 use Rattle.order_call.specs.declared.OrdersAnswer.the-variants.{Accepted}
 use Rattle.order_call.specs.Orders.{Given, digits, oneList, orders}
-use Rattle.order_call.specs.Call.{Outcome, outcome, parsed}
+use Rattle.order_call.specs.Call.{Outcome, leaves, parsed}
 use Rattle.order_call.specs.laws.Stretch.{stretch-list}
 
 -- the lists of order 0 alone used, channel 0 with length 1 and digit 1, channels 1 and 2 with length 0
@@ -27,7 +27,7 @@ unfolding orders oneList digits BLOCK-SIZES
 lists-read = refl
 
 -- bits 1, 1: a field of 13 bits; its lowest bit: order 0
-digit-call : (earlier : List ℕ) → length earlier ≡ 2 * PLACES → parsed (7 ∷ 0 ∷ []) (1 ∷ 1 ∷ 0 ∷ 0 ∷ []) earlier ≡ outcome (Accepted 4) (stored lists)
+digit-call : (earlier : List ℕ) → length earlier ≡ 2 * PLACES → parsed (7 ∷ 0 ∷ []) (1 ∷ 1 ∷ 0 ∷ 0 ∷ []) earlier ≡ leaves (Accepted 4) (stored lists)
 unfolding parsed readU32 readBits bitsOf valueOf
 digit-call earlier e = rw (eq-eqb (length earlier) (2 * PLACES) e, lists-read)
 

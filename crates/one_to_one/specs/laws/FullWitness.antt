@@ -55,7 +55,7 @@ unfolding store
 list-of k c h l = stretch-list 1 digitSymbols lists [] 6 lists-read k c h l
 
 -- bits 1, 1: a field of 13 bits; its lowest bit: order 0
-order-call : order.parsed (7 ∷ 0 ∷ []) digitSymbols (replicate (2 * PLACES) 0) ≡ order.outcome (orderAnswer.Accepted 6) store
+order-call : order.parsed (7 ∷ 0 ∷ []) digitSymbols (replicate (2 * PLACES) 0) ≡ order.leaves (orderAnswer.Accepted 6) store
 unfolding bits-compute order.parsed store
 order-call = rw (eq-eqb (length (replicate {A = ℕ} (2 * PLACES) 0)) (2 * PLACES) (length-replicate (2 * PLACES) 0), lists-read)
 

@@ -10,7 +10,7 @@ use lib.Seq.{sets, set-out, getD-set-same, getD-set-other}
 use Rattle.layout.specs.laws.Theorems.{layout-iff}
 use Rattle.coeff_group.specs.Group.{PerChannel}
 use Rattle.coeff_group.specs.Pass.{Pass, varblocks, itemsOf}
-use Rattle.coeff_call.specs.Call.{Lent, Outcome, outcome, call}
+use Rattle.coeff_call.specs.Call.{Lent, Outcome, outcomeOf, call}
 use Rattle.coeff_call.specs.laws.CallLaws.{lengths-fit}
 use Rattle.one_to_one.specs.Filling.{gridCells, put, ReadAt, LaidOut, Low, LowKept, Fixed, Filling}
 use Rattle.coeff_group.specs.laws.Cells.{set-below, adds, adds-off, put-cell, put-shape}
@@ -31,7 +31,7 @@ module _ (L : Lent) (orders : Wrote (L .pass .store)) where
       let lay : LaidOut P = layout-iff (P .bw) (P .bh) (P .kinds) (P .hfMul) (k .kinds) (k .hfMul) .0 (passed .layout) in
       let d = did L preset in
       let G = adds (L .shift) (L .grids) (readCells (itemsOf P (varblocks P))) (joined (d .dss)) in
-      ap (λ (o : Outcome). cell (o .grids) c p) (e (L .symbols) (L .log) refl ∙ ap outcome (d .is (L .log)) ∙ outcome-by (d .end) (length (d .clusters)) (sets (L .log) 0 (d .clusters)) G)
+      ap (λ (o : Outcome). cell (o .grids) c p) (e (L .symbols) (L .log) refl ∙ ap outcomeOf (d .is (L .log)) ∙ outcome-by (d .end) (length (d .clusters)) (sets (L .log) 0 (d .clusters)) G)
       ∙ adds-off (L .shift) (L .grids) (readCells (itemsOf P (varblocks P))) (joined (d .dss)) (c, p) (low-not-held P lay (wrote-ordered P orders) c p l)
 
   pub low-kept : LowKept (L .pass) (L .grids) (call L .grids)

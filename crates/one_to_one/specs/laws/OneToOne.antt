@@ -12,7 +12,7 @@ use Rattle.coeff_walk.specs.Walk.{less}
 use Rattle.coeff_walk.specs.Item.{Item}
 use Rattle.refusal.specs.Answer.{gives}
 use Rattle.coeff_group.specs.Group.{leftOf, PerChannel, Reading, going, refused, readItems}
-use Rattle.coeff_call.specs.Call.{outcome}
+use Rattle.coeff_call.specs.Call.{outcomeOf}
 use Rattle.coeff_walk.specs.laws.Walks.{nonZeros-le}
 use Rattle.coeff_group.specs.laws.Cells.{Distinct, Shape, same-shape, adds, adds-shape, adds-off, Fit, change, only-symbols, symbols-turn, In}
 use Rattle.coeff_group.specs.laws.Reads as run
@@ -22,9 +22,9 @@ use Rattle.coeff_walk.specs.Sent.{Words, nonZeros, upTo}
 
 -- accepted, read to the last symbol, every count used up, these grids
 pub record Filled (r : Reading) (s : List ℕ) (W : PerChannel) : Type 0 where
-  pub accepted : outcome r .answer ≡ gives (length s)
+  pub accepted : outcomeOf r .answer ≡ gives (length s)
   pub used : leftOf r ≡ 0
-  pub grids : outcome r .grids ≡ W
+  pub grids : outcomeOf r .grids ≡ W
 
 -- what is held fixed, and a filling: each cell is read at, or kept
 pub record Group (its : List Item) (G W : PerChannel) : Type 0 where
@@ -127,9 +127,9 @@ module _ (clusters : ℕ) (presetMap : List ℕ) (its : List Item) (G W : PerCha
   exists =
       let r = run.read-sent clusters presetMap its dss (changes-long G W its) (group .sized) 0 0 log G rows 0 in
       record {
-        accepted = ap (λ (x : Reading). outcome x .answer) (r .is) ∙ ap gives (to-last (sent dss) (r .at′) (r .log′) (adds 0 G (readCells its) (joined dss)) (r .rows′) 0 (r .is));
+        accepted = ap (λ (x : Reading). outcomeOf x .answer) (r .is) ∙ ap gives (to-last (sent dss) (r .at′) (r .log′) (adds 0 G (readCells its) (joined dss)) (r .rows′) 0 (r .is));
         used = ap leftOf (r .is);
-        grids = ap (λ (x : Reading). outcome x .grids) (r .is) ∙ reached;
+        grids = ap (λ (x : Reading). outcomeOf x .grids) (r .is) ∙ reached;
       }
 
   pub unique : (s : List ℕ) → Words s → Filled (reading clusters presetMap its s log G rows) s W → s ≡ sent dss
@@ -138,16 +138,16 @@ module _ (clusters : ℕ) (presetMap : List ℕ) (its : List Item) (G W : PerCha
       go : (k : ℕ) (l : List ℕ) (ess : List (List ℕ)) (e : run.End) → Long its ess → reading clusters presetMap its s log G rows ≡ run.readBy e (0 + k) l (adds 0 G (readCells its) (joined ess))
           → run.Tells s 0 k ess e → s ≡ sent dss
       go k l ess (run.ends us rows₁ left) long e t =
-          let a : gives (0 + k) ≡ gives (length s) = sym (ap (λ (x : Reading). outcome x .answer) e) ∙ f .accepted in
+          let a : gives (0 + k) ≡ gives (length s) = sym (ap (λ (x : Reading). outcomeOf x .answer) e) ∙ f .accepted in
           let b : 0 + k ≡ length s = cc in
-          let g : adds 0 G (readCells its) (joined ess) ≡ W = sym (ap (λ (x : Reading). outcome x .grids) e) ∙ f .grids in
+          let g : adds 0 G (readCells its) (joined ess) ≡ W = sym (ap (λ (x : Reading). outcomeOf x .grids) e) ∙ f .grids in
           let d : ess ≡ dss =
           joined-only its ess dss long (changes-long G W its)
           (only-symbols G (readCells its) (joined ess) (group .distinct) (group .fit) (t .words h) (long-joined its ess long)
           ∙ ap (λ (X : PerChannel). map (change G X) (readCells its)) g ∙ sym (changes-joined G W its)) in
           t .used (sym (ap leftOf e) ∙ f .used) ∙ rw (none us (omega (arith, t .read)), d) (append-nil (sent dss))
       go k l ess (run.stops why) long e t =
-          let a = sym (ap (λ (x : Reading). outcome x .answer) e) ∙ f .accepted in
+          let a = sym (ap (λ (x : Reading). outcomeOf x .answer) e) ∙ f .accepted in
           let z : _≡_ {A = ℕ} 0 1 = cc in absurd (omega arith)
 
   pub one-to-one : (s : List ℕ) → Words s → Filled (reading clusters presetMap its s log G rows) s W ↔ (s ≡ sent dss)

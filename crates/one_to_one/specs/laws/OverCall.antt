@@ -18,7 +18,7 @@ use Rattle.coeff_group.specs.laws.GroupLaws.{group-items}
 use Rattle.coeff_group.specs.Pass.{Pass, varblocks, itemsOf}
 use Rattle.coeff_group.specs.Work.{clustersOf}
 use Rattle.coeff_checks.specs.Checks.{parametersFit}
-use Rattle.coeff_call.specs.Call.{Lent, Outcome, presetMap, reading, outcome, leftoverAt, leftover, call}
+use Rattle.coeff_call.specs.Call.{Lent, Outcome, presetMap, reading, outcomeOf, leftoverAt, leftover, call}
 use Rattle.coeff_call.specs.laws.CallLaws.{checks-pass, grids-fit, call-reads}
 use Rattle.one_to_one.specs.Filling.{Sized, Fixed, Filling, withSymbols, Fills, Fails, symbolsRead, refused, unread, leftOver, otherGrids}
 use Rattle.coeff_group.specs.laws.Cells.{Shape}
@@ -50,7 +50,7 @@ module _ (L : Lent) (fixed : Fixed L) where
   }
 
   -- the call reads the group
-  group-read : (s : List ℕ) → call (withSymbols L s) ≡ outcome (reading (withSymbols L s) (fixed .rest .preset))
+  group-read : (s : List ℕ) → call (withSymbols L s) ≡ outcomeOf (reading (withSymbols L s) (fixed .rest .preset))
   group-read s =
       call-reads (withSymbols L s) (checks-pass (withSymbols L s) (record {
         sides = fixed .sides;
@@ -92,8 +92,8 @@ module _ (L : Lent) (fixed : Fixed L) where
     pub same : (s : List ℕ) → Fills L s W ↔ over.Filled (readingOf s) s W
     same s = (to, from)
       where
-        e : call (withSymbols L s) ≡ outcome (readingOf s)
-        e = group-read s ∙ ap outcome (same-reading s)
+        e : call (withSymbols L s) ≡ outcomeOf (readingOf s)
+        e = group-read s ∙ ap outcomeOf (same-reading s)
 
         left : leftover (withSymbols L s) ≡ leftOf (readingOf s)
         left = ap (leftoverAt (withSymbols L s)) (fixed .rest .readWhole) ∙ ap leftOf (same-reading s)

@@ -54,7 +54,7 @@ pub order-2 : (c : ℕ) → c < 3 → stretch store 2 c ≡ flat (natural 16 16)
 order-2 c l = list-of 2 c (omega arith) l ∙ ap flat (list-2 c l)
 
 -- used orders 0 is two bits, 0 and 1
-unused-call : order.parsed (2 ∷ []) [] (replicate (2 * PLACES) 0) ≡ order.outcome (orderAnswer.Accepted 0) store
+unused-call : order.parsed (2 ∷ []) [] (replicate (2 * PLACES) 0) ≡ order.leaves (orderAnswer.Accepted 0) store
 unfolding order.parsed readU32 readBits bitsOf valueOf store
 unused-call = rw (eq-eqb (length (replicate {A = ℕ} (2 * PLACES) 0)) (2 * PLACES) (length-replicate (2 * PLACES) 0), orders-unused [])
 

@@ -14,7 +14,7 @@ use Rattle.layout.specs.laws.Theorems.{layout-iff}
 use Rattle.refusal.specs.Answer.{Answer, refuses}
 use Rattle.coeff_group.specs.Pass.{varblocks, itemsOf}
 use Rattle.coeff_checks.specs.Checks.{blocks}
-use Rattle.coeff_call.specs.Call.{Lent, Outcome, reading, outcome, refuse, call, Passed}
+use Rattle.coeff_call.specs.Call.{Lent, Outcome, reading, outcomeOf, refuse, call, Passed}
 use Rattle.coeff_call.specs.laws.CallLaws.{lengths-fit}
 use Rattle.coeff_group.specs.laws.Symbols.{most-symbols}
 use Rattle.one_to_one.specs.Filling.{relent, withLog, told, symbolsRead}
@@ -81,7 +81,7 @@ last-by (stops why) us k dss (tooManyZeros w h) n e =
     let z : _≡_ {A = ℕ} 17 15 = number-of (said (TooManyZeros k)) (refusals.saidAt 15 n 0) a in
     absurd (omega arith)
 
-by-reading : (L : Lent) → Passed L → (preset : ℕ) → ((symbols log : List ℕ) → length log ≡ length (L .log) → call (relent L symbols log) ≡ outcome (reading (relent L symbols log) preset)) → Tied L
+by-reading : (L : Lent) → Passed L → (preset : ℕ) → ((symbols log : List ℕ) → length log ≡ length (L .log) → call (relent L symbols log) ≡ outcomeOf (reading (relent L symbols log) preset)) → Tied L
 by-reading L passed preset e =
     let P = L .pass in
     let l = lengths-fit L (passed .lengths) in
@@ -92,7 +92,7 @@ by-reading L passed preset e =
     omega (arith, d .few, most-symbols P (l .store) (layout-iff (P .bw) (P .bh) (P .kinds) (P .hfMul) (l .kinds) (l .hfMul) .0 (passed .layout))) in
     let room : length ks ≤ length (L .log) = omega (arith, l .room) in
     let start : (log : List ℕ) → length log ≡ length (L .log) → call (withLog L log) ≡ record { answer = answerBy (d .end) (length ks); log = sets log 0 ks; grids = G } =
-    λ log k. e (L .symbols) log k ∙ ap outcome (d .is log) ∙ outcome-by (d .end) (length ks) (sets log 0 ks) G in
+    λ log k. e (L .symbols) log k ∙ ap outcomeOf (d .is log) ∙ outcome-by (d .end) (length ks) (sets log 0 ks) G in
     let a : call L .answer ≡ answerBy (d .end) (length ks) = ap (λ (o : Outcome). o .answer) (start (L .log) refl) in
     let g : call L .grids ≡ G = ap (λ (o : Outcome). o .grids) (start (L .log) refl) in
     record {

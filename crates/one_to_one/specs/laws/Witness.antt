@@ -18,7 +18,7 @@ use Rattle.refusal.specs.Answer.{gives}
 use Rattle.coeff_group.specs.Group.{PerChannel, Reading, going, leftOf, readItems, zeroRows}
 use Rattle.coeff_group.specs.laws.GroupLaws.{group-items}
 use Rattle.coeff_group.specs.Pass.{varblocks, itemsOf}
-use Rattle.coeff_call.specs.Call.{Lent, Outcome, lengthsFit, presetBits, presetMap, reading, outcome as outcomeOf, leftoverAt, leftover, call}
+use Rattle.coeff_call.specs.Call.{Lent, Outcome, lengthsFit, presetBits, presetMap, reading, outcomeOf, leftoverAt, leftover, call}
 use Rattle.coeff_call.specs.laws.CallLaws.{checks-pass, call-reads}
 use Rattle.order_call.specs.laws.Wrote.{wrote-fits}
 use Rattle.lent_check.specs.Group.{groupOf}

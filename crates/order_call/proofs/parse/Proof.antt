@@ -1,5 +1,5 @@
 use borrow.Author.Needs.{needs}
-use Rattle.order_call.specs.Call.{outcome}
+use Rattle.order_call.specs.Call.{leaves}
 use Rattle.order_call.specs.laws.Parsing.{other-length, bits-end, lists-read}
 use Rattle.order_call.proofs.parse.Statement.{statement}
 use Rattle.order_call.proofs.parse.Tie as tie
@@ -19,7 +19,7 @@ returns-3 c =
     let g = c .before .before .before .before .before .before .before .used-orders in
     let q = c .before .before .before .before .before .got2 .given in
     let r = c .before .before .read-orders in
-    lists-read (a .bytes .now) (a .symbols .now) (a .store .now) (c .before .before .before .before .before .before .before .before .if1 .left) (g .result) (g .ensures) (q .0 .0) (q .0 .1 .0) (outcome (r .result) (r .last .0)) (q .1) (r .ensures)
+    lists-read (a .bytes .now) (a .symbols .now) (a .store .now) (c .before .before .before .before .before .before .before .before .if1 .left) (g .result) (g .ensures) (q .0 .0) (q .0 .1 .0) (leaves (r .result) (r .last .0)) (q .1) (r .ensures)
 
 pub parse-spec : {M : Type 1} → statement M
 parse-spec =

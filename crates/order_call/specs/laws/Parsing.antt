@@ -16,10 +16,10 @@ use Rattle.order_store.specs.Store.{PLACES}
 use Rattle.order_store.specs.laws.Offsets.{places-by}
 use Rattle.order_call.specs.declared.OrdersAnswer.the-variants as answer
 use Rattle.order_call.specs.Orders.{orders}
-use Rattle.order_call.specs.Call.{Outcome, outcome, usedOrders, outcomeOf, read, parsed}
+use Rattle.order_call.specs.Call.{Outcome, leaves, usedOrders, outcomeOf, read, parsed}
 
 module _ (bytes symbols store : List ℕ) where
-  pub other-length : (length store ≡ 787968 → ⊥) → outcome (answer.Refused refusal.Length) store ≡ parsed bytes symbols store
+  pub other-length : (length store ≡ 787968 → ⊥) → leaves (answer.Refused refusal.Length) store ≡ parsed bytes symbols store
   unfolding parsed
   other-length n = rw (ne-eqb (length store) (2 * PLACES) (λ e. n (e ∙ places-by)))
 
@@ -29,11 +29,11 @@ module _ (bytes symbols store : List ℕ) where
     read-on = rw (eq-eqb (length store) (2 * PLACES) (n ∙ sym places-by))
 
     module _ (g : Got) (eg : g ≡ gotOf 0 (usedOrders bytes)) where
-      pub bits-end : (taken : ℕ) → g ≡ got.End taken → outcome (answer.Refused (refusal.BitsEnd taken)) store ≡ parsed bytes symbols store
+      pub bits-end : (taken : ℕ) → g ≡ got.End taken → leaves (answer.Refused (refusal.BitsEnd taken)) store ≡ parsed bytes symbols store
       bits-end taken e =
           let w = was-end 0 (usedOrders bytes) taken (sym eg ∙ e) in
           let t : taken ≡ w .at = w .taken ∙ omega arith in
-          ap (λ (k : ℕ). outcome (answer.Refused (refusal.BitsEnd k)) store) t ∙ sym (read-on ∙ ap (λ (r : Read ℕ). read r symbols store) (w .is))
+          ap (λ (k : ℕ). leaves (answer.Refused (refusal.BitsEnd k)) store) t ∙ sym (read-on ∙ ap (λ (r : Read ℕ). read r symbols store) (w .is))
 
       pub lists-read : (used : ℕ) (q : BitPlace) (o : Outcome) → g ≡ got.Value used q → o ≡ outcomeOf (orders used symbols) → o ≡ parsed bytes symbols store
       lists-read used q o e f =

@@ -17,7 +17,7 @@ use Rattle.order_natural.specs.Places.{Place}
 use Rattle.order_store.specs.Store.{PLACES}
 use Rattle.order_call.specs.declared.OrdersAnswer.the-variants as answer
 use Rattle.order_call.specs.Orders.{FromSymbols, Given, Refused, orders, Stops}
-use Rattle.order_call.specs.Call.{leaves, usedOrders, outcomeOf, read, parsed, Reached}
+use Rattle.order_call.specs.Call.{outcome, usedOrders, outcomeOf, read, parsed, Reached}
 use Rattle.order_call.specs.laws.Accepted.{orders-refused}
 
 by-stop : (all : ℕ) (why : Refusal) → Stops 0 all why → said why .number ≡ 13 → Reached all (said why)
@@ -35,7 +35,7 @@ module _ (symbols : List ℕ) (why : Said) (n : why .number ≡ 13) where
   by-bits (Value used at) store f = by-orders used (orders used symbols) refl f
   by-bits (Ended at) store f = absurd (let q : said (refusal.BitsEnd at) ≡ why = cc in let z : _≡_ {A = ℕ} 3 13 = ap (λ (s : Said). s .number) q ∙ n in omega arith)
 
-  by-length : (b : Bool) (bytes store : List ℕ) → answeredBy (unless 1 b passed) (λ (s : Said). leaves (refuses s) store) (λ (u : Unit). read (usedOrders bytes) symbols store) .answer ≡ refuses why
+  by-length : (b : Bool) (bytes store : List ℕ) → answeredBy (unless 1 b passed) (λ (s : Said). outcome (refuses s) store) (λ (u : Unit). read (usedOrders bytes) symbols store) .answer ≡ refuses why
       → Reached (length symbols) why
   by-length true bytes store f = by-bits (usedOrders bytes) store f
   by-length false bytes store f = absurd (let q : said refusal.Length ≡ why = cc in let z : _≡_ {A = ℕ} 1 13 = ap (λ (s : Said). s .number) q ∙ n in omega arith)

@@ -25,7 +25,7 @@ use Rattle.order_naturals.specs.laws.Naturals.{whole-long}
 use Rattle.order_call.specs.declared.OrdersAnswer.{OrdersAnswer}
 use Rattle.order_call.specs.declared.OrdersAnswer.the-variants as answer
 use Rattle.order_call.specs.Orders.{FromSymbols, Given, Refused, andThen, Entry, entry, entryList, lists, plan, isUsed, orders, oneList, Stops}
-use Rattle.order_call.specs.Call.{outcome, outcomeOf}
+use Rattle.order_call.specs.Call.{leaves, outcomeOf}
 use Rattle.order_call.specs.laws.Read.{Holds, OneGiven, one-gives, holds-map, EntryGiven, entry-gives}
 use Rattle.order_call.specs.laws.Accepted.{plan-at, plan-length, given}
 use Rattle.order_call.specs.laws.Lists.{Listed, isRefused, countOf}
@@ -163,7 +163,7 @@ module _ (used : ℕ) (symbols store : List ℕ) (i e : ℕ) where
   after-read (answer.Refused why) a r = absurd (let z : _≡_ {A = ℕ} 0 1 = cc in omega arith)
 
   -- a refusal and a store of zeros
-  pub after-refused : (t : OrdersAnswer) (zeros : List ℕ) (n : ℕ) → AfterList used symbols store i e t → isRefused t ≡ true → zeros ≡ replicate n 0 → n ≡ 787968 → outcome t zeros ≡ outcomeOf (orders used symbols)
+  pub after-refused : (t : OrdersAnswer) (zeros : List ℕ) (n : ℕ) → AfterList used symbols store i e t → isRefused t ≡ true → zeros ≡ replicate n 0 → n ≡ 787968 → leaves t zeros ≡ outcomeOf (orders used symbols)
   after-refused (answer.Accepted k) zeros n a r z m = absurd (let x : _≡_ {A = ℕ} 0 1 = cc in omega arith)
   after-refused (answer.Refused why) zeros n a r z m = let m' : n ≡ 2 * PLACES = m ∙ sym places-by in rw (a, z, m')
 
@@ -248,7 +248,7 @@ module _ (used : ℕ) (symbols store : List ℕ) (i at : ℕ) (p : Progress used
   after-list u (answer.Accepted n) part next eu o w = (progress-turn n part next (rw eu at o) w, list-at .next)
   after-list u (answer.Refused why) part next eu o w = progress-stop why part (rw eu at o)
 
-pub progress-end : (used : ℕ) (symbols store : List ℕ) (i at : ℕ) → Progress used symbols store i at → 39 ≤ i → outcome (answer.Accepted at) store ≡ outcomeOf (orders used symbols)
+pub progress-end : (used : ℕ) (symbols store : List ℕ) (i at : ℕ) → Progress used symbols store i at → 39 ≤ i → leaves (answer.Accepted at) store ≡ outcomeOf (orders used symbols)
 progress-end used symbols store i at p h =
     let j : i ≡ 39 = omega (arith, p .fewer) in
     let z : drop i (plan used 0 BLOCK-SIZES) ≡ [] = let k : length (plan used 0 BLOCK-SIZES) ≤ i = omega (arith, plan-length used 0 BLOCK-SIZES, sizes-13) in drop-of-length-le (plan used 0 BLOCK-SIZES) k in

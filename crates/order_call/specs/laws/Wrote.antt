@@ -17,12 +17,12 @@ use Rattle.order_natural.specs.Order.{Order}
 use Rattle.order_store.specs.Store.{stored, stretch, placesFit, PLACES}
 use Rattle.order_call.specs.declared.OrdersAnswer.the-variants as answer
 use Rattle.order_call.specs.Orders.{FromSymbols, Given, Refused, orders}
-use Rattle.order_call.specs.Call.{Outcome, leaves, usedOrders, outcomeOf, read, beforeWork, parsed, Wrote}
+use Rattle.order_call.specs.Call.{Outcome, outcome, usedOrders, outcomeOf, read, beforeWork, parsed, Wrote}
 use Rattle.order_call.specs.laws.Accepted.{orders-accepted}
 use Rattle.order_call.specs.laws.Stretch.{stretch-list, accepted-fits}
 
 -- a refusal is no result
-never : (s : Said) (kept : List ℕ) (n : ℕ) (store : List ℕ) → leaves (refuses s) kept ≡ leaves (gives n) store → ⊥
+never : (s : Said) (kept : List ℕ) (n : ℕ) (store : List ℕ) → outcome (refuses s) kept ≡ outcome (gives n) store → ⊥
 never s kept n store e = let z : _≡_ {A = ℕ} 0 1 = cc (ap (λ (o : Outcome). o .answer) e) in omega arith
 
 -- the lists behind it
@@ -35,20 +35,20 @@ pub record Behind (store : List ℕ) : Type 0 where
   pub given : orders used symbols ≡ Given lists left count
   pub is : store ≡ stored lists
 
-of-orders : (used : ℕ) (symbols store : List ℕ) (n : ℕ) (r : FromSymbols (List (List Place))) → orders used symbols ≡ r → outcomeOf r ≡ leaves (gives n) store → Behind store
+of-orders : (used : ℕ) (symbols store : List ℕ) (n : ℕ) (r : FromSymbols (List (List Place))) → orders used symbols ≡ r → outcomeOf r ≡ outcome (gives n) store → Behind store
 of-orders used symbols store n (Given ls vs m) e w =
     let s : stored ls ≡ store = ap (λ (o : Outcome). o .store) w in
     record { used = used; symbols = symbols; lists = ls; left = vs; count = m; given = e; is = sym s }
 of-orders used symbols store n (Refused why) e w = absurd (never (said why) (replicate (2 * PLACES) 0) n store w)
 
-of-read : (b : Read ℕ) (symbols earlier store : List ℕ) (n : ℕ) → read b symbols earlier ≡ leaves (gives n) store → Behind store
+of-read : (b : Read ℕ) (symbols earlier store : List ℕ) (n : ℕ) → read b symbols earlier ≡ outcome (gives n) store → Behind store
 of-read (Value used at) symbols earlier store n e = of-orders used symbols store n (orders used symbols) refl e
 of-read (Ended at) symbols earlier store n e = absurd (never (said (BitsEnd at)) earlier n store e)
 
 pub behind : (store : List ℕ) → Wrote store → Behind store
 unfolding parsed
 behind store w =
-    let (u, a, e) = worked (beforeWork (w .earlier)) _ _ (leaves (gives (w .count)) store) (λ s f. never s (w .earlier) (w .count) store f) (w .call) in
+    let (u, a, e) = worked (beforeWork (w .earlier)) _ _ (outcome (gives (w .count)) store) (λ s f. never s (w .earlier) (w .count) store f) (w .call) in
     of-read (usedOrders (w .bytes)) (w .symbols) (w .earlier) store (w .count) e
 
 module _ (store : List ℕ) (w : Wrote store) where
