@@ -329,7 +329,9 @@ static inline size_t netbuff_context_map_length(uint32_t lf0, uint32_t lf1, uint
 
 /*
  * The transform of a number: its varblock's width and height in blocks, its order (0 to 12), and
- * whether x and y of a place of that order are swapped. Refused: 5 at 0, 0 for 27 and more.
+ * whether x and y of a place of that order are swapped: for Dct8, for larger squares and for
+ * varblocks higher than wide. (So Dct8 has its first coefficient at place (1, 0), in cell (0, 1).)
+ * Refused: 5 at 0, 0 for 27 and more.
  */
 uint32_t netbuff_transform(uint32_t number, size_t *wide, size_t *high, size_t *order, bool *turn,
                            size_t *x, size_t *y);
@@ -380,7 +382,7 @@ uint32_t netbuff_column_count(const uint8_t *bytes, size_t bytes_length, uint32_
  * each step rounded once. multiplier (quant_mul of the edge-preserving filter) and lookup (its
  * sharp_lut) are from -65,504 to 65,504, scale (global_scale of the quantizer) from 1 to 73,728.
  * With the filter off sigma is +0.0, and multiplier and sharpness numbers are not looked at;
- * lookup, scale and all lengths are checked still.
+ * lookup, scale and all lengths are checked still (zeros and a scale of 1 serve).
  *
  * Lengths that fit: bw * bh for sharpness, kinds, hf_mul and sigma. Filled, one element for each
  * block: kinds (NETBUFF_KIND_..), hf_mul (0 off corners), sigma.
@@ -463,6 +465,12 @@ uint32_t netbuff_block_context(const uint8_t *bytes, size_t bytes_length, uint32
  * 128x128, 128x64, 256x256, 256x128 (width x height). A place is two numbers of the store, x and y.
  * The first size / 64 places of a list are the low-frequency cells, which are not permuted.
  *
+ * The natural list of an order: its width / 8 x height / 8 low-frequency cells row by row; then the
+ * diagonals x + y = 0, 1, 2 .. of a square of its width, upwards in x where that sum is even and
+ * downwards where it is odd, without cells whose x and y are both below width / 8 and without rows
+ * that width / height does not divide, by which y is then divided. 8x8 begins with (0, 0), (1, 0),
+ * (0, 1), (0, 2), (1, 1), (2, 0), (3, 0); 16x8 with (0, 0), (1, 0), (0, 1), (2, 0), (3, 0), (1, 1).
+ *
  * Length that fits: NETBUFF_STORE_LENGTH. Refused: 1, 3 (the store stays as it was), 13, 15 (the
  * whole store is zero).
  */
@@ -487,11 +495,16 @@ bool netbuff_places_fit(const uint16_t *store, size_t store_length);
  * The coefficients of a pass group of bw x bh blocks (1 to 32 each way), all three channels at
  * full size: subsampled colour is not read. kinds and hf_mul are those of a cut, the record is one
  * of netbuff_block_context, the store one of netbuff_orders. Where lf_there is false the LF grids
- * are not looked at, else they hold the LF numbers of channels 0, 1, 2, one for each block.
+ * are not looked at (lend lists of none), else they hold the LF numbers of channels 0, 1, 2, one
+ * for each block.
  *
  * The bytes hold the preset number, as many bits as the exponent of the least power of two not
  * below presets: none for one preset. The cluster map has 495 * num_block_clusters bytes for each
- * preset.
+ * preset: first those of counts, entry n of block context b at n * num_block_clusters + b (n is the
+ * predicted count p, or 4 + p / 2 from 8 on, 36 at most); then those of coefficients, 458 for each
+ * block context, one block context behind the other. Which entry is a symbol's depends on the
+ * symbols before it, so the caller's entropy decoder makes the same walk (as write_hf_coeff of
+ * jxl-vardct does), and the log is there to be held against it.
  *
  * The symbols: corners row by row, and for each corner channel 1, then 0, then 2. A channel has a
  * count of its coefficients that are not 0; then, if that is not 0, one symbol for each place of
@@ -501,8 +514,7 @@ bool netbuff_places_fit(const uint16_t *store, size_t store_length);
  * py), or (py, px) where the transform turns, it is cell (8 * x + px, 8 * y + py), for the corner
  * (x, y). Low-frequency cells are never touched where the store is one that netbuff_orders wrote.
  * Surplus symbols and a count that is not used up are accepted. *symbols_read receives the symbols
- * read; log[i] receives the cluster that the cluster map names for symbol i, to be held against the
- * one by which the caller decoded it.
+ * read; log[i] receives the cluster that the cluster map names for symbol i.
  *
  * Lengths that fit: bw * bh for kinds, hf_mul and each LF grid that is there; NETBUFF_STORE_LENGTH
  * for the store; 495 * num_block_clusters * presets (0 to 256) for the cluster map; 64 * bw * bh

@@ -7,7 +7,7 @@ use mathlib.Core.List.{List, [], _∷_}
 use Prim.Native.Nat.{ℕ, zero, suc, _+_, _*_, _/_, _<_, _≤_}
 use lib.Dec.{leb}
 use lib.ListN.{length, getD, set}
-use Rattle.dct_select.specs.Transforms.{COUNT}
+use Rattle.dct_select.specs.Transforms.{COUNT, wide}
 use Rattle.layout.specs.Varblocks.{Varblock}
 use Rattle.context_record.specs.Record.{bsizeOf}
 use Rattle.coeff_walk.specs.Walk.{FREQ, NUM-NONZERO, coeffContext, flag, less, gain}
@@ -39,6 +39,8 @@ module _ (shift blocks : ℕ) (coeffMap : List ℕ) where
 pub record CornerInside (P : Pass) (v : Varblock) : Type 0 where
   -- a row of the transforms' table
   pub known : v .type < COUNT
+  -- of a row of counts, only as many numbers as the group is wide
+  pub rows : v .x + wide (v .type) ≤ P .bw
   -- the corner's LF numbers, if there are LF grids
   pub lf0 : P .lfThere ≡ true → v .y * P .bw + v .x < length (P .lf0)
   pub lf1 : P .lfThere ≡ true → v .y * P .bw + v .x < length (P .lf1)

@@ -149,6 +149,7 @@ module _ (L : Lent) (passed : Passed L) (preset : ℕ) (below : preset < L .pres
       let h : v .y * P .bw + v .x < P .bh * P .bw = place-lt (P .bw) (P .bh) (v .x) (v .y) (has lay v i .inX) (has lay v i .inY) in
       record {
         known = known lay v i;
+        rows = right lay v i;
         lf0 = λ there. omega (arith, k .lf there .0);
         lf1 = λ there. omega (arith, k .lf there .1);
         lf2 = λ there. omega (arith, k .lf there .2);
