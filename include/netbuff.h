@@ -319,10 +319,10 @@ static inline size_t netbuff_cluster_map_length(uint32_t num_block_clusters, uin
 }
 
 /* Bytes of the map that netbuff_block_context is lent, for lists of these lengths (0 to 15). */
-static inline size_t netbuff_context_map_length(uint32_t lf0, uint32_t lf1, uint32_t lf2,
-                                                uint32_t qf)
+static inline size_t netbuff_context_map_length(uint32_t lf0_length, uint32_t lf1_length,
+                                                uint32_t lf2_length, uint32_t qf_length)
 {
-    return (size_t)39 * (lf0 + 1) * (lf1 + 1) * (lf2 + 1) * (qf + 1);
+    return (size_t)39 * (lf0_length + 1) * (lf1_length + 1) * (lf2_length + 1) * (qf_length + 1);
 }
 
 /* ---- Transforms and bits ---- */

@@ -1,9 +1,9 @@
 // The varblocks of a group in turn: corners row by row.
 use crate::plan::plan_of;
-use crate::varblock::step_varblock;
+use crate::varblock::read_varblock;
 use coeff_walk::WalkEnd;
 use coeff_walk::walked::is_stopped;
-use coeff_walk::walked::symbols_read;
+use coeff_walk::walked::read_by;
 use context_record::HfBlockContext;
 use lent_check::Group;
 ghost use mathlib.Core.List.{[], _∷_};
@@ -64,7 +64,7 @@ pub(crate) fn read_group<'a>(
                 lf1,
                 lf2,
             );
-            let walk = step_varblock(
+            let walk = read_varblock(
                 plan,
                 group,
                 clusters,
@@ -82,7 +82,7 @@ pub(crate) fn read_group<'a>(
             if is_stopped(walk) {
                 return walk;
             }
-            at = symbols_read(walk);
+            at = read_by(walk);
             x += 1;
         }
         y += 1;

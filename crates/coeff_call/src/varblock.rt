@@ -1,7 +1,7 @@
 // One varblock of a group: read, and its counts over blocks put into the rows.
 use crate::rows::rewrite;
 use coeff_group::plan::Plan;
-use coeff_varblock::read_varblock;
+use coeff_varblock::read_planned;
 use coeff_walk::WalkEnd;
 use coeff_walk::walked::is_stopped;
 use lent_check::Group;
@@ -13,8 +13,8 @@ ghost use Rattle.coeff_group.specs.Group.{going, readItems};
 ghost use Rattle.coeff_group.specs.laws.Steps.{Shown};
 ghost use Rattle.coeff_group.specs.laws.Plans.{itemsBy, Planned};
 
-// `at` is how many symbols are read.
-pub(crate) fn step_varblock<'a>(
+// Reads a planned varblock and rewrites the rows by its counts. `at` is how many symbols are read.
+pub(crate) fn read_varblock<'a>(
     plan: Plan,
     group: Group,
     clusters: usize,
@@ -32,7 +32,7 @@ pub(crate) fn step_varblock<'a>(
     requires { ⌜ Planned plan group clusters (now «preset_map») (now store) shift × (at + 192 * 2 ^ (plan .shape .exponent) ≤ length (now log)) × (plan .shape .x + plan .shape .wide ≤ 32) × (length (now rows) ≡ 3) ⌝ }
     ensures { λ r. ⌜ (length (now (rows .exit)) ≡ 3) × ((left : ℕ) → Shown (now (symbols .entry)) (at + 192 * 2 ^ (plan .shape .exponent)) r (now (rows .exit)) (now (log .exit)) (now (g0 .exit) ∷ now (g1 .exit) ∷ now (g2 .exit) ∷ []) (readItems shift clusters (now («preset_map» .entry)) (itemsBy plan group (now (store .entry))) (going (drop at (now (symbols .entry))) at (now (log .entry)) (now (g0 .entry) ∷ now (g1 .entry) ∷ now (g2 .entry) ∷ []) (now (rows .entry)) left))) ⌝ }
 {
-    let read = read_varblock(
+    let read = read_planned(
         plan,
         group,
         clusters,

@@ -30,7 +30,7 @@ fn three_fit(a: usize, b: usize, c: usize, n: usize) -> bool
 }
 
 // LF grids are asked for their lengths only if there are any.
-fn lf_lengths_fit(there: bool, lf0: usize, lf1: usize, lf2: usize, n: usize) -> bool
+fn lf_fits(there: bool, lf0: usize, lf1: usize, lf2: usize, n: usize) -> bool
     ensures { λ r. ⌜ r ≡ lfLengthsFit there lf0 lf1 lf2 n ⌝ }
 {
     if !there {
@@ -40,7 +40,7 @@ fn lf_lengths_fit(there: bool, lf0: usize, lf1: usize, lf2: usize, n: usize) -> 
 }
 
 // Lengths of what is lent to be read, for n blocks.
-pub(crate) fn read_fit(
+pub(crate) fn pass_fits(
     kinds: usize,
     hf_mul: usize,
     there: bool,
@@ -58,7 +58,7 @@ pub(crate) fn read_fit(
     if hf_mul != n {
         return false;
     }
-    if !lf_lengths_fit(there, lf0, lf1, lf2, n) {
+    if !lf_fits(there, lf0, lf1, lf2, n) {
         return false;
     }
     store == NUMBERS
@@ -101,7 +101,7 @@ pub(crate) fn other_lengths_fit(
 }
 
 // The check of a group lets it pass.
-pub(crate) fn group_passes(group: Group, kinds: &[u8], hf_mul: &[u32]) -> bool
+pub(crate) fn layout_fits(group: Group, kinds: &[u8], hf_mul: &[u32]) -> bool
     ensures { λ r. ⌜ r ≡ groupPasses (group .bw) (group .bh) (now (kinds .entry)) (now («hf_mul» .entry)) ⌝ }
 {
     let checked = check_group(group, kinds, hf_mul);

@@ -1,8 +1,8 @@
 // What the coefficient call looks at before work: sides, parameters, contexts, lengths, layout and stored places.
-use crate::checks::group_passes;
+use crate::checks::layout_fits;
 use crate::checks::other_lengths_fit;
 use crate::checks::parameters_fit;
-use crate::checks::read_fit;
+use crate::checks::pass_fits;
 use context_record::HfBlockContext;
 use context_record::fit::is_fit;
 use lent_check::Group;
@@ -53,7 +53,7 @@ pub fn before_work<'a>(
     }
     let n = bh * bw;
     let clusters = contexts.num_block_clusters as usize;
-    let read = read_fit(
+    let read = pass_fits(
         kinds.len(),
         hf_mul.len(),
         lf_there,
@@ -76,7 +76,7 @@ pub fn before_work<'a>(
     ) {
         return Checked::Refused(Refusal::Length);
     }
-    if !group_passes(group, kinds, hf_mul) {
+    if !layout_fits(group, kinds, hf_mul) {
         return Checked::Refused(Refusal::Layout);
     }
     if !places_fit(store) {

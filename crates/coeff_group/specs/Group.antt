@@ -6,7 +6,7 @@ use Rattle.refusal.specs.declared.Refusal.{Refusal}
 use Rattle.layout.specs.Varblocks.{Varblock}
 use Rattle.coeff_walk.specs.Walk.{Walked, done, stopped}
 use Rattle.coeff_walk.specs.Item.{Item, newRow, counted}
-use Rattle.coeff_group.specs.Pass.{Pass, channels}
+use Rattle.coeff_group.specs.Pass.{Pass, channelItems}
 
 -- a list for each of the channels 0, 1, 2
 abbrev pub PerChannel : Type 0
@@ -40,7 +40,7 @@ module _ (shift clusters : ℕ) (presetMap : List ℕ) where
 
   module _ (P : Pass) where
     abbrev pub readVarblock : Varblock → Reading → Reading
-    readVarblock v r = readItems (channels P v) r
+    readVarblock v r = readItems (channelItems P v) r
 
     unfoldable pub readGroup : List Varblock → Reading → Reading
     readGroup [] r = r

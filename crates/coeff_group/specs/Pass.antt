@@ -53,13 +53,13 @@ abbrev pub blocksOf : Varblock → ℕ
 blocksOf v = wide (v .type) * high (v .type)
 
 -- the entry of the map of block contexts for the n-th channel walked, and the block context there
-abbrev pub contextEntry : Pass → Varblock → ℕ → ℕ
-contextEntry P v n =
+abbrev pub blockEntryOf : Pass → Varblock → ℕ → ℕ
+blockEntryOf P v n =
     blockEntry (inUse (P .contexts)) n (orderOf (v .type)) (v .hfMul) (P .lfThere)
     (blockAt (P .lf0) (P .bw) (v .x) (v .y)) (blockAt (P .lf1) (P .bw) (v .x) (v .y)) (blockAt (P .lf2) (P .bw) (v .x) (v .y))
 
-abbrev pub contextOf : Pass → Varblock → ℕ → ℕ
-contextOf P v n = getD (P .contexts .«block_ctx_map») (contextEntry P v n) 0
+abbrev pub blockContextOf : Pass → Varblock → ℕ → ℕ
+blockContextOf P v n = getD (P .contexts .«block_ctx_map») (blockEntryOf P v n) 0
 
 -- the cells that are read in channel c: those of its list's places, but for the first, which are the low-frequency cells
 abbrev pub cellsIn : Pass → Varblock → ℕ → List ℕ
@@ -75,14 +75,14 @@ itemOf P v n c = record {
   y = v .y;
   wide = wide (v .type);
   blocks = blocksOf v;
-  blockContext = contextOf P v n;
+  blockContext = blockContextOf P v n;
   cells = cellsIn P v c;
 }
 
 -- channels 1, 0, 2
-abbrev pub channels : Pass → Varblock → List Item
-channels P v = itemOf P v 0 1 ∷ itemOf P v 1 0 ∷ itemOf P v 2 2 ∷ []
+abbrev pub channelItems : Pass → Varblock → List Item
+channelItems P v = itemOf P v 0 1 ∷ itemOf P v 1 0 ∷ itemOf P v 2 2 ∷ []
 
 unfoldable pub itemsOf : Pass → List Varblock → List Item
 itemsOf P [] = []
-itemsOf P (v ∷ vs) = channels P v ++ itemsOf P vs
+itemsOf P (v ∷ vs) = channelItems P v ++ itemsOf P vs

@@ -13,8 +13,8 @@ abbrev pub GridCell : Type 0
 GridCell = ℕ × ℕ
 
 -- cell p of channel c
-abbrev pub cell : PerChannel → ℕ → ℕ → ℕ
-cell G c p = getD (getD G c []) p 0
+abbrev pub inCell : PerChannel → ℕ → ℕ → ℕ
+inCell G c p = getD (getD G c []) p 0
 
 -- the cells at which symbols are read, item by item
 unfoldable pub readCells : List Item → List GridCell
@@ -28,7 +28,7 @@ sent (ds ∷ dss) = nonZeros ds ∷ (upTo (nonZeros ds) ds ++ sent dss)
 
 -- the symbols that make W of the grids G at an item's cells
 abbrev pub changes : PerChannel → PerChannel → Item → List ℕ
-changes G W it = map (λ (p : ℕ). symbol (cell W (it .channel) p) (cell G (it .channel) p)) (it .cells)
+changes G W it = map (λ (p : ℕ). symbol (inCell W (it .channel) p) (inCell G (it .channel) p)) (it .cells)
 
 -- the sequence that makes W of the grids G of a group
 unfoldable pub theSequence : Pass → PerChannel → PerChannel → List ℕ

@@ -143,7 +143,7 @@ fn to_usize(x: u8) -> usize
 }
 
 // The entry by the count, when n more are not 0 after this one; 2 to the power `exponent` blocks.
-pub(crate) fn nonzeros_entry(nonzeros: &[u8; 63], exponent: usize, n: usize) -> usize
+pub(crate) fn nonzeros_at(nonzeros: &[u8; 63], exponent: usize, n: usize) -> usize
     requires { ⌜ (now nonzeros ≡ NUM-NONZERO) × (exponent ≤ 10) × (n < 63 * 2 ^ exponent) ⌝ }
     ensures { λ r. ⌜ (r ≡ getD NUM-NONZERO (n / 2 ^ exponent) 0) × (r ≤ 255) ⌝ }
 {
@@ -152,7 +152,7 @@ pub(crate) fn nonzeros_entry(nonzeros: &[u8; 63], exponent: usize, n: usize) -> 
 }
 
 // The entry by place i.
-pub(crate) fn frequency_entry(frequencies: &[u8; 63], exponent: usize, i: usize) -> usize
+pub(crate) fn frequency_at(frequencies: &[u8; 63], exponent: usize, i: usize) -> usize
     requires { ⌜ (now frequencies ≡ FREQ) × (exponent ≤ 10) × (i < 63 * 2 ^ exponent) ⌝ }
     ensures { λ r. ⌜ (r ≡ getD FREQ (i / 2 ^ exponent) 0) × (r ≤ 255) ⌝ }
 {
@@ -172,7 +172,7 @@ pub(crate) fn coeff_context(
     requires { ⌜ (now nonzeros ≡ NUM-NONZERO) × (now frequencies ≡ FREQ) × (exponent ≤ 10) × (n < 63 * 2 ^ exponent) × (i < 63 * 2 ^ exponent) × (prev ≤ 1) ⌝ }
     ensures { λ r. ⌜ r ≡ coeffContext (2 ^ exponent) n i prev ⌝ }
 {
-    let x = nonzeros_entry(nonzeros, exponent, n);
-    let y = frequency_entry(frequencies, exponent, i);
+    let x = nonzeros_at(nonzeros, exponent, n);
+    let y = frequency_at(frequencies, exponent, i);
     (x + y) * 2 + prev
 }

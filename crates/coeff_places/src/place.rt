@@ -12,7 +12,7 @@ fn to_usize(x: u16) -> usize
 }
 
 // The cell of place k.
-pub(crate) fn cell(list: &[u16], k: usize, spot: Spot) -> usize
+pub(crate) fn cell_of(list: &[u16], k: usize, spot: Spot) -> usize
     requires { ⌜ (k < length (now list) / 2) × (spot .width ≤ 256) × (spot .x ≤ 256) × (spot .y ≤ 256) ⌝ }
     ensures { λ r. ⌜ r ≡ getD (spotCells spot (now (list .entry))) k 0 ⌝ }
 {

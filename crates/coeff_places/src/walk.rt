@@ -1,8 +1,8 @@
 // The walk over the places of one channel of a varblock (`hf_coeff.rs`).
 use crate::context::coeff_context;
-use crate::context::frequency_entry;
-use crate::context::nonzeros_entry;
-use crate::place::cell;
+use crate::context::frequency_at;
+use crate::context::nonzeros_at;
+use crate::place::cell_of;
 use coded_numbers::unpack_signed;
 use coeff_walk::WalkEnd;
 use coeff_walk::spot::Spot;
@@ -11,7 +11,7 @@ ghost use mathlib.Core.Path.{_≡_};
 ghost use Prim.Native.Nat.{_+_, _-_, _/_, _*_, _%_, _^_, _≤_, _<_};
 ghost use lib.ListN.{length, getD, drop};
 ghost use Rattle.coeff_walk.specs.Walk.{FREQ, NUM-NONZERO, flag, gain, walk};
-ghost use Rattle.coeff_walk.specs.laws.Outcome.{Ready, WalkShown, spotCells};
+ghost use Rattle.coeff_walk.specs.laws.Outcome.{WalkReady, WalkShown, spotCells};
 ghost use Rattle.coeff_walk.specs.laws.Runs.{ZerosReady, Zeros};
 
 // x shifted, losing top bits.
@@ -35,7 +35,7 @@ fn gain_at(list: &[u16], k: usize, spot: Spot, u: u32, shift: u32, grid: &mut [u
     requires { ⌜ (k < length (now list) / 2) × (spot .width ≤ 256) × (spot .x ≤ 256) × (spot .y ≤ 256) × (shift ≤ 3) ⌝ }
     ensures { λ r. ⌜ now (grid .exit) ≡ gain shift (now (grid .entry)) (getD (spotCells spot (now (list .entry))) k 0) u ⌝ }
 {
-    let p = cell(list, k, spot);
+    let p = cell_of(list, k, spot);
     if grid.len() <= p {
         return;
     }
@@ -69,7 +69,7 @@ fn walk_dense(
     log: &mut [u8],
     grid: &mut [u32],
 ) -> WalkEnd
-    requires { ⌜ (now nonzeros ≡ NUM-NONZERO) × (now frequencies ≡ FREQ) × Ready spot (now list) start count «first_prev» (length (now «coeff_map»)) shift (length (now log)) ⌝ }
+    requires { ⌜ (now nonzeros ≡ NUM-NONZERO) × (now frequencies ≡ FREQ) × WalkReady spot (now list) start count «first_prev» (length (now «coeff_map»)) shift (length (now log)) ⌝ }
     ensures { λ r. ⌜ WalkShown r (now (log .exit)) (now (grid .exit)) (walk shift (2 ^ (spot .exponent)) (now («coeff_map» .entry)) (spotCells spot (now (list .entry))) 0 «first_prev» count (drop start (now (symbols .entry))) start (now (log .entry)) (now (grid .entry))) ⌝ }
 {
     let mut at = start;
@@ -99,20 +99,20 @@ fn walk_dense(
     WalkEnd::Done(at)
 }
 
-// Passes the zeros from place `from` on, below place `stop`: logs each, and tells the place behind them. A 0 leaves the
-// count as it is, so `entries`, the clusters from the count's entry on, serve them all; 2 to the power `exponent` blocks.
-fn pass_zeros(
+// Skips the zeros from place `from` on, below place `stop`: logs each, and tells the place behind them. A 0 leaves the
+// count as it is, so `map_from`, the coefficient map from the count's entry on, serves them all; 2 to the power `exponent` blocks.
+fn skip_zeros(
     frequencies: &[u8; 63],
     exponent: usize,
     symbols: &[u32],
     start: usize,
     from: usize,
     stop: usize,
-    entries: &[u8],
+    map_from: &[u8],
     log: &mut [u8],
 ) -> usize
-    requires { ⌜ (now frequencies ≡ FREQ) × ZerosReady exponent (length (now symbols)) start from stop (length (now entries)) (length (now log)) ⌝ }
-    ensures { λ r. ⌜ Zeros exponent (now (entries .entry)) (now (symbols .entry)) start from stop (now (log .entry)) r (now (log .exit)) ⌝ }
+    requires { ⌜ (now frequencies ≡ FREQ) × ZerosReady exponent (length (now symbols)) start from stop (length (now «map_from»)) (length (now log)) ⌝ }
+    ensures { λ r. ⌜ Zeros exponent (now («map_from» .entry)) (now (symbols .entry)) start from stop (now (log .entry)) r (now (log .exit)) ⌝ }
 {
     let mut k = from;
     while k < stop {
@@ -120,8 +120,8 @@ fn pass_zeros(
         if symbols[at] != 0 {
             return k;
         }
-        let y = frequency_entry(frequencies, exponent, k);
-        log[at] = entries[y * 2];
+        let y = frequency_at(frequencies, exponent, k);
+        log[at] = map_from[y * 2];
         k += 1;
     }
     k
@@ -135,23 +135,23 @@ fn zeros_from(
     start: usize,
     from: usize,
     stop: usize,
-    entries: &[u8],
+    map_from: &[u8],
     log: &mut [u8],
 ) -> usize
-    requires { ⌜ (now frequencies ≡ FREQ) × ZerosReady exponent (length (now symbols)) start from stop (length (now entries)) (length (now log)) ⌝ }
-    ensures { λ r. ⌜ Zeros exponent (now (entries .entry)) (now (symbols .entry)) start from stop (now (log .entry)) r (now (log .exit)) ⌝ }
+    requires { ⌜ (now frequencies ≡ FREQ) × ZerosReady exponent (length (now symbols)) start from stop (length (now «map_from»)) (length (now log)) ⌝ }
+    ensures { λ r. ⌜ Zeros exponent (now («map_from» .entry)) (now (symbols .entry)) start from stop (now (log .entry)) r (now (log .exit)) ⌝ }
 {
     if exponent == 0 {
-        return pass_zeros(frequencies, 0, symbols, start, from, stop, entries, log);
+        return skip_zeros(frequencies, 0, symbols, start, from, stop, map_from, log);
     }
-    pass_zeros(
+    skip_zeros(
         frequencies,
         exponent,
         symbols,
         start,
         from,
         stop,
-        entries,
+        map_from,
         log,
     )
 }
@@ -192,7 +192,7 @@ fn walk_sparse(
     log: &mut [u8],
     grid: &mut [u32],
 ) -> WalkEnd
-    requires { ⌜ (now nonzeros ≡ NUM-NONZERO) × (now frequencies ≡ FREQ) × Ready spot (now list) start count «first_prev» (length (now «coeff_map»)) shift (length (now log)) × (count ≤ 32 * 2 ^ (spot .exponent)) ⌝ }
+    requires { ⌜ (now nonzeros ≡ NUM-NONZERO) × (now frequencies ≡ FREQ) × WalkReady spot (now list) start count «first_prev» (length (now «coeff_map»)) shift (length (now log)) × (count ≤ 32 * 2 ^ (spot .exponent)) ⌝ }
     ensures { λ r. ⌜ WalkShown r (now (log .exit)) (now (grid .exit)) (walk shift (2 ^ (spot .exponent)) (now («coeff_map» .entry)) (spotCells spot (now (list .entry))) 0 «first_prev» count (drop start (now (symbols .entry))) start (now (log .entry)) (now (grid .entry))) ⌝ }
 {
     let mut left = count;
@@ -209,7 +209,7 @@ fn walk_sparse(
         let u = symbols[at];
         log[at] = coeff_map[context];
         if u == 0 {
-            let entry = 2 * nonzeros_entry(nonzeros, spot.exponent, left - 1);
+            let entry = 2 * nonzeros_at(nonzeros, spot.exponent, left - 1);
             k = zeros_from(
                 frequencies,
                 spot.exponent,
@@ -253,7 +253,7 @@ pub(crate) fn walk_places(
     log: &mut [u8],
     grid: &mut [u32],
 ) -> WalkEnd
-    requires { ⌜ (now nonzeros ≡ NUM-NONZERO) × (now frequencies ≡ FREQ) × Ready spot (now list) start count «first_prev» (length (now «coeff_map»)) shift (length (now log)) ⌝ }
+    requires { ⌜ (now nonzeros ≡ NUM-NONZERO) × (now frequencies ≡ FREQ) × WalkReady spot (now list) start count «first_prev» (length (now «coeff_map»)) shift (length (now log)) ⌝ }
     ensures { λ r. ⌜ WalkShown r (now (log .exit)) (now (grid .exit)) (walk shift (2 ^ (spot .exponent)) (now («coeff_map» .entry)) (spotCells spot (now (list .entry))) 0 «first_prev» count (drop start (now (symbols .entry))) start (now (log .entry)) (now (grid .entry))) ⌝ }
 {
     if list.len() / 8 < count {

@@ -4,7 +4,7 @@ use crate::count::count_over;
 use coeff_group::plan::Plan;
 use coeff_walk::WalkEnd;
 use coeff_walk::walked::is_stopped;
-use coeff_walk::walked::symbols_read;
+use coeff_walk::walked::read_by;
 use lent_check::Group;
 use order_store::Stretch;
 use order_store::stretch_of;
@@ -22,7 +22,7 @@ ghost use Rattle.coeff_group.specs.Group.{going, readItems};
 ghost use Rattle.coeff_group.specs.laws.Rewritten.{three, VarblockShown};
 ghost use Rattle.coeff_group.specs.laws.Plans.{channelWalked, itemsBy, Planned};
 ghost use Rattle.coeff_group.specs.laws.Channel.{ChannelShown};
-ghost use Rattle.coeff_group.specs.laws.Lent.{varblockSmall, varblockFits, varblockRead};
+ghost use Rattle.coeff_group.specs.laws.Lent.{varblockSmall, varblockFits, plannedRead};
 
 fn to_usize(x: u32) -> usize
     ensures { λ r. ⌜ r ≡ x ⌝ }
@@ -165,7 +165,7 @@ fn read_channels<'a>(
         }
         let c = channel_walked(n);
         counts_over[c] = channel.count_over;
-        at = symbols_read(walk);
+        at = read_by(walk);
         n += 1;
     }
     VarblockRead {
@@ -217,7 +217,7 @@ fn varblock_fits(
 // The three channels of a varblock, 1, 0, 2 in turn: refused where what is lent does not fit. No channel looks at another's
 // row, so the rows are lent for reading alone: whoever holds them rewrites them by the counts over blocks. `at` is how
 // many symbols are read.
-pub fn read_varblock<'a>(
+pub fn read_planned<'a>(
     plan: Plan,
     group: Group,
     clusters: usize,
@@ -232,7 +232,7 @@ pub fn read_varblock<'a>(
     g1: &mut [u32],
     g2: &mut [u32],
 ) -> VarblockRead
-    ensures { λ r. ⌜ ((left : ℕ) → VarblockShown plan (now (symbols .entry)) (at + 192 * 2 ^ (plan .shape .exponent)) (r .walk) (r .«counts_over») (now (rows .entry)) (now (log .exit)) (now (g0 .exit) ∷ now (g1 .exit) ∷ now (g2 .exit) ∷ []) (varblockRead plan group clusters (now («preset_map» .entry)) (now (store .entry)) (now (rows .entry)) (now (symbols .entry)) at shift (now (log .entry)) (now (g0 .entry) ∷ now (g1 .entry) ∷ now (g2 .entry) ∷ []) left)) ⌝ }
+    ensures { λ r. ⌜ ((left : ℕ) → VarblockShown plan (now (symbols .entry)) (at + 192 * 2 ^ (plan .shape .exponent)) (r .walk) (r .«counts_over») (now (rows .entry)) (now (log .exit)) (now (g0 .exit) ∷ now (g1 .exit) ∷ now (g2 .exit) ∷ []) (plannedRead plan group clusters (now («preset_map» .entry)) (now (store .entry)) (now (rows .entry)) (now (symbols .entry)) at shift (now (log .entry)) (now (g0 .entry) ∷ now (g1 .entry) ∷ now (g2 .entry) ∷ []) left)) ⌝ }
 {
     let lists = stretch_of(store.len(), plan.order, 0);
     if !varblock_fits(

@@ -14,7 +14,7 @@ pub fn is_stopped(walk: WalkEnd) -> bool
 }
 
 // Symbols read, of a reading that was not stopped.
-pub fn symbols_read(walk: WalkEnd) -> usize
+pub fn read_by(walk: WalkEnd) -> usize
     ensures { λ r. ⌜ r ≡ readBy walk ⌝ }
 {
     match walk {

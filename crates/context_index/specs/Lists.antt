@@ -5,21 +5,21 @@ use lib.ListN.{getD, take, drop}
 use Rattle.context_record.specs.declared.HfBlockContext.{HfBlockContext}
 use Rattle.context_index.specs.Contexts.{Contexts}
 
--- the LF list of channel c, of n thresholds: the first of its 15 places
+-- the LF list of channel c, of n thresholds: the first of its 15 elements
 abbrev pub lfList : List ℕ → ℕ → ℕ → List ℕ
 lfList lf c n = take n (take 15 (drop (15 * c) lf))
 
--- lengths: of the LF lists of channels 0, 1, 2, then of the qf list
-abbrev pub lists : List ℕ → List ℕ → List ℕ → List ℕ → Contexts
-lists lengths lf qf map =
+-- by the lengths of the LF lists of channels 0, 1, 2 and of the qf list, the LF and qf thresholds, and the context map
+abbrev pub contextsBy : List ℕ → List ℕ → List ℕ → List ℕ → Contexts
+contextsBy lengths lf qf contextMap =
     record {
-      lf0 = lfList lf 0 (getD lengths 0 0);
-      lf1 = lfList lf 1 (getD lengths 1 0);
-      lf2 = lfList lf 2 (getD lengths 2 0);
-      qf = take (getD lengths 3 0) qf;
-      map = map;
+      lfThresholds0 = lfList lf 0 (getD lengths 0 0);
+      lfThresholds1 = lfList lf 1 (getD lengths 1 0);
+      lfThresholds2 = lfList lf 2 (getD lengths 2 0);
+      qfThresholds = take (getD lengths 3 0) qf;
+      contextMap = contextMap;
     }
 
 -- what a record says
 abbrev pub inUse : HfBlockContext → Contexts
-inUse R = lists (R .lengths) (R .«lf_thresholds») (R .«qf_thresholds») (R .«block_ctx_map»)
+inUse R = contextsBy (R .lengths) (R .«lf_thresholds») (R .«qf_thresholds») (R .«block_ctx_map»)

@@ -7,7 +7,7 @@ ghost use Prim.Native.Nat.{_+_, _*_, _≤_, _<_};
 ghost use lib.ListN.{length, take, drop, getD};
 ghost use Rattle.context_index.specs.Contexts.{above, greater, lfIndexIn, entryOf};
 ghost use Rattle.context_index.specs.laws.Contexts.{blockContexts};
-ghost use Rattle.context_index.specs.Lists.{lfList, lists};
+ghost use Rattle.context_index.specs.Lists.{lfList, contextsBy};
 
 // 1 if a > b as signed numbers.
 fn one_if_greater(a: u32, b: u32) -> usize
@@ -60,8 +60,8 @@ fn to_usize(x: u8) -> usize
     x as usize
 }
 
-// The map's number for the n-th channel walked, 0 outside the map.
-fn context_at(
+// The block context of the n-th channel walked, 0 outside the map.
+fn block_context_at(
     block_ctx_map: &[u8],
     qf_size: usize,
     lf_size: usize,
@@ -76,11 +76,11 @@ fn context_at(
     if block_ctx_map.len() <= order {
         return 0;
     }
-    let index = ((n * 13 + order) * qf_size + qf) * lf_size + lf;
-    if block_ctx_map.len() <= index {
+    let entry = ((n * 13 + order) * qf_size + qf) * lf_size + lf;
+    if block_ctx_map.len() <= entry {
         return 0;
     }
-    to_usize(block_ctx_map[index])
+    to_usize(block_ctx_map[entry])
 }
 
 // LF index, 0 without LF grids.
@@ -115,14 +115,14 @@ pub fn block_contexts<'a>(
     q1: u32,
     q2: u32,
 ) -> [usize; 3]
-    ensures { λ r. ⌜ r ≡ blockContexts (lists lengths (now («lf_thresholds» .entry)) (now («qf_thresholds» .entry)) (now («block_ctx_map» .entry))) order «hf_mul» «lf_there» q0 q1 q2 ⌝ }
+    ensures { λ r. ⌜ r ≡ blockContexts (contextsBy lengths (now («lf_thresholds» .entry)) (now («qf_thresholds» .entry)) (now («block_ctx_map» .entry))) order «hf_mul» «lf_there» q0 q1 q2 ⌝ }
 {
     let qf = qf_index(&qf_thresholds[..], lengths, hf_mul);
     let lf = lf_index_of(&lf_thresholds[..], lengths, lf_there, q0, q1, q2);
     let qfs = capped(lengths[3]) + 1;
     let lfs = lf_size(lengths);
-    let y = context_at(&block_ctx_map[..], qfs, lfs, 0, order, qf, lf);
-    let x = context_at(&block_ctx_map[..], qfs, lfs, 1, order, qf, lf);
-    let b = context_at(&block_ctx_map[..], qfs, lfs, 2, order, qf, lf);
+    let y = block_context_at(&block_ctx_map[..], qfs, lfs, 0, order, qf, lf);
+    let x = block_context_at(&block_ctx_map[..], qfs, lfs, 1, order, qf, lf);
+    let b = block_context_at(&block_ctx_map[..], qfs, lfs, 2, order, qf, lf);
     [y, x, b]
 }

@@ -23,11 +23,11 @@ unfoldable pub bsizeOf : List ℕ → ℕ
 bsizeOf lengths =
     (getD lengths 0 0 + 1) * (getD lengths 1 0 + 1) * (getD lengths 2 0 + 1) * (getD lengths 3 0 + 1)
 
--- a qf value: 1 to 300
+-- a qf threshold: 1 to 300
 abbrev pub qfFit : ℕ → Bool
 qfFit v = leb 1 v && leb v 300
 
--- Not refused with 12. Places behind a list's length, and map bytes from 39 × bsize on, are not looked at.
+-- Not refused with 12. Elements behind a list's length, and map bytes from 39 × bsize on, are not looked at.
 unfoldable pub fitOf : ℕ → List ℕ → List ℕ → List ℕ → Bool
 fitOf clusters lengths qf map =
     leb (getD lengths 0 0) 15

@@ -6,7 +6,7 @@ use Rattle.refusal.specs.Answer.{Answer, unless, passed}
 use Rattle.lent_sides.specs.Limits.{inLimits, lengthsFit}
 use Rattle.layout.specs.Check.{isLayout}
 
--- a lent record with sides up to a limit: 256 for a layout, 32 for a group; 18 lets pass exactly what Layout says (Theorems: checked, checks)
+-- a lent layout with sides up to a limit: 256 for an LF group's, 32 for a pass group's; 18 lets pass exactly what Layout says (Theorems: checked, checks)
 unfoldable pub checkOf : ℕ → ℕ → ℕ → List ℕ → List ℕ → Answer Unit
 checkOf limit bw bh kinds hfMul =
     unless 2 (inLimits limit bw bh)

@@ -1,5 +1,5 @@
-// A row of a lent layout: corners of more than one block are placed, then each column is seen to be covered just once. Of each
-// column its depth is kept, in a byte: how many rows are covered, from the row on that is looked at.
+// A row of a lent layout: corners of more than one block are placed, then each x is seen to be covered just once. Of each
+// x its depth is kept, in a byte: how many rows are covered, from the row on that is looked at.
 use lent_sides::sizes::size_of;
 ghost use mathlib.Core.Path.{_≡_};
 ghost use mathlib.Core.Bool.{cond};
@@ -7,10 +7,10 @@ ghost use Prim.Native.Nat.{_+_, _-_, _*_, _≤_, _<_, max};
 ghost use lib.Dec.{ltb};
 ghost use lib.ListN.{length, getD};
 ghost use Rattle.layout.specs.Kinds.{wideOf, highOf};
-ghost use Rattle.layout.specs.Walk.{cells};
+ghost use Rattle.layout.specs.Walk.{alongRow};
 ghost use Rattle.layout.specs.Grid.{blockAt};
 ghost use Rattle.layout.specs.Check.{Fault, Until, fitting};
-ghost use Rattle.lent_sides.specs.laws.Sizes.{widths, heights};
+ghost use Rattle.lent_sides.specs.laws.Sizes.{WIDES, HIGHS};
 ghost use Rattle.lent_check.specs.laws.Flaws.{flagOf};
 ghost use Rattle.lent_check.specs.laws.Sorts.{withinOf, largerOf};
 ghost use Rattle.lent_check.specs.laws.Steps.{gapOf, placeCell, place, close};
@@ -36,8 +36,8 @@ fn most(a: u8, b: u8) -> u8
     a
 }
 
-// The first four of n columns from x on, which must be clear, now have depth v. No branch hangs on how many there are, which
-// cannot be guessed; most corners have no more than four. Three columns beyond the last are there to be looked at with it.
+// The first four of n numbers from x on, which must be clear, now have depth v. No branch hangs on how many there are, which
+// cannot be guessed; most corners have no more than four. Three numbers beyond the last are there to be looked at with it.
 fn claim_four(depth: &mut [u8; 259], x: usize, n: usize, v: u8) -> bool
     requires { ⌜ x < 256 ⌝ }
     ensures { λ r. ⌜ cond r (claimed (now (depth .exit)) (x + 4) (n - 4) v) Fault ≡ claimed (now (depth .entry)) x n v ⌝ }
@@ -53,7 +53,7 @@ fn claim_four(depth: &mut [u8; 259], x: usize, n: usize, v: u8) -> bool
     found == 0
 }
 
-// The columns x to x + n - 1, which must be clear, now have depth v.
+// Each x from x to x + n - 1, which must be clear, now have depth v.
 fn claim(depth: &mut [u8; 259], x: usize, n: usize, v: u8) -> bool
     requires { ⌜ (x < 256) × (x + n ≤ 256) ⌝ }
     ensures { λ r. ⌜ cond r (Until (now (depth .exit))) Fault ≡ claimed (now (depth .entry)) x n v ⌝ }
@@ -122,7 +122,7 @@ fn to_usize(x: u8) -> usize
     x as usize
 }
 
-// A corner of more than one block, at (x, y), on clear columns; any other cell is passed.
+// A corner of more than one block, at (x, y), on clear x's; any other cell is passed.
 fn place_cell(
     depth: &mut [u8; 259],
     wides: &[usize; 27],
@@ -133,7 +133,7 @@ fn place_cell(
     x: usize,
     y: usize,
 ) -> bool
-    requires { ⌜ (now wides ≡ widths) × (now highs ≡ heights) × (x < bw) × (bw ≤ 256) × (y < bh) × (bh ≤ 256) ⌝ }
+    requires { ⌜ (now wides ≡ WIDES) × (now highs ≡ HIGHS) × (x < bw) × (bw ≤ 256) × (y < bh) × (bh ≤ 256) ⌝ }
     ensures { λ r. ⌜ cond r (Until (now (depth .exit))) Fault ≡ placeCell bw bh kind x y (now (depth .entry)) ⌝ }
 {
     if larger(kind) == 0 {
@@ -151,7 +151,7 @@ fn place_cell(
     claim(depth, x, w, h as u8)
 }
 
-// Which columns of row y are looked at: 1 for each of them, many at a time.
+// Which x's of row y are looked at: 1 for each of them, many at a time.
 fn flag_row(flags: &mut [u8; 256], bw: usize, kinds: &[u8], y: usize)
     requires { ⌜ (bw ≤ 256) × (y < 256) × ((y + 1) * bw ≤ length (now kinds)) × (length (now flags) ≡ 256) ⌝ }
     ensures { λ r. ⌜ Flagged (blockAt (now (kinds .entry)) bw) y bw (now (flags .exit)) ⌝ }
@@ -164,7 +164,7 @@ fn flag_row(flags: &mut [u8; 256], bw: usize, kinds: &[u8], y: usize)
     }
 }
 
-// The columns that are flagged, from the first: how many, and as many places of the list. No branch hangs on a flag, which
+// The x's that are flagged, from the first: how many, and as many elements of the list. No branch hangs on a flag, which
 // cannot be guessed.
 fn list_row(list: &mut [u8; 256], flags: &[u8; 256], bw: usize) -> usize
     requires { ⌜ (bw ≤ 256) × (length (now list) ≡ 256) × Flags bw (now flags) ⌝ }
@@ -190,8 +190,8 @@ pub(crate) fn place_row(
     kinds: &[u8],
     y: usize,
 ) -> bool
-    requires { ⌜ (now wides ≡ widths) × (now highs ≡ heights) × (bw ≤ 256) × (y < bh) × (bh ≤ 256) × (length (now kinds) ≡ bh * bw) ⌝ }
-    ensures { λ r. ⌜ cond r (Until (now (depth .exit))) Fault ≡ cells (place bw bh (blockAt (now (kinds .entry)) bw)) bw 0 y (Until (now (depth .entry))) ⌝ }
+    requires { ⌜ (now wides ≡ WIDES) × (now highs ≡ HIGHS) × (bw ≤ 256) × (y < bh) × (bh ≤ 256) × (length (now kinds) ≡ bh * bw) ⌝ }
+    ensures { λ r. ⌜ cond r (Until (now (depth .exit))) Fault ≡ alongRow (place bw bh (blockAt (now (kinds .entry)) bw)) bw 0 y (Until (now (depth .entry))) ⌝ }
 {
     let start = y * bw;
     let mut list = [0u8; 256];
@@ -210,7 +210,7 @@ pub(crate) fn place_row(
     true
 }
 
-// 1 for a column that is covered, else 0.
+// 1 for an x that is covered, else 0.
 fn covered(v: u8) -> u8
     ensures { λ r. ⌜ r ≡ flagOf (ltb 0 v) ⌝ }
 {
@@ -220,7 +220,7 @@ fn covered(v: u8) -> u8
     0
 }
 
-// 0 for a corner of one block on a clear column, and for any other cell on a covered one, else 1.
+// 0 for a corner of one block on a clear x, and for any other cell on a covered one, else 1.
 fn gap(kind: u8, v: u8) -> u8
     ensures { λ r. ⌜ r ≡ gapOf kind v ⌝ }
 {
@@ -241,10 +241,10 @@ fn one_less(v: u8) -> u8
 }
 
 // Row y has no gap; depths count from the next row on then. The loop has no early exit, and all in it is bytes, so that 16
-// columns are taken at a time.
+// x's are taken at a time.
 pub(crate) fn close_row(depth: &mut [u8; 259], bw: usize, kinds: &[u8], y: usize) -> bool
     requires { ⌜ (bw ≤ 256) × (y < 256) × ((y + 1) * bw ≤ length (now kinds)) ⌝ }
-    ensures { λ r. ⌜ cond r (Until (now (depth .exit))) Fault ≡ cells (close (blockAt (now (kinds .entry)) bw)) bw 0 y (Until (now (depth .entry))) ⌝ }
+    ensures { λ r. ⌜ cond r (Until (now (depth .exit))) Fault ≡ alongRow (close (blockAt (now (kinds .entry)) bw)) bw 0 y (Until (now (depth .entry))) ⌝ }
 {
     let start = y * bw;
     let mut gaps = 0;

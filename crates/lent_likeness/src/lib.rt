@@ -12,7 +12,7 @@ ghost use lib.ListN.{length};
 ghost use Rattle.layout.specs.Like.{lentLayout, alike, alikeCell, alikeFrom};
 ghost use Rattle.lent_sides.specs.Limits.{inLimits, lengthsFit};
 ghost use Rattle.lent_check.specs.laws.Laws.{isLentLayout};
-ghost use Rattle.lent_sides.specs.laws.Sizes.{widths, heights};
+ghost use Rattle.lent_sides.specs.laws.Sizes.{WIDES, HIGHS};
 ghost use Rattle.lent_likeness.specs.Calls.{answered, filled, likeOf};
 
 pub enum LikeAnswer {
@@ -30,7 +30,7 @@ fn alike_cell(
     kind2: u8,
     hf_mul2: u32,
 ) -> bool
-    requires { ⌜ (now wides ≡ widths) × (now highs ≡ heights) ⌝ }
+    requires { ⌜ (now wides ≡ WIDES) × (now highs ≡ HIGHS) ⌝ }
     ensures { λ r. ⌜ r ≡ alikeCell kind «hf_mul» kind2 «hf_mul2» ⌝ }
 {
     if kind < 2 {

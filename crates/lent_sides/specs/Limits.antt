@@ -1,4 +1,4 @@
--- Sides and lengths of a record (document 01, Refused, 1 and 2).
+-- Sides and lengths of a lent layout (document 01, Refused, 1 and 2).
 use mathlib.Core.Bool.{Bool, _&&_}
 use Prim.Native.Nat.{ℕ, _*_, _≤_}
 use lib.Dec.{leb, eqb}

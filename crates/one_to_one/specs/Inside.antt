@@ -13,7 +13,7 @@ use Rattle.context_record.specs.Record.{bsizeOf}
 use Rattle.coeff_walk.specs.Walk.{FREQ, NUM-NONZERO, coeffContext, flag, less, gain}
 use Rattle.coeff_walk.specs.Item.{Item, countEntry, countCluster, coeffMapOf}
 use Rattle.coeff_group.specs.Group.{Reading, going, refused, readItem, readVarblock, zeroRows}
-use Rattle.coeff_group.specs.Pass.{Pass, varblocks, blocksOf, contextEntry, cellsIn, channels}
+use Rattle.coeff_group.specs.Pass.{Pass, varblocks, blocksOf, blockEntryOf, cellsIn, channelItems}
 use Rattle.coeff_group.specs.Work.{clustersOf}
 use Rattle.coeff_call.specs.Call.{Lent, presetMap}
 
@@ -36,7 +36,7 @@ module _ (shift blocks : ℕ) (coeffMap : List ℕ) where
       × WalkInside ps (i + 1) (flag u) (less u n) us (at + 1) (set log at (getD coeffMap (coeffContext blocks n i prev) 0)) (gain shift g p u))
 
 -- what the channels of a varblock are made from
-pub record CornerInside (P : Pass) (v : Varblock) : Type 0 where
+pub record VarblockInside (P : Pass) (v : Varblock) : Type 0 where
   -- a row of the transforms' table
   pub known : v .type < COUNT
   -- of a row of counts, only as many numbers as the group is wide
@@ -46,7 +46,7 @@ pub record CornerInside (P : Pass) (v : Varblock) : Type 0 where
   pub lf1 : P .lfThere ≡ true → v .y * P .bw + v .x < length (P .lf1)
   pub lf2 : P .lfThere ≡ true → v .y * P .bw + v .x < length (P .lf2)
   -- each block context's entry, among the 39 × bsize of the map that are in use
-  pub context : (n : ℕ) → n < 3 → contextEntry P v n < 39 * bsizeOf (P .contexts .lengths)
+  pub context : (n : ℕ) → n < 3 → blockEntryOf P v n < 39 * bsizeOf (P .contexts .lengths)
   -- each channel's list is stored whole: 63 places for each block behind the low-frequency cells
   pub orders : (c : ℕ) → c < 3 → length (cellsIn P v c) ≡ 63 * blocksOf v
 
@@ -81,7 +81,7 @@ module _ (shift clusters : ℕ) (presetMap : List ℕ) where
   -- along `readGroup`
   abbrev pub GroupInside : Pass → List Varblock → Reading → Type 0
   GroupInside P [] r = Unit
-  GroupInside P (v ∷ vs) r = CornerInside P v × ReadInside (channels P v) r × GroupInside P vs (readVarblock shift clusters presetMap P v r)
+  GroupInside P (v ∷ vs) r = VarblockInside P v × ReadInside (channelItems P v) r × GroupInside P vs (readVarblock shift clusters presetMap P v r)
 
 -- along `reading`: the preset map lies whole in the cluster map, and the group is read with it
 abbrev pub ReadingInside : Lent → ℕ → Type 0

@@ -32,18 +32,18 @@ contexts c = sym (c .before .is-fit .ensures) ∙ not-false (c .before .is-fit .
 lengths-by : (c : tie.After-other-lengths-fit) → (let a = to-start (c .before .before .before .before .before .before .before) .args in lengthsBy (passAt (to-start (c .before .before .before .before .before .before .before))) (a .presets) (a .cluster-map) (a .log) (a .g0) (a .g1) (a .g2)) ≡ c .other-lengths-fit .result
 lengths-by c =
     let a = to-start (c .before .before .before .before .before .before .before) .args in
-    lengths-are (passAt (to-start (c .before .before .before .before .before .before .before))) (a .presets) (a .shift) (a .cluster-map) (a .log) (a .g0) (a .g1) (a .g2) (sides (c .before .before .before .before .before .before .before)) (parameters (c .before .before .before .before .before)) (contexts (c .before .before .before)) (c .before .read-fit .result) (c .other-lengths-fit .result) (c .before .read-fit .ensures) (c .other-lengths-fit .ensures)
+    lengths-are (passAt (to-start (c .before .before .before .before .before .before .before))) (a .presets) (a .shift) (a .cluster-map) (a .log) (a .g0) (a .g1) (a .g2) (sides (c .before .before .before .before .before .before .before)) (parameters (c .before .before .before .before .before)) (contexts (c .before .before .before)) (c .before .pass-fits .result) (c .other-lengths-fit .result) (c .before .pass-fits .ensures) (c .other-lengths-fit .ensures)
 
 lengths : (c : tie.Else4) → (let a = to-start (c .before .before .before .before .before .before .before .before) .args in lengthsBy (passAt (to-start (c .before .before .before .before .before .before .before .before))) (a .presets) (a .cluster-map) (a .log) (a .g0) (a .g1) (a .g2)) ≡ true
 lengths c = lengths-by (c .before) ∙ not-false (c .before .other-lengths-fit .result) (c .if4 .left)
 
-layout-by : (c : tie.After-group-passes) → layoutFits (passAt (to-start (c .before .before .before .before .before .before .before .before .before))) ≡ c .group-passes .result
+layout-by : (c : tie.After-layout-fits) → layoutFits (passAt (to-start (c .before .before .before .before .before .before .before .before .before))) ≡ c .layout-fits .result
 layout-by c =
     let a = to-start (c .before .before .before .before .before .before .before .before .before) .args in
-    sym (c .group-passes .ensures ∙ layout-is (passAt (to-start (c .before .before .before .before .before .before .before .before .before))) (a .presets) (a .shift) (a .cluster-map) (a .log) (a .g0) (a .g1) (a .g2) (sides (c .before .before .before .before .before .before .before .before .before)) (parameters (c .before .before .before .before .before .before .before)) (contexts (c .before .before .before .before .before)) (lengths (c .before)))
+    sym (c .layout-fits .ensures ∙ layout-is (passAt (to-start (c .before .before .before .before .before .before .before .before .before))) (a .presets) (a .shift) (a .cluster-map) (a .log) (a .g0) (a .g1) (a .g2) (sides (c .before .before .before .before .before .before .before .before .before)) (parameters (c .before .before .before .before .before .before .before)) (contexts (c .before .before .before .before .before)) (lengths (c .before)))
 
 layout : (c : tie.Else5) → layoutFits (passAt (to-start (c .before .before .before .before .before .before .before .before .before .before))) ≡ true
-layout c = layout-by (c .before) ∙ not-false (c .before .group-passes .result) (c .if5 .left)
+layout c = layout-by (c .before) ∙ not-false (c .before .layout-fits .result) (c .if5 .left)
 
 returns : tie.Need-returns
 returns c = let a = c .before .before .before .before .before .before .before .before .args in sym (checks-2 (passAt (c .before .before .before .before .before .before .before .before)) (a .presets) (a .shift) (a .cluster-map) (a .log) (a .g0) (a .g1) (a .g2) (sym (c .before .in-limits .ensures) ∙ not-true (c .before .in-limits .result) (c .if1 .taken)))
@@ -63,7 +63,7 @@ returns-4 c = let a = to-start (c .before .before .before .before .before .befor
 returns-5 : tie.Need-returns-5
 returns-5 c =
     let a = to-start (c .before .before .before .before .before .before .before .before .before .before) .args in
-    sym (checks-18 (passAt (to-start (c .before .before .before .before .before .before .before .before .before .before))) (a .presets) (a .shift) (a .cluster-map) (a .log) (a .g0) (a .g1) (a .g2) (sides (c .before .before .before .before .before .before .before .before .before .before)) (parameters (c .before .before .before .before .before .before .before .before)) (contexts (c .before .before .before .before .before .before)) (lengths (c .before .before)) (layout-by (c .before) ∙ not-true (c .before .group-passes .result) (c .if5 .taken)))
+    sym (checks-18 (passAt (to-start (c .before .before .before .before .before .before .before .before .before .before))) (a .presets) (a .shift) (a .cluster-map) (a .log) (a .g0) (a .g1) (a .g2) (sides (c .before .before .before .before .before .before .before .before .before .before)) (parameters (c .before .before .before .before .before .before .before .before)) (contexts (c .before .before .before .before .before .before)) (lengths (c .before .before)) (layout-by (c .before) ∙ not-true (c .before .layout-fits .result) (c .if5 .taken)))
 
 returns-6 : tie.Need-returns-6
 returns-6 c =

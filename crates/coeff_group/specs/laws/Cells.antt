@@ -14,7 +14,7 @@ use Rattle.coeff_walk.specs.laws.Kept.{length-gain}
 use Rattle.coeff_walk.specs.Sent.{Words}
 use Rattle.coeff_walk.specs.laws.Walks.{gains}
 use Rattle.coeff_group.specs.Group.{PerChannel}
-use Rattle.coeff_group.specs.Sequence.{GridCell, cell}
+use Rattle.coeff_group.specs.Sequence.{GridCell, inCell}
 
 -- One of a list, and lists without repetition.
 abbrev pub In : {A : Type 0} → A → List A → Type 0
@@ -51,7 +51,7 @@ pub record Shape (G H : PerChannel) : Type 0 where
   pub count : length G ≡ length H
   pub sizes : (c : ℕ) → length (getD G c []) ≡ length (getD H c [])
 
-pub same-shape : (G H : PerChannel) → Shape G H → ((c p : ℕ) → cell G c p ≡ cell H c p) → G ≡ H
+pub same-shape : (G H : PerChannel) → Shape G H → ((c p : ℕ) → inCell G c p ≡ inCell H c p) → G ≡ H
 same-shape G H s e = ext-getD [] G H (s .count) (λ c h. ext-getD 0 (getD G c []) (getD H c []) (s .sizes c) (λ p i. e c p))
 
 -- one grid written anew
@@ -71,11 +71,11 @@ module _ (G : PerChannel) (c : ℕ) (g : List ℕ) where
       go d (yes q) (no n) = rw (set-out G c g (omega arith))
       go d (no n) h = rw (getD-set-other G c d g [] n)
 
-  pub put-cell : (d p : ℕ) → (d ≡ c → getD g p 0 ≡ cell G d p) → cell (set G c g) d p ≡ cell G d p
+  pub put-cell : (d p : ℕ) → (d ≡ c → getD g p 0 ≡ inCell G d p) → inCell (set G c g) d p ≡ inCell G d p
   put-cell d p h = go (ℕ-discrete d c) (decLt c (length G))
     where
-      go : Dec (d ≡ c) → Dec (c < length G) → cell (set G c g) d p ≡ cell G d p
-      go (yes e) (yes l) = ap (λ (k : ℕ). cell (set G c g) k p) e ∙ ap (λ (l : List ℕ). getD l p 0) (getD-set-same G c g [] l) ∙ h e
+      go : Dec (d ≡ c) → Dec (c < length G) → inCell (set G c g) d p ≡ inCell G d p
+      go (yes e) (yes l) = ap (λ (k : ℕ). inCell (set G c g) k p) e ∙ ap (λ (l : List ℕ). getD l p 0) (getD-set-same G c g [] l) ∙ h e
       go (yes e) (no l) = rw (set-out G c g (omega arith))
       go (no n) l = ap (λ (l : List ℕ). getD l p 0) (getD-set-other G c d g [] n)
 
@@ -122,11 +122,11 @@ gain-off : (s : ℕ) (g : List ℕ) (p d q : ℕ) → (q ≡ p → ⊥) → getD
 gain-off s g p zero q n = refl
 gain-off s g p (suc d) q n = getD-set-other g p q ((getD g p 0 + unpackSigned (suc d) * 2 ^ s % 2 ^ 32) % 2 ^ 32) 0 n
 
-add-off : (s : ℕ) (G : PerChannel) (x : GridCell) (d : ℕ) (y : GridCell) → (y ≡ x → ⊥) → cell (add s G x d) (y .0) (y .1) ≡ cell G (y .0) (y .1)
+add-off : (s : ℕ) (G : PerChannel) (x : GridCell) (d : ℕ) (y : GridCell) → (y ≡ x → ⊥) → inCell (add s G x d) (y .0) (y .1) ≡ inCell G (y .0) (y .1)
 add-off s G x d y n = put-cell G (x .0) (gain s (getD G (x .0) []) (x .1) d) (y .0) (y .1)
-    (λ e. gain-off s (getD G (x .0) []) (x .1) d (y .1) (λ f. n (λ i. (e i, f i))) ∙ ap (λ (c : ℕ). cell G c (y .1)) (sym e))
+    (λ e. gain-off s (getD G (x .0) []) (x .1) d (y .1) (λ f. n (λ i. (e i, f i))) ∙ ap (λ (c : ℕ). inCell G c (y .1)) (sym e))
 
-pub adds-off : (s : ℕ) (G : PerChannel) (cs : List GridCell) (ds : List ℕ) (y : GridCell) → (In y cs → ⊥) → cell (adds s G cs ds) (y .0) (y .1) ≡ cell G (y .0) (y .1)
+pub adds-off : (s : ℕ) (G : PerChannel) (cs : List GridCell) (ds : List ℕ) (y : GridCell) → (In y cs → ⊥) → inCell (adds s G cs ds) (y .0) (y .1) ≡ inCell G (y .0) (y .1)
 adds-off s G cs [] y n = refl
 adds-off s G [] (d ∷ ds) y n = refl
 adds-off s G (x ∷ cs) (d ∷ ds) y n = adds-off s (add s G x d) cs ds y (λ i. n (there i)) ∙ add-off s G x d y (λ e. n (here e))
@@ -135,14 +135,14 @@ adds-off s G (x ∷ cs) (d ∷ ds) y n = adds-off s (add s G x d) cs ds y (λ i.
 pub record Fit (G : PerChannel) (cs : List GridCell) : Type 0 where
   pub channel : (x : GridCell) → In x cs → x .0 < length G
   pub place : (x : GridCell) → In x cs → x .1 < length (getD G (x .0) [])
-  pub small : (x : GridCell) → In x cs → cell G (x .0) (x .1) < 2 ^ 32
+  pub small : (x : GridCell) → In x cs → inCell G (x .0) (x .1) < 2 ^ 32
 
 -- the symbols that make W of G
 abbrev pub change : PerChannel → PerChannel → GridCell → ℕ
-change G W x = symbol (cell W (x .0) (x .1)) (cell G (x .0) (x .1))
+change G W x = symbol (inCell W (x .0) (x .1)) (inCell G (x .0) (x .1))
 
 module _ (G : PerChannel) (x : GridCell) (cs : List GridCell) (d : ℕ) (fit : Fit G (x ∷ cs)) (n : In x cs → ⊥) where
-  other : (y : GridCell) → In y cs → cell (add 0 G x d) (y .0) (y .1) ≡ cell G (y .0) (y .1)
+  other : (y : GridCell) → In y cs → inCell (add 0 G x d) (y .0) (y .1) ≡ inCell G (y .0) (y .1)
   other y i = add-off 0 G x d y (λ e. n (Memᴰ·cast (sym e) i))
 
   fit-rest : Fit (add 0 G x d) cs
@@ -153,17 +153,17 @@ module _ (G : PerChannel) (x : GridCell) (cs : List GridCell) (d : ℕ) (fit : F
   }
 
   same-rest : (W : PerChannel) → map (change (add 0 G x d) W) cs ≡ map (change G W) cs
-  same-rest W = map-same (change (add 0 G x d) W) (change G W) cs (λ y i. ap (symbol (cell W (y .0) (y .1))) (other y i))
+  same-rest W = map-same (change (add 0 G x d) W) (change G W) cs (λ y i. ap (symbol (inCell W (y .0) (y .1))) (other y i))
 
   -- what the cell holds behind all of them
-  here-is : (ds : List ℕ) → d < 2 ^ 32 → cell (adds 0 G (x ∷ cs) (d ∷ ds)) (x .0) (x .1) ≡ (cell G (x .0) (x .1) + unpackSigned d) % 2 ^ 32
+  here-is : (ds : List ℕ) → d < 2 ^ 32 → inCell (adds 0 G (x ∷ cs) (d ∷ ds)) (x .0) (x .1) ≡ (inCell G (x .0) (x .1) + unpackSigned d) % 2 ^ 32
   here-is ds w = adds-off 0 (add 0 G x d) cs ds x n ∙ ap (λ (l : List ℕ). getD l (x .1) 0) (getD-set-same G (x .0) (gain 0 (getD G (x .0) []) (x .1) d) [] (fit .channel x (here refl))) ∙ by d w
     where
-      by : (d : ℕ) → d < 2 ^ 32 → getD (gain 0 (getD G (x .0) []) (x .1) d) (x .1) 0 ≡ (cell G (x .0) (x .1) + unpackSigned d) % 2 ^ 32
+      by : (d : ℕ) → d < 2 ^ 32 → getD (gain 0 (getD G (x .0) []) (x .1) d) (x .1) 0 ≡ (inCell G (x .0) (x .1) + unpackSigned d) % 2 ^ 32
       by zero w = let h = fit .small x (here refl) in rw unpack-zero (omega arith)
       by (suc d) w =
           let u = unpack-lt (suc d) w in
-          getD-set-same (getD G (x .0) []) (x .1) ((cell G (x .0) (x .1) + unpackSigned (suc d) * 2 ^ 0 % 2 ^ 32) % 2 ^ 32) 0 (fit .place x (here refl)) ∙ omega arith
+          getD-set-same (getD G (x .0) []) (x .1) ((inCell G (x .0) (x .1) + unpackSigned (suc d) * 2 ^ 0 % 2 ^ 32) % 2 ^ 32) 0 (fit .place x (here refl)) ∙ omega arith
 
 -- symbols added to distinct cells are those that make of the start what it became
 pub only-symbols : (G : PerChannel) (cs : List GridCell) (ds : List ℕ) → Distinct cs → Fit G cs → Words ds → length ds ≡ length cs → ds ≡ map (change G (adds 0 G cs ds)) cs
@@ -173,21 +173,21 @@ only-symbols G (x ∷ cs) [] d f w e = absurd (omega arith)
 only-symbols G (x ∷ cs) (u ∷ ds) d f w e =
     let W = adds 0 G (x ∷ cs) (u ∷ ds) in
     ap₂ (λ (v : ℕ) (vs : List ℕ). v ∷ vs)
-    (sym (symbol-of (cell W (x .0) (x .1)) (cell G (x .0) (x .1)) u (w .0) (f .small x (here refl)) (here-is G x cs u f (d .0) ds (w .0))))
+    (sym (symbol-of (inCell W (x .0) (x .1)) (inCell G (x .0) (x .1)) u (w .0) (f .small x (here refl)) (here-is G x cs u f (d .0) ds (w .0))))
     (only-symbols (add 0 G x u) cs ds (d .1) (fit-rest G x cs u f (d .0)) (w .1) (omega arith) ∙ same-rest G x cs u f (d .0) W)
 
 -- and those symbols make it of the start
-pub symbols-turn : (G W : PerChannel) (cs : List GridCell) → Distinct cs → Fit G cs → ((x : GridCell) → In x cs → cell W (x .0) (x .1) < 2 ^ 32) → (y : GridCell) → In y cs
-    → cell (adds 0 G cs (map (change G W) cs)) (y .0) (y .1) ≡ cell W (y .0) (y .1)
+pub symbols-turn : (G W : PerChannel) (cs : List GridCell) → Distinct cs → Fit G cs → ((x : GridCell) → In x cs → inCell W (x .0) (x .1) < 2 ^ 32) → (y : GridCell) → In y cs
+    → inCell (adds 0 G cs (map (change G W) cs)) (y .0) (y .1) ≡ inCell W (y .0) (y .1)
 symbols-turn G W [] d f w y i = absurd (elim i [ ])
 symbols-turn G W (x ∷ cs) d f w y i = go (List·Memᴰ·cases-cons i) (symbols-turn (add 0 G x u) W cs (d .1) (fit-rest G x cs u f (d .0)) (λ z j. w z (there j)) y)
   where
     u : ℕ
     u = change G W x
 
-    go : (y ≡ x) ⊎ In y cs → (In y cs → cell (adds 0 (add 0 G x u) cs (map (change (add 0 G x u) W) cs)) (y .0) (y .1) ≡ cell W (y .0) (y .1))
-        → cell (adds 0 (add 0 G x u) cs (map (change G W) cs)) (y .0) (y .1) ≡ cell W (y .0) (y .1)
+    go : (y ≡ x) ⊎ In y cs → (In y cs → inCell (adds 0 (add 0 G x u) cs (map (change (add 0 G x u) W) cs)) (y .0) (y .1) ≡ inCell W (y .0) (y .1))
+        → inCell (adds 0 (add 0 G x u) cs (map (change G W) cs)) (y .0) (y .1) ≡ inCell W (y .0) (y .1)
     go (inl e) ih =
-        rw e (here-is G x cs u f (d .0) (map (change G W) cs) (symbol-lt (cell W (x .0) (x .1)) (cell G (x .0) (x .1)))
-        ∙ symbol-adds (cell W (x .0) (x .1)) (cell G (x .0) (x .1)) (w x (here refl)) (f .small x (here refl)))
+        rw e (here-is G x cs u f (d .0) (map (change G W) cs) (symbol-lt (inCell W (x .0) (x .1)) (inCell G (x .0) (x .1)))
+        ∙ symbol-adds (inCell W (x .0) (x .1)) (inCell G (x .0) (x .1)) (w x (here refl)) (f .small x (here refl)))
     go (inr j) ih = rw (← same-rest G x cs u f (d .0) W) (ih j)

@@ -24,7 +24,7 @@ use Rattle.coeff_walk.specs.declared.WalkEnd.the-variants.{Done, Stopped}
 use Rattle.coeff_walk.specs.laws.Outcome.{isStopped, readBy}
 use Rattle.coeff_walk.specs.Item.{Item}
 use Rattle.coeff_group.specs.declared.plan.Plan.{Plan}
-use Rattle.coeff_group.specs.Pass.{Pass, varblocks, itemOf, channels}
+use Rattle.coeff_group.specs.Pass.{Pass, varblocks, itemOf, channelItems}
 use Rattle.coeff_group.specs.Group.{PerChannel, zeroRows, Reading, going, refused, readItems, readGroup}
 use Rattle.coeff_group.specs.laws.GroupLaws.{group-refused}
 use Rattle.dct_select.specs.laws.Exponents.{exponentOf, exponent-blocks, exponent-le}
@@ -53,7 +53,7 @@ pub record GroupShown (r : WalkEnd) (log : List ℕ) (G : PerChannel) (R : Readi
 
 -- what the checks before work leave
 pub record GroupReady (P : Pass) (clusters presetMap shift log : ℕ) : Type 0 where
-  pub across : P .bw ≤ 32
+  pub narrow : P .bw ≤ 32
   pub below : P .bh ≤ 32
   pub layout : Layout (P .bw) (P .bh) (P .kinds) (P .hfMul)
   pub contexts : fit (P .contexts) ≡ true
@@ -110,7 +110,7 @@ module _ (P : Pass) (clusters presetMap shift log : ℕ) (r : GroupReady P clust
   known = let k = fits .known in omega arith
 
   -- the three channels are those of the definition
-  items-are : itemsBy (planAt P x y) (groupAt P) (P .store) ≡ channels P (cornerAt P x y)
+  items-are : itemsBy (planAt P x y) (groupAt P) (P .store) ≡ channelItems P (cornerAt P x y)
   unfolding itemOf
   items-are = rw (exponent-blocks t known)
 
@@ -133,14 +133,14 @@ module _ (P : Pass) (clusters presetMap shift log : ℕ) (r : GroupReady P clust
 
   plan-ready : (presetMap₀ : List ℕ) → length presetMap₀ ≡ presetMap → Planned (planAt P x y) (groupAt P) clusters presetMap₀ (P .store) shift
   plan-ready presetMap₀ e =
-      let w = r .across in let h = r .below in
+      let w = r .narrow in let h = r .below in
       record {
         left = omega arith;
         top = omega arith;
         some = wide-some t known;
         exponent = exponent-le t known;
-        across = r .across;
-        cluster = λ n k. rw (r .clustered) (context n k);
+        narrow = r .narrow;
+        context = λ n k. rw (r .clustered) (context n k);
         few = r .few;
         entries = e ∙ r .entries;
         listed = order-lt t known;
@@ -206,7 +206,7 @@ module _ (shift clusters : ℕ) (presetMap : List ℕ) (P : Pass) (symbols : Lis
     unfolding area
     room-of v l d = let m = d .room in omega arith
 
-    module _ (x y : ℕ) (l : List layout.Varblock) (d : Dues (cornerAt P x y ∷ l) at₀ rows log G) (its : List Item) (is : its ≡ channels P (cornerAt P x y))
+    module _ (x y : ℕ) (l : List layout.Varblock) (d : Dues (cornerAt P x y ∷ l) at₀ rows log G) (its : List Item) (is : its ≡ channelItems P (cornerAt P x y))
         (w : WalkEnd) (rows₁ : PerChannel) (log₁ : List ℕ) (G₁ : PerChannel) (few : ℕ) (le : few ≡ at₀ + 192 * (wide (K P x y - 2) * high (K P x y - 2)))
         (shown : (left : ℕ) → Shown symbols few w rows₁ log₁ G₁ (readItems shift clusters presetMap its (going (drop at₀ symbols) at₀ log G rows left))) where
       abbrev R : Reading
@@ -265,7 +265,7 @@ module _ (shift clusters : ℕ) (presetMap : List ℕ) (P : Pass) (symbols : Lis
       let m = ready .room in
       let n = room-of shift clusters presetMap P symbols (192 * (P .bw * P .bh)) whole at₀ rows log G (cornerAt P x y) (rowFrom P (x + 1) y) here in
       let f = few in
-      let w = ready .across in
+      let w = ready .narrow in
       let r = right P clusters (length presetMap) shift room ready x y hx hy corner in (
         subst (λ (q : Plan). Planned q (groupAt P) clusters presetMap (P .store) shift) (sym ep) (plan-ready P clusters (length presetMap) shift room ready x y hx hy corner presetMap refl),
         omega arith,
@@ -275,7 +275,7 @@ module _ (shift clusters : ℕ) (presetMap : List ℕ) (P : Pass) (symbols : Lis
 
   module _ (w : WalkEnd) (rows₁ : PerChannel) (log₁ : List ℕ) (G₁ : PerChannel)
       (shown : (left : ℕ) → Shown symbols (at₀ + 192 * 2 ^ (p .shape .exponent)) w rows₁ log₁ G₁ (readItems shift clusters presetMap (itemsBy p (groupAt P) (P .store)) (going (drop at₀ symbols) at₀ log G rows left))) where
-    its : itemsBy p (groupAt P) (P .store) ≡ channels P (cornerAt P x y)
+    its : itemsBy p (groupAt P) (P .store) ≡ channelItems P (cornerAt P x y)
     its = ap (λ (q : Plan). itemsBy q (groupAt P) (P .store)) ep ∙ items-are P clusters (length presetMap) shift room ready x y hx hy corner
 
     -- the reading stopped in it

@@ -5,7 +5,7 @@ use Prim.Native.Nat.{ℕ}
 use Rattle.refusal.specs.declared.Refusal.{Refusal}
 use Rattle.layout.specs.Varblocks.{Varblock}
 use Rattle.coeff_walk.specs.Item.{Item}
-use Rattle.coeff_group.specs.Pass.{Pass, channels, itemsOf}
+use Rattle.coeff_group.specs.Pass.{Pass, channelItems, itemsOf}
 use Rattle.coeff_group.specs.Group.{PerChannel, Reading, going, refused, readItem, readItems, readVarblock, readGroup}
 
 -- symbols read
@@ -23,7 +23,7 @@ module _ (shift clusters : ℕ) (presetMap : List ℕ) where
   pub group-items : (P : Pass) (vs : List Varblock) (r : Reading) → readGroup shift clusters presetMap P vs r ≡ readItems shift clusters presetMap (itemsOf P vs) r
   unfolding readGroup itemsOf
   group-items P [] r = unfold readItems in refl
-  group-items P (v ∷ vs) r = rw (read-append (channels P v) (itemsOf P vs) r) (group-items P vs (readVarblock shift clusters presetMap P v r))
+  group-items P (v ∷ vs) r = rw (read-append (channelItems P v) (itemsOf P vs) r) (group-items P vs (readVarblock shift clusters presetMap P v r))
 
   -- what was refused stays so
   pub read-refused : (its : List Item) (why : ℕ → Refusal) (at : ℕ) (log : List ℕ) (G : PerChannel) → readItems shift clusters presetMap its (refused why at log G) ≡ refused why at log G

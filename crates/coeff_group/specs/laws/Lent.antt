@@ -46,8 +46,8 @@ varblockFits p group clusters presetMap list at shift log =
     && leb (192 * 2 ^ (p .shape .exponent)) (log - at))
 
 -- the reading of a varblock, `left` of the counts before being left over; nothing is read where what is lent does not fit
-abbrev pub varblockRead : Plan → Group → (clusters : ℕ) (presetMap store : List ℕ) (rows : PerChannel) (symbols : List ℕ) (at shift : ℕ) (log : List ℕ) (G : PerChannel) (left : ℕ) → Reading
-varblockRead p group clusters presetMap store rows symbols at shift log G left =
+abbrev pub plannedRead : Plan → Group → (clusters : ℕ) (presetMap store : List ℕ) (rows : PerChannel) (symbols : List ℕ) (at shift : ℕ) (log : List ℕ) (G : PerChannel) (left : ℕ) → Reading
+plannedRead p group clusters presetMap store rows symbols at shift log G left =
     cond (varblockFits p group clusters (length presetMap) (stretchAt (length store) (p .order) 0 .len) at shift (length log))
     (readItems shift clusters presetMap (itemsBy p group store) (going (drop at symbols) at log G (three rows) left))
     (refused (λ n. Length) at log G)
@@ -70,7 +70,7 @@ pub record VarblockLimits (p : Plan) (group : Group) (clusters shift : ℕ) : Ty
   pub top : p .shape .y < 32
   pub some : 1 ≤ p .shape .wide
   pub exponent : p .shape .exponent ≤ 10
-  pub across : group .bw ≤ 32
+  pub narrow : group .bw ≤ 32
   pub first : getD (p .«block_contexts») 0 0 < clusters
   pub second : getD (p .«block_contexts») 1 0 < clusters
   pub third : getD (p .«block_contexts») 2 0 < clusters
@@ -93,7 +93,7 @@ small-limits p group clusters shift e =
       top = ltb-true (p .shape .y) 32 (z .1);
       some = leb-true 1 (p .shape .wide) (a .1);
       exponent = leb-true (p .shape .exponent) 10 (b .1);
-      across = leb-true (group .bw) 32 (c .1);
+      narrow = leb-true (group .bw) 32 (c .1);
       first = ltb-true (getD (p .«block_contexts») 0 0) clusters (d .1);
       second = ltb-true (getD (p .«block_contexts») 1 0) clusters (f .1);
       third = ltb-true (getD (p .«block_contexts») 2 0) clusters (g .1);
@@ -119,8 +119,8 @@ module _ (p : Plan) (group : Group) (clusters : ℕ) (presetMap store : List ℕ
           top = v .top;
           some = v .some;
           exponent = v .exponent;
-          across = v .across;
-          cluster = each (v .first) (v .second) (v .third);
+          narrow = v .narrow;
+          context = each (v .first) (v .second) (v .third);
           few = v .few;
           entries = eqb-true (length presetMap) (495 * clusters) (j .0);
           listed = s .0;
@@ -148,10 +148,10 @@ module _ (p : Plan) (group : Group) (clusters : ℕ) (presetMap store : List ℕ
         lt-ltb (p .shape .y) 32 (r .top),
         le-leb 1 (p .shape .wide) (r .some),
         le-leb (p .shape .exponent) 10 (r .exponent),
-        le-leb (group .bw) 32 (r .across),
-        lt-ltb (getD (p .«block_contexts») 0 0) clusters (r .cluster 0 (omega arith)),
-        lt-ltb (getD (p .«block_contexts») 1 0) clusters (r .cluster 1 (omega arith)),
-        lt-ltb (getD (p .«block_contexts») 2 0) clusters (r .cluster 2 (omega arith)),
+        le-leb (group .bw) 32 (r .narrow),
+        lt-ltb (getD (p .«block_contexts») 0 0) clusters (r .context 0 (omega arith)),
+        lt-ltb (getD (p .«block_contexts») 1 0) clusters (r .context 1 (omega arith)),
+        lt-ltb (getD (p .«block_contexts») 2 0) clusters (r .context 2 (omega arith)),
         le-leb clusters 16 (r .few),
         le-leb shift 3 (r .shifts),
         le-leb at log (omega arith),
@@ -168,12 +168,12 @@ module _ (p : Plan) (group : Group) (clusters : ℕ) (presetMap store : List ℕ
   abbrev whole : ℕ → Reading
   whole left = readItems shift clusters presetMap (itemsBy p group store) (going (drop at symbols) at log G (three rows) left)
 
-  pub varblock-refused : fitting ≡ false → (most left : ℕ) → VarblockShown p symbols most (Stopped Length) (0 ∷ 0 ∷ 0 ∷ []) rows log G (varblockRead p group clusters presetMap store rows symbols at shift log G left)
+  pub varblock-refused : fitting ≡ false → (most left : ℕ) → VarblockShown p symbols most (Stopped Length) (0 ∷ 0 ∷ 0 ∷ []) rows log G (plannedRead p group clusters presetMap store rows symbols at shift log G left)
   varblock-refused e most left = rw e (record { shown = record { it = record { answer = refl; logged = refl; cells = refl } }; none = λ stops. refl; counted = λ long. refl })
 
-  pub varblock-reads : fitting ≡ true → (left : ℕ) → whole left ≡ varblockRead p group clusters presetMap store rows symbols at shift log G left
+  pub varblock-reads : fitting ≡ true → (left : ℕ) → whole left ≡ plannedRead p group clusters presetMap store rows symbols at shift log G left
   varblock-reads e left = rw e
 
   pub varblock-is : Planned p group clusters presetMap store shift → at + 192 * 2 ^ (p .shape .exponent) ≤ length log
-      → (left : ℕ) → varblockRead p group clusters presetMap store rows symbols at shift log G left ≡ whole left
+      → (left : ℕ) → plannedRead p group clusters presetMap store rows symbols at shift log G left ≡ whole left
   varblock-is r m left = rw (planned-fits p group clusters presetMap store at shift (length log) r m)

@@ -15,7 +15,7 @@ use Rattle.layout.specs.Grid.{blockAt}
 use Rattle.lent_check.specs.declared.Group.{Group}
 use Rattle.order_store.specs.Store.{PLACES, stretch}
 use Rattle.context_index.specs.laws.Contexts.{blockContexts}
-use Rattle.context_index.specs.Lists.{lists}
+use Rattle.context_index.specs.Lists.{contextsBy}
 use Rattle.coeff_walk.specs.Item.{Item}
 use Rattle.coeff_walk.specs.laws.Items.{itemAt}
 use Rattle.coeff_walk.specs.declared.shape.Shape.{Shape}
@@ -31,7 +31,7 @@ abbrev pub planBy : ℕ → ℕ → Group → ℕ → ℕ → List ℕ → List 
 planBy x y group t hfMul lengths lf qf map there lf0 lf1 lf2 = record {
   shape = shapeOf x y t;
   order = orderOf t;
-  «block_contexts» = blockContexts (lists lengths lf qf map) (orderOf t) hfMul there (blockAt lf0 (group .bw) x y) (blockAt lf1 (group .bw) x y) (blockAt lf2 (group .bw) x y);
+  «block_contexts» = blockContexts (contextsBy lengths lf qf map) (orderOf t) hfMul there (blockAt lf0 (group .bw) x y) (blockAt lf1 (group .bw) x y) (blockAt lf2 (group .bw) x y);
 }
 
 -- channel c of an item
@@ -55,8 +55,8 @@ pub record Planned (p : Plan) (group : Group) (clusters : ℕ) (presetMap store 
   pub top : p .shape .y < 32
   pub some : 1 ≤ p .shape .wide
   pub exponent : p .shape .exponent ≤ 10
-  pub across : group .bw ≤ 32
-  pub cluster : (n : ℕ) → n < 3 → getD (p .«block_contexts») n 0 < clusters
+  pub narrow : group .bw ≤ 32
+  pub context : (n : ℕ) → n < 3 → getD (p .«block_contexts») n 0 < clusters
   pub few : clusters ≤ 16
   pub entries : length presetMap ≡ 495 * clusters
   pub listed : p .order < 13

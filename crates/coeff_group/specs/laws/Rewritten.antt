@@ -25,7 +25,7 @@ rewritten p countsOver rows (suc n) =
     let c = channelWalked n in
     rowBy (rewritten p countsOver rows n) c (p .shape .x) (p .shape .wide) (getD countsOver c 0)
 
--- what the counts of channels 0, 1, 2 come to over a varblock's blocks: what its reading leaves in their rows at its column x; 0 beside a refusal
+-- what the counts of channels 0, 1, 2 come to over a varblock's blocks: what its reading leaves in their rows at its x x; 0 beside a refusal
 abbrev pub countsBy : ℕ → Reading → List ℕ
 countsBy x (going us at log grids rows left) = getD (getD rows 0 []) x 0 ∷ getD (getD rows 1 []) x 0 ∷ getD (getD rows 2 []) x 0 ∷ []
 countsBy x (refused why at log grids) = 0 ∷ 0 ∷ 0 ∷ []
@@ -34,7 +34,7 @@ countsBy x (refused why at log grids) = 0 ∷ 0 ∷ 0 ∷ []
 pub record VarblockShown (p : Plan) (symbols : List ℕ) (most : ℕ) (w : WalkEnd) (countsOver : List ℕ) (rows : PerChannel) (log : List ℕ) (G : PerChannel) (R : Reading) : Type 0 where
   pub shown : Shown symbols most w (rewritten p countsOver rows 3) log G R
   pub none : isStopped w ≡ true → countsOver ≡ 0 ∷ 0 ∷ 0 ∷ []
-  -- of rows that have a number in that column, as rows of 32 do
+  -- of rows that have a number in that x, as rows of 32 do
   pub counted : ((c : ℕ) → c < 3 → p .shape .x < length (getD rows c [])) → countsOver ≡ countsBy (p .shape .x) R
 
 module _ (p : Plan) (countsOver : List ℕ) (rows : PerChannel) where
@@ -72,8 +72,8 @@ module _ (p : Plan) (symbols : List ℕ) (most : ℕ) (w : WalkEnd) (log : List 
   counts-none rows (going us at log′ G′ rows′ left) s e = absurd (let f = s .it .answer in let z : _≡_ {A = Bool} true false = sym e ∙ ap isStopped f in true≢false z)
 
   module _ (countsOver : List ℕ) (rows : PerChannel) (some : 1 ≤ p .shape .wide) (inside : (c : ℕ) → c < 3 → p .shape .x < length (getD rows c [])) where
-    at-column : (c : ℕ) → c < 3 → getD (fillFrom (getD rows c []) (p .shape .x) (p .shape .wide) (getD countsOver c 0)) (p .shape .x) 0 ≡ getD countsOver c 0
-    at-column c h = row-first (getD rows c []) (p .shape .x) (p .shape .wide) (getD countsOver c 0) some (inside c h)
+    at-x : (c : ℕ) → c < 3 → getD (fillFrom (getD rows c []) (p .shape .x) (p .shape .wide) (getD countsOver c 0)) (p .shape .x) 0 ≡ getD countsOver c 0
+    at-x c h = row-first (getD rows c []) (p .shape .x) (p .shape .wide) (getD countsOver c 0) some (inside c h)
 
     listed : (l : List ℕ) → length l ≡ 3 → l ≡ getD l 0 0 ∷ getD l 1 0 ∷ getD l 2 0 ∷ []
     listed (a ∷ b ∷ c ∷ []) e = refl
@@ -85,7 +85,7 @@ module _ (p : Plan) (symbols : List ℕ) (most : ℕ) (w : WalkEnd) (log : List 
     pub counts-read : (R : Reading) → length countsOver ≡ 3 → Shown symbols most w (rewritten p countsOver rows 3) log G R → isStopped w ≡ false → countsOver ≡ countsBy (p .shape .x) R
     counts-read (refused why at log′ G′) e s f = absurd (let g = s .it .answer in let z : _≡_ {A = Bool} true false = sym (ap isStopped g) ∙ f in true≢false z)
     counts-read (going us at log′ G′ rows′ left) e s f =
-        rw (s .it .counts, at-column 0 (omega arith), at-column 1 (omega arith), at-column 2 (omega arith)) (listed countsOver e)
+        rw (s .it .counts, at-x 0 (omega arith), at-x 1 (omega arith), at-x 2 (omega arith)) (listed countsOver e)
 
 -- three rows as a list of three
 pub three-is : (rows : PerChannel) → length rows ≡ 3 → three rows ≡ rows

@@ -12,12 +12,12 @@ use Rattle.coeff_group.specs.Group.{PerChannel, Reading, going, readItem
 use Rattle.coeff_group.specs.laws.Steps.{Shown}
 use Rattle.coeff_group.specs.laws.Plans.{itemsBy, Planned}
 use Rattle.coeff_group.specs.laws.Rewritten.{three-is, rewritten, VarblockShown}
-use Rattle.coeff_group.specs.laws.Lent.{varblockRead, varblock-is}
+use Rattle.coeff_group.specs.laws.Lent.{plannedRead, varblock-is}
 use Rattle.coeff_group.specs.laws.Channels.{shown-stopped}
 
 module _ (p : Plan) (group : Group) (clusters : ℕ) (presetMap store : List ℕ) (rows : PerChannel) (symbols : List ℕ) (at shift : ℕ) (log : List ℕ) (G : PerChannel)
     (planned : Planned p group clusters presetMap store shift) (room : at + 192 * 2 ^ (p .shape .exponent) ≤ length log) (three : length rows ≡ 3) (w : WalkEnd) (counts log₁ : List ℕ) (G₁ : PerChannel)
-    (told : (left : ℕ) → VarblockShown p symbols (at + 192 * 2 ^ (p .shape .exponent)) w counts rows log₁ G₁ (varblockRead p group clusters presetMap store rows symbols at shift log G left)) where
+    (told : (left : ℕ) → VarblockShown p symbols (at + 192 * 2 ^ (p .shape .exponent)) w counts rows log₁ G₁ (plannedRead p group clusters presetMap store rows symbols at shift log G left)) where
   abbrev most : ℕ
   most = at + 192 * 2 ^ (p .shape .exponent)
 

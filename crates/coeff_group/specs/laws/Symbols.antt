@@ -18,7 +18,7 @@ use Rattle.order_natural.specs.Places.{paired}
 use Rattle.order_natural.specs.laws.Flat.{length-paired}
 use Rattle.coeff_walk.specs.laws.PlaceLaws.{length-places}
 use Rattle.coeff_walk.specs.Item.{Item}
-use Rattle.coeff_group.specs.Pass.{Pass, varblocks, blocksOf, cellsIn, itemOf, channels, itemsOf}
+use Rattle.coeff_group.specs.Pass.{Pass, varblocks, blocksOf, cellsIn, itemOf, channelItems, itemsOf}
 use Rattle.dct_select.specs.laws.Sides.{order-lt}
 use Rattle.coeff_group.specs.laws.Stored.{stretch-long}
 
@@ -44,7 +44,7 @@ module _ (P : Pass) (whole : length (P .store) ≡ 2 * PLACES) where
       let p : length (paired s) ≡ length s / 2 = length-paired s in
       length-places (turns t) (8 * P .bw) (8 * v .x) (8 * v .y) (drop (blocksOf v) (paired s)) ∙ length-drop (blocksOf v) (paired s) ∙ omega arith
 
-  pub varblock-symbols : (v : Varblock) → v .type < 27 → symbolsIn (channels P v) ≤ 192 * blocksOf v
+  pub varblock-symbols : (v : Varblock) → v .type < 27 → symbolsIn (channelItems P v) ≤ 192 * blocksOf v
   unfolding itemOf
   varblock-symbols v h =
       let a = places-many v h 1 (omega arith) in
@@ -56,7 +56,7 @@ module _ (P : Pass) (whole : length (P .store) ≡ 2 * PLACES) where
   unfolding itemsOf area
   group-symbols [] f = omega arith
   group-symbols (v ∷ vs) f =
-      rw (symbols-both (channels P v) (itemsOf P vs)) (omega (arith, varblock-symbols v (f v (first refl)), group-symbols vs (λ u j. f u (later j))))
+      rw (symbols-both (channelItems P v) (itemsOf P vs)) (omega (arith, varblock-symbols v (f v (first refl)), group-symbols vs (λ u j. f u (later j))))
 
   pub most-symbols : Layout (P .bw) (P .bh) (P .kinds) (P .hfMul) → symbolsIn (itemsOf P (varblocks P)) ≤ 192 * (P .bh * P .bw)
   most-symbols lay =

@@ -102,7 +102,7 @@ loop-again c =
       c .before .before .before .before .before .g2 .given ∙ l .inv .3,
       omega (arith, to-in-loop (c .before .before .before .before .before .before .before .before .before) .loop-test .taken),
       length-set (l .counts-over) (c .before .channel-walked .result) (w .result .«count_over») ∙ l .inv .5,
-      λ left. channels-go (a .plan) (a .group) (a .clusters) (a .preset-map .now) (a .store .now) (a .symbols .now) (a .at) (a .shift) (wholeAt s left) (l .n) (l .at) (l .counts-over) (a .rows .now) (l .log) (l .g0 ∷ l .g1 ∷ l .g2 ∷ []) (l .inv .6 left) (to-in-loop (c .before .before .before .before .before .before .before .before .before) .loop-test .taken) (w .result .walk) (w .result .«count_over») (z .0) (z .1 .0 ∷ z .1 .1 .0 ∷ z .1 .1 .1 .0 ∷ []) (w .ensures) (sym (c .before .before .before .is-stopped .ensures) ∙ c .before .before .if1 .left) (c .symbols-read .result) (c .before .channel-walked .result) _ (c .symbols-read .ensures) (l .inv .5) (c .before .channel-walked .ensures .1) refl,
+      λ left. channels-go (a .plan) (a .group) (a .clusters) (a .preset-map .now) (a .store .now) (a .symbols .now) (a .at) (a .shift) (wholeAt s left) (l .n) (l .at) (l .counts-over) (a .rows .now) (l .log) (l .g0 ∷ l .g1 ∷ l .g2 ∷ []) (l .inv .6 left) (to-in-loop (c .before .before .before .before .before .before .before .before .before) .loop-test .taken) (w .result .walk) (w .result .«count_over») (z .0) (z .1 .0 ∷ z .1 .1 .0 ∷ z .1 .1 .1 .0 ∷ []) (w .ensures) (sym (c .before .before .before .is-stopped .ensures) ∙ c .before .before .if1 .left) (c .read-by .result) (c .before .channel-walked .result) _ (c .read-by .ensures) (l .inv .5) (c .before .channel-walked .ensures .1) refl,
     )
 
 returns-2 : tie.Need-returns-2 Inv-loop μ-loop

@@ -43,8 +43,8 @@ pub record ItemReady (v : Shape) (bw blockContext clusters presetMap list at shi
   pub left : v .x < 32
   pub top : v .y < 32
   pub exponent : v .exponent ≤ 10
-  pub across : bw ≤ 32
-  pub cluster : blockContext < clusters
+  pub narrow : bw ≤ 32
+  pub context : blockContext < clusters
   pub few : clusters ≤ 16
   pub entries : presetMap ≡ 495 * clusters
   pub long : list ≡ 128 * 2 ^ (v .exponent)
@@ -110,7 +110,7 @@ module _ (v : Shape) (bw blockContext clusters : ℕ) (presetMap list row symbol
     part-length =
         let l = ready .entries in
         let z : end - begin ≡ 458 = omega arith in
-        rw z (length-take-le 458 (drop begin presetMap) (rw (length-drop begin presetMap) (omega (arith, part-entry blockContext clusters (ready .cluster)))))
+        rw z (length-take-le 458 (drop begin presetMap) (rw (length-drop begin presetMap) (omega (arith, part-entry blockContext clusters (ready .context)))))
 
     rest-fits : lentFits (spotOf v bw) (length rest) next (length coeffMap) shift (length log) ≡ true
     unfolding lentFits
@@ -118,7 +118,7 @@ module _ (v : Shape) (bw blockContext clusters : ℕ) (presetMap list row symbol
         let o = rest-length in
         let p = ready .room in
         let q = pow-pos (v .exponent) in
-        let x = ready .left in let y = ready .top in let w = ready .across in
+        let x = ready .left in let y = ready .top in let w = ready .narrow in
         rw (
           le-leb (8 * bw) 256 (omega arith),
           le-leb (8 * v .x) 256 (omega arith),

@@ -11,7 +11,7 @@ use Rattle.laws.specs.laws.Cases.{and-true}
 use Rattle.refusal.specs.declared.Refusal.the-variants.{Length, Count}
 use Rattle.coeff_walk.specs.declared.spot.Spot.{Spot}
 use Rattle.coeff_walk.specs.Walk.{Walked, stopped, walk}
-use Rattle.coeff_walk.specs.laws.Outcome.{spotCells, Ready}
+use Rattle.coeff_walk.specs.laws.Outcome.{spotCells, WalkReady}
 
 -- limits: a first cell and a width of at most 256, at most 2^10 blocks
 abbrev pub spotSmall : Spot → (shift : ℕ) → Bool
@@ -63,7 +63,7 @@ small-limits spot shift e =
     }
 
 pub fits-ready : (spot : Spot) (list : List ℕ) (start count firstPrev coeffMap shift log : ℕ) → lentFits spot (length list) start coeffMap shift log ≡ true
-    → count ≤ 63 * 2 ^ (spot .exponent) → firstPrev ≤ 1 → Ready spot list start count firstPrev coeffMap shift log
+    → count ≤ 63 * 2 ^ (spot .exponent) → firstPrev ≤ 1 → WalkReady spot list start count firstPrev coeffMap shift log
 unfolding lentFits
 fits-ready spot list start count firstPrev coeffMap shift log e c f =
     let l = and-true _ _ e in

@@ -8,7 +8,7 @@ use Rattle.coeff_walk.specs.Walk.{Walked, walk, coeffContext, NUM-NONZER
 use Rattle.coeff_walk.specs.declared.WalkEnd.the-variants.{Done, Stopped}
 use Rattle.refusal.specs.declared.Refusal.the-variants.{SymbolsEnd}
 use Rattle.coeff_walk.specs.declared.spot.Spot.{Spot}
-use Rattle.coeff_walk.specs.laws.Outcome.{spotCells, Ready, WalkShown, walk-used, walk-done, walk-15, walk-zero, walk-more, ends}
+use Rattle.coeff_walk.specs.laws.Outcome.{spotCells, WalkReady, WalkShown, walk-used, walk-done, walk-15, walk-zero, walk-more, ends}
 use Rattle.coeff_walk.specs.laws.Kept.{length-gain}
 use Rattle.coeff_walk.specs.laws.PlaceLaws.{places-count}
 use Rattle.coeff_walk.specs.laws.Runs.{Zeros, ZerosReady, entry-at, entries-lent, entries-room, context-fits}
@@ -39,7 +39,7 @@ pub record Turn (spot : Spot) (list symbols : List ℕ) (start coeffMap log left
   pub entry : 2 * getD NUM-NONZERO ((left - 1) / 2 ^ (spot .exponent)) 0 ≤ coeffMap
 
 module _ {spot : Spot} {list symbols : List ℕ} {start : ℕ} {coeffMap : List ℕ} {shift : ℕ} {log₀ grid₀ : List ℕ} where
-  pub sparse-start : {count firstPrev : ℕ} → Ready spot list start count firstPrev (length coeffMap) shift (length log₀) → count ≤ 32 * 2 ^ (spot .exponent)
+  pub sparse-start : {count firstPrev : ℕ} → WalkReady spot list start count firstPrev (length coeffMap) shift (length log₀) → count ≤ 32 * 2 ^ (spot .exponent)
       → (stop : ℕ) → stop ≤ length list / 2 → stop ≤ length symbols - start → (stop < length list / 2 → stop ≡ length symbols - start)
       → Sparse spot list symbols start coeffMap shift log₀ grid₀ (walk shift (2 ^ (spot .exponent)) coeffMap (spotCells spot list) 0 firstPrev count (drop start symbols) start log₀ grid₀) stop log₀ grid₀ count firstPrev 0
   sparse-start r d stop p q l =
@@ -54,7 +54,7 @@ module _ {spot : Spot} {list symbols : List ℕ} {start : ℕ} {coeffMap : List 
     sparse-done h =
         ends _ _ _ (walk-done shift (2 ^ (spot .exponent)) coeffMap (spotCells spot list) symbols k prev left (start + k) log grid (omega (arith, h, places-count (spot .turn) (spot .width) (spot .x) (spot .y) list))) (s .same)
 
-    module _ {count firstPrev : ℕ} (r : Ready spot list start count firstPrev (length coeffMap) shift (length log₀)) where
+    module _ {count firstPrev : ℕ} (r : WalkReady spot list start count firstPrev (length coeffMap) shift (length log₀)) where
       pub sparse-ends : stop ≤ k → k < length list / 2 → (left ≡ 0 → ⊥) → WalkShown (Stopped (SymbolsEnd (start + k))) log grid whole
       sparse-ends e h n =
           let b = s .below in

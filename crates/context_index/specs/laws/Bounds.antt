@@ -1,4 +1,4 @@
--- Bounds on block contexts: the index stays below 39 × bsize, and in a fit record every block context is a cluster.
+-- Bounds on block contexts: the entry stays below 39 × bsize, and in a fit record every block context is below num_block_clusters.
 use mathlib.Core.Path.{_≡_, ap, sym, subst, _∙_}
 use mathlib.Core.Bool.{Bool, true, false, cond}
 use mathlib.Core.List.{List, [], _∷_}
@@ -18,7 +18,7 @@ use borrow.Author.Tests.{lt-ltb, le-ltb}
 use Rattle.laws.specs.laws.Cases.{le-or-lt}
 use Rattle.context_record.specs.declared.HfBlockContext.{HfBlockContext}
 use Rattle.context_record.specs.laws.Bounds.{is-fit, fit-byte}
-use Rattle.context_index.specs.Contexts.{Contexts, sizeOf, lfSize, greater, above, qfIndex, lfIndexIn, lfIndex, lfIndexOf, entryOf, entryIn, blockContext, bsize}
+use Rattle.context_index.specs.Contexts.{Contexts, lfSizeOf, lfSize, greater, above, qfIndex, lfIndexIn, lfIndex, lfIndexOf, entryOf, entryIn, blockContext, bsize}
 use Rattle.context_index.specs.Lists.{inUse}
 use Rattle.context_record.specs.Record.{bsizeOf, fit}
 
@@ -31,21 +31,21 @@ unfolding above
 above-le [] q = omega arith
 above-le (t ∷ ts) q = more (greater q t) (above-le ts q)
 
-pub qf-index-lt : (C : Contexts) (hfMul : ℕ) → qfIndex C hfMul < length (C .qf) + 1
-qf-index-lt C hfMul = omega (arith, above-le (C .qf) hfMul)
+pub qf-index-lt : (C : Contexts) (hfMul : ℕ) → qfIndex C hfMul < length (C .qfThresholds) + 1
+qf-index-lt C hfMul = omega (arith, above-le (C .qfThresholds) hfMul)
 
 swap : (a b c : ℕ) → a * c * b ≡ a * b * c
 swap a b c = mul-assoc a c b ∙ ap (λ (n : ℕ). a * n) (mul-comm c b) ∙ sym (mul-assoc a b c)
 
 pub lf-index-lt : (C : Contexts) (q0 q1 q2 : ℕ) → lfIndex C q0 q1 q2 < lfSize C
-unfolding lfIndexIn sizeOf
+unfolding lfIndexIn lfSizeOf
 lf-index-lt C q0 q1 q2 =
-    subst (λ (n : ℕ). lfIndex C q0 q1 q2 < n) (swap (length (C .lf0) + 1) (length (C .lf1) + 1) (length (C .lf2) + 1))
+    subst (λ (n : ℕ). lfIndex C q0 q1 q2 < n) (swap (length (C .lfThresholds0) + 1) (length (C .lfThresholds1) + 1) (length (C .lfThresholds2) + 1))
     (digits-lt
-    (digits-lt {q = above (C .lf0) q0} {m = length (C .lf0) + 1} {r = above (C .lf2) q2} {c = length (C .lf2) + 1}
-    (omega (arith, above-le (C .lf0) q0))
-    (omega (arith, above-le (C .lf2) q2)))
-    (omega (arith, above-le (C .lf1) q1)))
+    (digits-lt {q = above (C .lfThresholds0) q0} {m = length (C .lfThresholds0) + 1} {r = above (C .lfThresholds2) q2} {c = length (C .lfThresholds2) + 1}
+    (omega (arith, above-le (C .lfThresholds0) q0))
+    (omega (arith, above-le (C .lfThresholds2) q2)))
+    (omega (arith, above-le (C .lfThresholds1) q1)))
 
 lf-size-pos : (C : Contexts) → 0 < lfSize C
 lf-size-pos C = omega (arith, lf-index-lt C 0 0 0)
@@ -55,13 +55,13 @@ lf-index-of-lt C true q0 q1 q2 = lf-index-lt C q0 q1 q2
 lf-index-of-lt C false q0 q1 q2 = lf-size-pos C
 
 -- the index of any varblock lies in the used part of the map
-pub entry-lt : (C : Contexts) (n order qf lf : ℕ) → n < 3 → order < 13 → qf < length (C .qf) + 1 → lf < lfSize C
+pub entry-lt : (C : Contexts) (n order qf lf : ℕ) → n < 3 → order < 13 → qf < length (C .qfThresholds) + 1 → lf < lfSize C
     → entryIn C n order qf lf < 39 * bsize C
-unfolding entryOf sizeOf bsizeOf
+unfolding entryOf lfSizeOf bsizeOf
 entry-lt C n order qf lf hn ho hq hl =
     subst (λ (m : ℕ). entryIn C n order qf lf < m)
-    (mul-assoc 39 (length (C .qf) + 1) (lfSize C) ∙ ap (λ (m : ℕ). 39 * m) (mul-comm (length (C .qf) + 1) (lfSize C)))
-    (digits-lt (digits-lt {q = n * 13 + order} {m = 39} {r = qf} {c = length (C .qf) + 1} (omega arith) hq) hl)
+    (mul-assoc 39 (length (C .qfThresholds) + 1) (lfSize C) ∙ ap (λ (m : ℕ). 39 * m) (mul-comm (length (C .qfThresholds) + 1) (lfSize C)))
+    (digits-lt (digits-lt {q = n * 13 + order} {m = 39} {r = qf} {c = length (C .qfThresholds) + 1} (omega arith) hq) hl)
 
 pub block-entry-lt : (C : Contexts) (n order hfMul : ℕ) (there : Bool) (q0 q1 q2 : ℕ) → n < 3 → order < 13
     → entryIn C n order (qfIndex C hfMul) (lfIndexOf C there q0 q1 q2) < 39 * bsize C
@@ -101,7 +101,7 @@ in-use-size-le R =
     (mul-le-mul (mul-le-mul (take-le _ (take 15 (R .«lf_thresholds»))) (take-le _ (take 15 (drop 15 (R .«lf_thresholds»))))) (take-le _ (take 15 (drop 30 (R .«lf_thresholds»)))))
     (take-le _ (R .«qf_thresholds»))
 
--- the block context of any varblock is one of the record's clusters
+-- the block context of any varblock is below the record's num_block_clusters
 pub context-lt : (R : HfBlockContext) (n order hfMul : ℕ) (there : Bool) (q0 q1 q2 : ℕ) → fit R ≡ true → n < 3 → order < 13
     → blockContext (inUse R) n order hfMul there q0 q1 q2 < R .«num_block_clusters»
 context-lt R n order hfMul there q0 q1 q2 e hn ho =

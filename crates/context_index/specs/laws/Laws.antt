@@ -10,7 +10,7 @@ use lib.ListN.{length, getD, take, drop, length-take, length-drop, drop-of-lengt
 use mathlib.Core.Logic.{⊎-elim}
 use Rattle.laws.specs.laws.Cases.{le-or-lt}
 use lib.Seq.{take-all, take-take, drop-cons, getD-take, getD-drop}
-use Rattle.context_index.specs.Contexts.{Contexts, greater, above, lfIndexIn, sizeOf, lfSize, qfIndex, lfIndexOf, entryOf}
+use Rattle.context_index.specs.Contexts.{Contexts, greater, above, lfIndexIn, lfSizeOf, lfSize, qfIndex, lfIndexOf, entryOf}
 use Rattle.context_index.specs.laws.Contexts.{blockContexts}
 use Rattle.context_index.specs.Lists.{lfList}
 
@@ -80,16 +80,16 @@ module _ (xs : List ℕ) (n0 n1 n2 q0 q1 q2 i0 i1 i2 s1 s2 : ℕ) (long : 45 ≤
       rw (part-length xs 15 n1 (omega arith), part-length xs 30 n2 (omega arith), e0, e1, e2, f1, f2)
 
 pub lf-size-is : (xs : List ℕ) (n0 n1 n2 : ℕ) → 45 ≤ length xs
-    → sizeOf (lfList xs 0 n0) (lfList xs 1 n1) (lfList xs 2 n2) ≡ (min n0 15 + 1) * (min n1 15 + 1) * (min n2 15 + 1)
-unfolding sizeOf
+    → lfSizeOf (lfList xs 0 n0) (lfList xs 1 n1) (lfList xs 2 n2) ≡ (min n0 15 + 1) * (min n1 15 + 1) * (min n2 15 + 1)
+unfolding lfSizeOf
 lf-size-is xs n0 n1 n2 long =
     rw (part-length xs 0 n0 (omega arith), part-length xs 15 n1 (omega arith), part-length xs 30 n2 (omega arith))
 
 -- the three block contexts of a varblock, by the sizes that the code computes
 module _ (C : Contexts) (order hfMul : ℕ) (there : Bool) (q0 q1 q2 : ℕ) (qfs lfs qf lf a b c : ℕ) where
-  pub contexts-are : qfs ≡ length (C .qf) + 1 → lfs ≡ lfSize C → qf ≡ qfIndex C hfMul → lf ≡ lfIndexOf C there q0 q1 q2
-      → a ≡ getD (C .map) (entryOf qfs lfs 0 order qf lf) 0
-      → b ≡ getD (C .map) (entryOf qfs lfs 1 order qf lf) 0
-      → c ≡ getD (C .map) (entryOf qfs lfs 2 order qf lf) 0
+  pub contexts-are : qfs ≡ length (C .qfThresholds) + 1 → lfs ≡ lfSize C → qf ≡ qfIndex C hfMul → lf ≡ lfIndexOf C there q0 q1 q2
+      → a ≡ getD (C .contextMap) (entryOf qfs lfs 0 order qf lf) 0
+      → b ≡ getD (C .contextMap) (entryOf qfs lfs 1 order qf lf) 0
+      → c ≡ getD (C .contextMap) (entryOf qfs lfs 2 order qf lf) 0
       → a ∷ b ∷ c ∷ [] ≡ blockContexts C order hfMul there q0 q1 q2
   contexts-are e f g h x y z = rw (x, y, z, e, f, g, h)

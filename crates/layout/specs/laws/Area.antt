@@ -1,4 +1,4 @@
--- The areas of a valid layout's rectangles sum to the grid's: the columns' covered heights grow by each area.
+-- The areas of a valid layout's rectangles sum to the grid's: the covered heights at its x's grow by each area.
 use mathlib.Core.Path.{_≡_, refl, _∙_}
 use mathlib.Core.Bool.{Bool, true, false, cond}
 use mathlib.Core.Logic.{_⊎_, inl, inr}
@@ -12,7 +12,7 @@ use lib.Seq.{getD-set-other}
 use borrow.Author.Tests.{le-leb, lt-leb}
 use Rattle.layout.specs.Kinds.{wideOf, highOf}
 use Rattle.layout.specs.laws.Kinds.{wide-sized, high-sized}
-use Rattle.layout.specs.Walk.{cells, rows, rowByRow}
+use Rattle.layout.specs.Walk.{alongRow, rows, rowByRow}
 use Rattle.layout.specs.laws.Walk.{beside}
 use Rattle.laws.specs.laws.Cases.{eq-or-ne}
 use Rattle.layout.specs.laws.Stretch.{Place, left, inside, right, place}
@@ -173,8 +173,8 @@ module _ (bw bh : ℕ) (K M : Cells) where
   one-cell x y true l e = refl
   one-cell x y false l e = omega arith
 
-  row-area : (n x y s : ℕ) (l : List Varblock) → cells (add K) n x y s + area l ≡ s + area (cornersRow K M n x y l)
-  unfolding cells cornersRow cellArea
+  row-area : (n x y s : ℕ) (l : List Varblock) → alongRow (add K) n x y s + area l ≡ s + area (cornersRow K M n x y l)
+  unfolding alongRow cornersRow cellArea
   row-area zero x y s l = refl
   row-area (suc n) x y s l =
       let ih = row-area n (x + 1) y (s + cellArea (K x y)) l in
@@ -185,7 +185,7 @@ module _ (bw bh : ℕ) (K M : Cells) where
   unfolding rows cornersFrom area
   rows-area zero y s = omega arith
   rows-area (suc n) y s =
-      let ih = rows-area n (y + 1) (cells (add K) bw 0 y s) in
+      let ih = rows-area n (y + 1) (alongRow (add K) bw 0 y s) in
       let e = row-area bw 0 y s (cornersFrom K M bw n (y + 1)) in
       omega arith
 

@@ -4,7 +4,7 @@ use mathlib.Core.Path.{_≡_, refl}
 use mathlib.Core.Bool.{false}
 use mathlib.Core.List.{[], _∷_}
 use Rattle.dct_select.specs.Transforms.{TRANSFORMS, wide, high}
-use Rattle.layout.specs.Walk.{cells, rows}
+use Rattle.layout.specs.Walk.{alongRow, rows}
 use Rattle.laws.specs.Lists.{fillFrom}
 use Rattle.layout.specs.Check.{clear, fitting, visitCell, checkRun, isLayout}
 use Rattle.layout.specs.Varblocks.{varblocksOf, area, cornersRow, cornersFrom}
@@ -14,5 +14,5 @@ unfolding area cornersRow cornersFrom wide high TRANSFORMS
 areas-equal = refl
 
 pub no-cover : isLayout 2 2 (9 ∷ 8 ∷ 1 ∷ 1 ∷ []) (1 ∷ 1 ∷ 0 ∷ 0 ∷ []) ≡ false
-unfolding checkRun visitCell fitting clear fillFrom rows cells wide high TRANSFORMS
+unfolding checkRun visitCell fitting clear fillFrom rows alongRow wide high TRANSFORMS
 no-cover = refl

@@ -1,7 +1,7 @@
 -- A walk as two nested loops go: what is left from a row, and from a cell, on.
 use mathlib.Core.Path.{_≡_, ap, sym, _∙_}
 use Prim.Native.Nat.{ℕ, _+_, _-_, _≤_, _<_}
-use Rattle.layout.specs.Walk.{cells, rows, rowByRow}
+use Rattle.layout.specs.Walk.{alongRow, rows, rowByRow}
 use Rattle.layout.specs.laws.WalkSteps.{cells-step, cells-end, rows-step, rows-end, rows-start, cells-stuck, rows-stuck}
 
 module _ {S : Type 0} (f : ℕ → ℕ → S → S) (w h : ℕ) where
@@ -9,7 +9,7 @@ module _ {S : Type 0} (f : ℕ → ℕ → S → S) (w h : ℕ) where
   rowsLeft y s = rows f w (h - y) y s
 
   abbrev pub cellsLeft : ℕ → ℕ → S → S
-  cellsLeft y x s = rows f w (h - (y + 1)) (y + 1) (cells f (w - x) x y s)
+  cellsLeft y x s = rows f w (h - (y + 1)) (y + 1) (alongRow f (w - x) x y s)
 
   pub loop-start : (s : S) → rowByRow f w h s ≡ rowsLeft 0 s
   loop-start s = rows-start f w h s
@@ -20,7 +20,7 @@ module _ {S : Type 0} (f : ℕ → ℕ → S → S) (w h : ℕ) where
   pub loop-next : (y x : ℕ) (s t : S) → x < w → t ≡ f x y s → cellsLeft y x s ≡ cellsLeft y (x + 1) t
   loop-next y x s t l e =
       ap (λ (r : S). rows f w (h - (y + 1)) (y + 1) r) (cells-step f w x y s l)
-      ∙ ap (λ (r : S). rows f w (h - (y + 1)) (y + 1) (cells f (w - (x + 1)) (x + 1) y r)) (sym e)
+      ∙ ap (λ (r : S). rows f w (h - (y + 1)) (y + 1) (alongRow f (w - (x + 1)) (x + 1) y r)) (sym e)
 
   -- a state that every cell leaves as it is
   pub loop-stop : (y x : ℕ) (s t : S) → ((a b : ℕ) → f a b t ≡ t) → x < w → t ≡ f x y s → cellsLeft y x s ≡ t

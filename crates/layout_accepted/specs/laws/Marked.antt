@@ -6,7 +6,7 @@ use lib.ListN.{replicate}
 use lib.Ieee.{le, lt, eq}
 use Rattle.refusal.specs.Said.{saidAt}
 use Rattle.dct_select.specs.Transforms.{TRANSFORMS, wide, high}
-use Rattle.layout.specs.Walk.{cells, rows}
+use Rattle.layout.specs.Walk.{alongRow, rows}
 use Rattle.layout.specs.Varblocks.{varblock, varblocksOf, area, cornersRow, cornersFrom}
 use Rattle.layout_sizes.specs.Blocks.{bwIn, bhIn}
 use Rattle.layout_filter.specs.declared.Filter.the-variants.{On}
@@ -20,7 +20,7 @@ use Rattle.layout_accepted.specs.Marked.{off}
 
 -- what opens for a layout call to be computed
 unfoldable pub layout-computes : Bool
-unfolding layoutOf bwIn bhIn inLimits le lt eq reading column place scan takeCell rows cells wide high TRANSFORMS scaledBy dividedBy
+unfolding layoutOf bwIn bhIn inLimits le lt eq reading column place scan takeCell rows alongRow wide high TRANSFORMS scaledBy dividedBy
 layout-computes = true
 
 -- M4: the lister's layout, columns (6,4) (0,0) (0,2) on 16 x 16 pixels

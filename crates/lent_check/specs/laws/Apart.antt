@@ -1,4 +1,4 @@
--- Placing further on and closing a column do not touch each other.
+-- Placing further on and closing an x do not touch each other.
 use mathlib.Core.Path.{_≡_, refl, ap, _∙_}
 use mathlib.Core.Bool.{Bool, true, false, _&&_}
 use mathlib.Core.List.{List}
@@ -8,7 +8,7 @@ use lib.Dec.{ltb, leb, eqb}
 use lib.ListN.{getD, set}
 use lib.Seq.{set-comm, getD-set-other}
 use Rattle.layout.specs.Kinds.{wideOf, highOf}
-use Rattle.layout.specs.Walk.{cells}
+use Rattle.layout.specs.Walk.{alongRow}
 use Rattle.laws.specs.Lists.{fillFrom}
 use Rattle.layout.specs.laws.Grid.{fill-left}
 use Rattle.layout.specs.Valid.{Cells}
@@ -61,7 +61,7 @@ module _ (bw bh : ℕ) (K : Cells) (x y : ℕ) where
       go true e false f = rw (e, f, e)
       go false e b f = inner (fits d) refl b f e
 
-  pub swap : (n j : ℕ) (s : Covering) → x < j → close K x y (cells (place bw bh K) n j y s) ≡ cells (place bw bh K) n j y (close K x y s)
-  unfolding cells
+  pub swap : (n j : ℕ) (s : Covering) → x < j → close K x y (alongRow (place bw bh K) n j y s) ≡ alongRow (place bw bh K) n j y (close K x y s)
+  unfolding alongRow
   swap zero j s h = refl
-  swap (suc n) j s h = swap n (j + 1) (place bw bh K j y s) (omega arith) ∙ ap (cells (place bw bh K) n (j + 1) y) (swap-cell j s h)
+  swap (suc n) j s h = swap n (j + 1) (place bw bh K j y s) (omega arith) ∙ ap (alongRow (place bw bh K) n (j + 1) y) (swap-cell j s h)

@@ -1,4 +1,4 @@
--- Columns claimed one by one, where all of them are clear.
+-- X's claimed one by one, where all of them are clear.
 use mathlib.Core.Path.{_≡_, refl, ap, sym, _∙_}
 use mathlib.Core.Bool.{Bool, true, false, _&&_, cond}
 use mathlib.Core.Logic.{⊎-elim}
@@ -37,7 +37,7 @@ module _ (d : List ℕ) (i e v : ℕ) where
     pub claim-next : getD d i 0 ≤ 0 → claimed d i (e - i) v ≡ claimed (set d i v) (i + 1) (e - (i + 1)) v
     claim-next l = rw (clear-step d 0 i e h, le-leb (getD d i 0) 0 l, fill-step d i e v h, clear-set d i v 0 (i + 1) (e - (i + 1)) (omega arith))
 
--- The first columns, n of which are claimed, without a branch: the others keep what they have. The most depth that was met tells whether one was covered.
+-- The first x's, n of which are claimed, without a branch: the others keep what they have. The most depth that was met tells whether one was covered.
 module _ (x n v : ℕ) where
   abbrev pub claiming : ℕ → ℕ → List ℕ → Covering
   claiming found i d = cond (eqb found 0) (claimed d (x + i) (n - i) v) Fault
@@ -85,7 +85,7 @@ module _ (x n v : ℕ) where
         (λ (h : i < n). rw (lt-ltb i n h) (⊎-elim (passed h) (stopped h) (le-or-lt (getD d (x + i) 0) 0)))
         (le-or-lt n i)
 
-  -- what the result over the first columns says
+  -- what the result over the first x's says
   pub first-good : (r : Bool) (s t : Covering) → cond r s Fault ≡ t → r ≡ true → t ≡ s
   first-good r s t e h = sym (rw h at e)
 

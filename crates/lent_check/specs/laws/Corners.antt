@@ -10,7 +10,7 @@ use borrow.Author.Tests.{leb-true, leb-false}
 use Rattle.dct_select.specs.LookUp.{sides}
 use Rattle.dct_select.specs.Transforms.{row, TRANSFORMS, wide, high}
 use Rattle.layout.specs.Kinds.{wideOf, highOf}
-use Rattle.lent_sides.specs.laws.Sizes.{widths, heights, wide-at, high-at, sizeBy, size-large, size-known}
+use Rattle.lent_sides.specs.laws.Sizes.{WIDES, HIGHS, wide-at, high-at, sizeBy, size-large, size-known}
 
 -- an unknown transform has no blocks
 size-beyond : (t : ℕ) → 27 ≤ t → sides 0 0 ≡ sides (wide t) (high t)
@@ -18,7 +18,7 @@ unfolding wide high TRANSFORMS
 size-beyond t h = rw (List·getD-eq-default TRANSFORMS (row 0 0 0) {n = t} h)
 
 -- from the tables of the transforms a corner has its varblock's sides
-pub size-corner : (ws hs : List ℕ) (kind : ℕ) → ws ≡ widths → hs ≡ heights → 2 ≤ kind → sizeBy ws hs kind ≡ sides (wideOf kind) (highOf kind)
+pub size-corner : (ws hs : List ℕ) (kind : ℕ) → ws ≡ WIDES → hs ≡ HIGHS → 2 ≤ kind → sizeBy ws hs kind ≡ sides (wideOf kind) (highOf kind)
 size-corner ws hs kind e f h = go (leb kind 28) refl
   where
     go : (b : Bool) → leb kind 28 ≡ b → sizeBy ws hs kind ≡ sides (wideOf kind) (highOf kind)

@@ -1,4 +1,4 @@
--- The check by depths, for code: of each column how many rows are covered from the walk's row on, in place of the row up to which it is.
+-- The check by depths, for code: of each x how many rows are covered from the walk's row on, in place of the row up to which it is.
 use mathlib.Core.Path.{_≡_, refl, ap, sym, _∙_}
 use mathlib.Core.Bool.{Bool, true, false, _&&_, cond}
 use mathlib.Core.Logic.{_⊎_, inl, inr, ⊎-elim}
@@ -11,7 +11,7 @@ use lib.Seq.{getD-set-same, getD-set-other}
 use borrow.Author.Tests.{lt-ltb, le-ltb, le-leb, lt-leb, eq-eqb, ne-eqb}
 use Rattle.laws.specs.laws.Cases.{eq-or-ne, le-or-lt}
 use Rattle.layout.specs.Kinds.{wideOf, highOf}
-use Rattle.layout.specs.Walk.{cells, rows}
+use Rattle.layout.specs.Walk.{alongRow, rows}
 use Rattle.laws.specs.Lists.{fillFrom}
 use Rattle.layout.specs.Grid.{blockAt}
 use Rattle.layout.specs.laws.Grid.{length-fill, fill-left, fill-in, fill-right}
@@ -20,7 +20,7 @@ use Rattle.layout.specs.Check.{Covering, Fault, Until, passes, clear, fitting, 
 use Rattle.layout.specs.laws.CheckLaws.{fitting-fits, visit-not-one, visit-one, visit-small, visit-unfit, visit-unclear, visit-raised}
 use Rattle.lent_check.specs.laws.Sorts.{wide-some}
 
--- the check at a cell, over depths (a covering's list holds these here); the column's depth counts from the next row on then
+-- the check at a cell, over depths (a covering's list holds these here); the x's depth counts from the next row on then
 unfoldable pub visitDepth : ℕ → ℕ → ℕ → ℕ → ℕ → ℕ → List ℕ → Covering
 visitDepth bw bh k m x y d =
     cond (ltb 0 (getD d x 0))
@@ -58,7 +58,7 @@ module _ (bw bh k m x y : ℕ) (d : List ℕ) where
   unfolding visitDepth
   depth-raised h l e f = rw (le-ltb 0 (getD d x 0) h, le-leb 2 k l, e, f)
 
--- Depths of the columns before x from the row behind y on, of the others from y on.
+-- Depths of the x's before x from the row behind y on, of the others from y on.
 pub record Depths (bw x y : ℕ) (u d : List ℕ) : Type 0 where
   pub wideU : bw ≤ length u
   pub wideD : bw ≤ length d
@@ -165,8 +165,8 @@ module _ (bw bh : ℕ) (K M : Cells) where
   step-alike x y (Until u) Fault i a = absurd a
   step-alike x y (Until u) (Until d) i a = cell-alike bw bh (K x y) (M x y) x y u d i a
 
-  cells-alike : (n x y : ℕ) (s t : Covering) → x + n ≡ bw → Alike bw x y s t → Alike bw bw y (cells (visit bw bh K M) n x y s) (cells (visitDepths bw bh K M) n x y t)
-  unfolding cells
+  cells-alike : (n x y : ℕ) (s t : Covering) → x + n ≡ bw → Alike bw x y s t → Alike bw bw y (alongRow (visit bw bh K M) n x y s) (alongRow (visitDepths bw bh K M) n x y t)
+  unfolding alongRow
   cells-alike zero x y s t e a = let q : x ≡ bw = omega arith in rw q at a
   cells-alike (suc n) x y s t e a = cells-alike n (x + 1) y (visit bw bh K M x y s) (visitDepths bw bh K M x y t) (omega arith) (step-alike x y s t (omega arith) a)
 
@@ -186,11 +186,11 @@ module _ (bw bh : ℕ) (K M : Cells) where
   unfolding rows
   rows-alike zero y s t a = passes-alike y s t a
   rows-alike (suc n) y s t a =
-      let s′ = cells (visit bw bh K M) bw 0 y s in
-      let t′ = cells (visitDepths bw bh K M) bw 0 y t in
+      let s′ = alongRow (visit bw bh K M) bw 0 y s in
+      let t′ = alongRow (visitDepths bw bh K M) bw 0 y t in
       rows-alike n (y + 1) s′ t′ (next-alike y s′ t′ (cells-alike bw 0 y s t (omega arith) a))
 
--- A layout is what the check by depths passes, with room for more columns.
+-- A layout is what the check by depths passes, with room for more x's.
 pub depths-check : (bw bh : ℕ) (kinds hfMul : List ℕ) → bw ≤ 256
     → isLayout bw bh kinds hfMul ≡ passes (rows (visitDepths bw bh (blockAt kinds bw) (blockAt hfMul bw)) bw bh 0 (Until (replicate 259 0)))
 unfolding checkRun

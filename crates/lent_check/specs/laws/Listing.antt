@@ -1,4 +1,4 @@
--- The columns of a row that the first step looks at: their list, as it is made, and the step over it.
+-- The x's of a row that the first step looks at: their list, as it is made, and the step over it.
 use mathlib.Core.Path.{_≡_, refl, ap, sym, _∙_}
 use mathlib.Core.Bool.{Bool, true, false, cond}
 use mathlib.Core.Logic.{_⊎_, inl, inr}
@@ -10,14 +10,14 @@ use lib.ListN.{length, getD, set, take, drop, length-set, drop-of-length-le}
 use lib.Seq.{getD-set-same, getD-set-other, take-set-le, take-suc-set, length-take-le, drop-cons, getD-take}
 use borrow.Author.Tests.{eqb-true}
 use Rattle.laws.specs.laws.Cases.{eq-or-ne}
-use Rattle.layout.specs.Walk.{cells}
+use Rattle.layout.specs.Walk.{alongRow}
 use Rattle.layout.specs.Valid.{Cells}
 use Rattle.layout.specs.Check.{Covering, Fault, Until}
 use Rattle.layout.specs.laws.WalkSteps.{left-suc}
 use Rattle.lent_check.specs.laws.Sorts.{largerOf, larger-flag}
 use Rattle.lent_check.specs.laws.Steps.{placeCell, place, place-plain}
 
--- the flag of a column: 1 where it is looked at
+-- the flag of an x: 1 where it is looked at
 abbrev pub flagAt : Cells → ℕ → ℕ → ℕ
 flagAt K y x = largerOf (K x y)
 
@@ -31,7 +31,7 @@ unfolding looked
 looked-same f g zero x e = refl
 looked-same f g (suc n) x e = rw (e x (omega arith) (omega arith), looked-same f g n (x + 1) (λ i h l. e i (omega arith) (omega arith)))
 
--- a list's first n places hold these columns
+-- a list's first n places hold these x's
 pub record Listed (l : List ℕ) (n : ℕ) (list : List ℕ) : Type 0 where
   pub count : length l ≡ n
   pub room : n ≤ 256
@@ -48,10 +48,10 @@ looked-below f (suc n) x i h = go (eqb (f x) 0) i (λ j k. looked-below f n (x +
     go false zero f h = omega arith
     go false (suc i) f h = let k = f i (omega arith) in omega arith
 
-pub column-below : (f : ℕ → ℕ) (bw i n : ℕ) (list : List ℕ) → Listed (looked f bw 0) n list → i < n → getD list i 0 < bw
-column-below f bw i n list s h = let c = s .count in let e = s .same i h in let k = looked-below f bw 0 i (omega arith) in omega arith
+pub x-below : (f : ℕ → ℕ) (bw i n : ℕ) (list : List ℕ) → Listed (looked f bw 0) n list → i < n → getD list i 0 < bw
+x-below f bw i n list s h = let c = s .count in let e = s .same i h in let k = looked-below f bw 0 i (omega arith) in omega arith
 
--- a list of flags: 0 or 1 for each column
+-- a list of flags: 0 or 1 for each x
 abbrev pub Flags : ℕ → List ℕ → Type 0
 Flags bw flags = (i : ℕ) → i < bw → getD flags i 0 ≤ 1
 
@@ -72,7 +72,7 @@ flagged-next K y x v flags r e s i h = go (eq-or-ne i x)
 pub listed-row : (K : Cells) (y bw n : ℕ) (flags list : List ℕ) → Flagged K y bw flags → Listed (looked (λ (x : ℕ). getD flags x 0) bw 0) n list → Listed (looked (flagAt K y) bw 0) n list
 listed-row K y bw n flags list e s = rw (looked-same (λ (x : ℕ). getD flags x 0) (flagAt K y) bw 0 (λ i h l. e i (omega arith))) at s
 
--- the list as it is made: the columns before x are in it, n of them
+-- the list as it is made: the x's before x are in it, n of them
 module _ (f : ℕ → ℕ) (bw : ℕ) where
   abbrev pub Listing : ℕ → ℕ → List ℕ → Type 0
   Listing n x list = (n ≤ x) × (x ≤ bw) × (length list ≡ 256) × (take n list ++ looked f (bw - x) x ≡ looked f bw 0)
@@ -106,14 +106,14 @@ module _ (f : ℕ → ℕ) (bw : ℕ) where
       let e : take n list ≡ looked f bw 0 = sym (append-nil (take n list)) ∙ ap (λ (m : ℕ). take n list ++ looked f m x) (sym z) ∙ s .3 in
       record { count = ap length (sym e) ∙ length-take-le n list (omega (arith, s .0, s .1, s .2)); room = omega (arith, s .0, s .1); same = λ i k. sym (getD-take n list i 0 k) ∙ ap (λ (l : List ℕ). getD l i 0) e }
 
--- The first step over the listed columns.
+-- The first step over the listed x's.
 abbrev pub placeAll : ℕ → ℕ → Cells → ℕ → List ℕ → Covering → Covering
 placeAll bw bh K y [] s = s
 placeAll bw bh K y (x ∷ l) s = placeAll bw bh K y l (place bw bh K x y s)
 
 module _ (bw bh : ℕ) (K : Cells) (y : ℕ) where
-  place-looked : (n x : ℕ) (s : Covering) → cells (place bw bh K) n x y s ≡ placeAll bw bh K y (looked (flagAt K y) n x) s
-  unfolding cells looked
+  place-looked : (n x : ℕ) (s : Covering) → alongRow (place bw bh K) n x y s ≡ placeAll bw bh K y (looked (flagAt K y) n x) s
+  unfolding alongRow looked
   place-looked zero x s = refl
   place-looked (suc n) x s = go (eqb (largerOf (K x y)) 0) refl (λ s. place-looked n (x + 1) s)
     where
@@ -121,16 +121,16 @@ module _ (bw bh : ℕ) (K : Cells) (y : ℕ) where
       still e Fault = refl
       still e (Until d) = place-plain bw bh (K x y) x y d (eqb-true (largerOf (K x y)) 0 e)
 
-      go : (b : Bool) → eqb (largerOf (K x y)) 0 ≡ b → ((s : Covering) → cells (place bw bh K) n (x + 1) y s ≡ placeAll bw bh K y (looked (flagAt K y) n (x + 1)) s)
-          → cells (place bw bh K) n (x + 1) y (place bw bh K x y s) ≡ placeAll bw bh K y (cond b (looked (flagAt K y) n (x + 1)) (x ∷ looked (flagAt K y) n (x + 1))) s
-      go true e f = ap (cells (place bw bh K) n (x + 1) y) (still e s) ∙ f s
+      go : (b : Bool) → eqb (largerOf (K x y)) 0 ≡ b → ((s : Covering) → alongRow (place bw bh K) n (x + 1) y s ≡ placeAll bw bh K y (looked (flagAt K y) n (x + 1)) s)
+          → alongRow (place bw bh K) n (x + 1) y (place bw bh K x y s) ≡ placeAll bw bh K y (cond b (looked (flagAt K y) n (x + 1)) (x ∷ looked (flagAt K y) n (x + 1))) s
+      go true e f = ap (alongRow (place bw bh K) n (x + 1) y) (still e s) ∙ f s
       go false e f = f (place bw bh K x y s)
 
   all-fault : (l : List ℕ) → placeAll bw bh K y l Fault ≡ Fault
   all-fault [] = refl
   all-fault (x ∷ l) = all-fault l
 
-  pub place-start : (d : List ℕ) → cells (place bw bh K) bw 0 y (Until d) ≡ placeAll bw bh K y (drop 0 (looked (flagAt K y) bw 0)) (Until d)
+  pub place-start : (d : List ℕ) → alongRow (place bw bh K) bw 0 y (Until d) ≡ placeAll bw bh K y (drop 0 (looked (flagAt K y) bw 0)) (Until d)
   place-start d = place-looked bw 0 (Until d)
 
   pub place-end : (i : ℕ) (l d : List ℕ) → length l ≤ i → placeAll bw bh K y (drop i l) (Until d) ≡ Until d

@@ -1,4 +1,4 @@
--- A row of the check in two steps: first every corner of more than one block is placed, then every column closed.
+-- A row of the check in two steps: first every corner of more than one block is placed, then every x closed.
 use mathlib.Core.Path.{_≡_, refl, ap, sym, _∙_}
 use mathlib.Core.Bool.{Bool, true, false, _&&_, cond}
 use mathlib.Core.List.{List}
@@ -7,7 +7,7 @@ use native.Mathlib.Omega.{arith}
 use lib.Dec.{ltb, leb, eqb}
 use lib.ListN.{length, getD, set, length-set, replicate}
 use Rattle.layout.specs.Kinds.{wideOf, highOf}
-use Rattle.layout.specs.Walk.{cells, rows}
+use Rattle.layout.specs.Walk.{alongRow, rows}
 use Rattle.laws.specs.Lists.{fillFrom}
 use Rattle.layout.specs.Grid.{blockAt}
 use Rattle.layout.specs.laws.Grid.{length-fill}
@@ -20,7 +20,7 @@ use Rattle.lent_check.specs.laws.Depths.{visitDepths, depths-check}
 use Rattle.lent_check.specs.laws.Steps.{placeCell, place, closeCell, close, visit-steps}
 use Rattle.lent_check.specs.laws.Apart.{swap}
 
--- enough columns
+-- enough x's
 abbrev pub Wide : ℕ → Covering → Type 0
 Wide bw Fault = Unit
 Wide bw (Until d) = bw ≤ length d
@@ -46,33 +46,33 @@ module _ (bw bh : ℕ) (K : Cells) (y : ℕ) where
       go false = omega (arith, length-set d x (getD d x 0 - 1))
 
   abbrev pub Row : Covering → Covering
-  Row s = cells (close K) bw 0 y (cells (place bw bh K) bw 0 y s)
+  Row s = alongRow (close K) bw 0 y (alongRow (place bw bh K) bw 0 y s)
 
   pub row-wide : (s : Covering) → Wide bw s → Wide bw (Row s)
-  unfolding cells
+  unfolding alongRow
   row-wide s r = closed bw 0 _ (placed bw 0 s r)
     where
-      placed : (n x : ℕ) (s : Covering) → Wide bw s → Wide bw (cells (place bw bh K) n x y s)
+      placed : (n x : ℕ) (s : Covering) → Wide bw s → Wide bw (alongRow (place bw bh K) n x y s)
       placed zero x s r = r
       placed (suc n) x s r = placed n (x + 1) (place bw bh K x y s) (place-wide x s r)
 
-      closed : (n x : ℕ) (s : Covering) → Wide bw s → Wide bw (cells (close K) n x y s)
+      closed : (n x : ℕ) (s : Covering) → Wide bw s → Wide bw (alongRow (close K) n x y s)
       closed zero x s r = r
       closed (suc n) x s r = closed n (x + 1) (close K x y s) (close-wide x s r)
 
-  pub close-fault : (n x : ℕ) → cells (close K) n x y Fault ≡ Fault
+  pub close-fault : (n x : ℕ) → alongRow (close K) n x y Fault ≡ Fault
   close-fault n x = cells-stuck (close K) Fault (λ a b. refl) n x y
 
 module _ (bw bh : ℕ) (K M : Cells) (y : ℕ) (h : y < bh) (sound : (x : ℕ) → x < bw → Sound (K x y) (M x y)) where
-  row-steps : (n x : ℕ) (s : Covering) → x + n ≡ bw → Wide bw s → cells (visitDepths bw bh K M) n x y s ≡ cells (close K) n x y (cells (place bw bh K) n x y s)
-  unfolding cells
+  row-steps : (n x : ℕ) (s : Covering) → x + n ≡ bw → Wide bw s → alongRow (visitDepths bw bh K M) n x y s ≡ alongRow (close K) n x y (alongRow (place bw bh K) n x y s)
+  unfolding alongRow
   row-steps zero x s e r = refl
   row-steps (suc n) x s e r =
       let t = visitDepths bw bh K M x y s in
       let c : t ≡ close K x y (place bw bh K x y s) = one s r in
       row-steps n (x + 1) t (omega arith) (rw c (close-wide bw bh K y x (place bw bh K x y s) (place-wide bw bh K y x s r)))
-      ∙ ap (λ (s : Covering). cells (close K) n (x + 1) y (cells (place bw bh K) n (x + 1) y s)) c
-      ∙ ap (cells (close K) n (x + 1) y) (sym (swap bw bh K x y n (x + 1) (place bw bh K x y s) (omega arith)))
+      ∙ ap (λ (s : Covering). alongRow (close K) n (x + 1) y (alongRow (place bw bh K) n (x + 1) y s)) c
+      ∙ ap (alongRow (close K) n (x + 1) y) (sym (swap bw bh K x y n (x + 1) (place bw bh K x y s) (omega arith)))
     where
       one : (s : Covering) → Wide bw s → visitDepths bw bh K M x y s ≡ close K x y (place bw bh K x y s)
       one Fault r = refl
@@ -96,7 +96,7 @@ module _ (kinds hfMul : List ℕ) (bw bh : ℕ) where
     row-turn =
         let f = visitDepths bw bh (blockAt kinds bw) (blockAt hfMul bw) in
         let e : bw - 0 ≡ bw = omega arith in
-        ap passes (rows-step f bw bh y (Until d) h ∙ ap (λ (n : ℕ). rows f bw (bh - (y + 1)) (y + 1) (cells f n 0 y (Until d))) e
+        ap passes (rows-step f bw bh y (Until d) h ∙ ap (λ (n : ℕ). rows f bw (bh - (y + 1)) (y + 1) (alongRow f n 0 y (Until d))) e
         ∙ ap (rows f bw (bh - (y + 1)) (y + 1)) (row-steps bw bh (blockAt kinds bw) (blockAt hfMul bw) y h (λ x i. sound x y i h) bw 0 (Until d) (omega arith) r))
 
     -- a row that passes, and one that does not

@@ -60,7 +60,7 @@ larger-flag k = go (eqb (withinOf k 1 5 + withinOf k 14 19) 0)
     go true = omega arith
     go false = omega arith
 
--- a corner has a column at least
+-- a corner has an x at least
 pub wide-some : (k : ℕ) → 2 ≤ k → k ≤ 28 → 1 ≤ wideOf k
 wide-some k h l = go (sort k h l)
   where

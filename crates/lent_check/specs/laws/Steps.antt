@@ -1,4 +1,4 @@
--- The check at a cell in two steps, for code: a corner of more than one block is placed, then the column is seen to be covered just once.
+-- The check at a cell in two steps, for code: a corner of more than one block is placed, then the x is seen to be covered just once.
 use mathlib.Core.Path.{_≡_, refl, ap, sym, _∙_}
 use mathlib.Core.Bool.{Bool, true, false, _&&_, cond}
 use mathlib.Core.Logic.{_⊎_, inl, inr, ⊎-elim}
@@ -30,11 +30,11 @@ abbrev pub place : ℕ → ℕ → Cells → ℕ → ℕ → Covering → Coveri
 place bw bh K x y Fault = Fault
 place bw bh K x y (Until d) = placeCell bw bh (K x y) x y d
 
--- 0 for a corner of one block on a clear column and for any other cell on a covered one, else 1
+-- 0 for a corner of one block on a clear x and for any other cell on a covered one, else 1
 unfoldable pub gapOf : ℕ → ℕ → ℕ
 gapOf k v = flagOf (eqb (flagOf (ltb 0 v)) (oneBlock k))
 
--- Second step, at one cell: either a corner of one block or covered; below it the column's depth is one less.
+-- Second step, at one cell: either a corner of one block or covered; below it the x's depth is one less.
 unfoldable pub closeCell : ℕ → ℕ → List ℕ → Covering
 closeCell k x d = cond (eqb (flagOf (ltb 0 (getD d x 0))) (oneBlock k)) Fault (Until (set d x (getD d x 0 - 1)))
 

@@ -3,7 +3,7 @@ use Prim.Native.Nat.{_-_, _≤_}
 use lib.ListN.{length}
 use borrow.Author.Tests.{not-true, not-false}
 use Rattle.dct_select.specs.Transforms.{TRANSFORMS}
-use Rattle.lent_sides.specs.laws.Sizes.{widths, heights}
+use Rattle.lent_sides.specs.laws.Sizes.{WIDES, HIGHS}
 use Rattle.layout.specs.Like.{alikeFrom}
 use Rattle.lent_likeness.specs.laws.LikeSteps.{left, like-start, like-next, like-stop, like-end}
 use borrow.Author.Needs.{needs}
@@ -21,7 +21,7 @@ loop-holds : tie.Need-loop-holds Inv-loop μ-loop
 loop-holds c = let a = c .before .before .before .before .args in (omega arith, like-start (a .kinds .now) (a .hf-mul .now) (a .kinds2 .now) (a .hf-mul2 .now))
 
 alike-cell-requires : tie.Need-alike-cell-requires Inv-loop μ-loop
-unfolding widths heights TRANSFORMS
+unfolding WIDES HIGHS TRANSFORMS
 alike-cell-requires c κs = (refl, refl)
 
 returns : tie.Need-returns Inv-loop μ-loop

@@ -12,18 +12,18 @@ use Rattle.dct_select.specs.declared.Sides.{Sides}
 use Rattle.dct_select.specs.LookUp.{sides}
 
 -- the table of transforms by column
-unfoldable pub widths : List ℕ
-widths = map (λ (r : Row). r .wide) TRANSFORMS
+unfoldable pub WIDES : List ℕ
+WIDES = map (λ (r : Row). r .wide) TRANSFORMS
 
-unfoldable pub heights : List ℕ
-heights = map (λ (r : Row). r .high) TRANSFORMS
+unfoldable pub HIGHS : List ℕ
+HIGHS = map (λ (r : Row). r .high) TRANSFORMS
 
-pub wide-at : (t : ℕ) → getD widths t 0 ≡ wide t
-unfolding widths wide
+pub wide-at : (t : ℕ) → getD WIDES t 0 ≡ wide t
+unfolding WIDES wide
 wide-at t = getD-map (λ (r : Row). r .wide) TRANSFORMS t (row 0 0 0)
 
-pub high-at : (t : ℕ) → getD heights t 0 ≡ high t
-unfolding heights high
+pub high-at : (t : ℕ) → getD HIGHS t 0 ≡ high t
+unfolding HIGHS high
 high-at t = getD-map (λ (r : Row). r .high) TRANSFORMS t (row 0 0 0)
 
 -- blocks across and down of a corner's varblock from two lent tables, 0 and 0 for any other kind

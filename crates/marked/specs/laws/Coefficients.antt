@@ -13,7 +13,7 @@ use Rattle.refusal.specs.Said.{said}
 use Rattle.bits.specs.Bits.{Value, readBits, bitsOf, valueOf}
 use Rattle.coded_numbers.specs.Exponent.{exponent, exponentFrom}
 use Rattle.dct_select.specs.Transforms.{TRANSFORMS, wide, high}
-use Rattle.layout.specs.Walk.{cells, rows}
+use Rattle.layout.specs.Walk.{alongRow, rows}
 use Rattle.laws.specs.Lists.{fillFrom}
 use Rattle.layout.specs.Check.{clear, fitting, visitCell, checkRun}
 use Rattle.layout.specs.Varblocks.{cornersRow, cornersFrom}
@@ -45,11 +45,11 @@ square = plain 2 2 (6 ∷ 1 ∷ 1 ∷ 1 ∷ []) (1 ∷ 0 ∷ 0 ∷ 0 ∷ [])
 
 -- The checks before work.
 block-laid : layoutFits block ≡ true
-unfolding checkRun visitCell fitting clear fillFrom rows cells wide high TRANSFORMS
+unfolding checkRun visitCell fitting clear fillFrom rows alongRow wide high TRANSFORMS
 block-laid = refl
 
 square-laid : layoutFits square ≡ true
-unfolding checkRun visitCell fitting clear fillFrom rows cells wide high TRANSFORMS
+unfolding checkRun visitCell fitting clear fillFrom rows alongRow wide high TRANSFORMS
 square-laid = refl
 
 sided : (sidesFit block ≡ true) × (sidesFit square ≡ true)

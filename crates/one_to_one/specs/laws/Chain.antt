@@ -25,7 +25,7 @@ module _ (L : Lent) (given : Given L) where
   passes : checkOf 32 (L .pass .bw) (L .pass .bh) (L .pass .kinds) (L .pass .hfMul) ≡ gives tt
   passes =
       let l = layoutOf (given .inputs) (given .kinds) (given .hfMul) (given .sigma) in
-      let c = cut-checks (bwOf (given .inputs)) (bhOf (given .inputs)) (l .kinds) (l .hfMul) (given .g) (given .outKinds) (given .outHfMul)
+      let c = cut-checks (bwOf (given .inputs)) (bhOf (given .inputs)) (l .kinds) (l .hfMul) (given .index) (given .outKinds) (given .outHfMul)
       (groupOf (L .pass .bw) (L .pass .bh)) (ap (λ o. o .answer) (given .cutting)) in
       rw (given .cutting) at c
 
@@ -36,7 +36,7 @@ module _ (L : Lent) (given : Given L) where
   fixed-by-calls = record {
     sides = limits-in 32 (L .pass .bw) (L .pass .bh) sides-in;
     layout = checked 32 (L .pass .bw) (L .pass .bh) (L .pass .kinds) (L .pass .hfMul) passes .1;
-    contexts = rw (given .record-is) (accepted-fit (given .bytes) (given .areBytes) (given .count) (given .map) (given .bitsRead) (given .contexts));
+    contexts = rw (given .record-is) (accepted-fit (given .contextBytes) (given .areBytes) (given .clusters) (given .contextMap) (given .bitsRead) (given .contexts));
     orders = given .wrote;
     rest = given .rest;
   }

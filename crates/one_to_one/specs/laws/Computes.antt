@@ -13,7 +13,7 @@ use Rattle.coded_numbers.specs.Signed.{unpackSigned, pack, symbol}
 use Rattle.dct_select.specs.Transforms.{TRANSFORMS, wide, high, orderOf, turns}
 use Rattle.order_natural.specs.Places.{paired}
 use Rattle.order_natural.specs.Natural.{natural}
-use Rattle.layout.specs.Walk.{cells, rows}
+use Rattle.layout.specs.Walk.{alongRow, rows}
 use Rattle.layout.specs.Varblocks.{cornersRow, cornersFrom}
 use Rattle.laws.specs.Lists.{fillFrom}
 use Rattle.layout.specs.Grid.{rowOf, gridFrom}
@@ -22,7 +22,7 @@ use Rattle.layout.specs.Check.{clear, fitting, visitCell, checkRun}
 use Rattle.layout_sizes.specs.Blocks.{bwIn, bhIn}
 use Rattle.lent_sides.specs.Limits.{inLimits, lengthsFit}
 use Rattle.lent_cut.specs.Calls.{cutCheck}
-use Rattle.context_index.specs.Contexts.{sizeOf, above, lfIndexIn, entryOf}
+use Rattle.context_index.specs.Contexts.{lfSizeOf, above, lfIndexIn, entryOf}
 use Rattle.context_call.specs.Call.{contextsOf}
 use Rattle.coeff_walk.specs.Walk.{walk, coeffContext, FREQ, NUM-NONZERO}
 use Rattle.coeff_walk.specs.Places.{cellsOf}
@@ -30,11 +30,11 @@ use Rattle.coeff_walk.specs.Item.{counted}
 use Rattle.coeff_group.specs.Group.{PerChannel, readItem, readItems}
 use Rattle.coeff_group.specs.Pass.{itemOf, itemsOf}
 use Rattle.one_to_one.specs.Filling.{isLow, wanted}
-use Rattle.coeff_group.specs.Sequence.{cell, sent, theSequence}
+use Rattle.coeff_group.specs.Sequence.{inCell, sent, theSequence}
 use Rattle.coeff_walk.specs.Sent.{nonZeros, upTo}
 
 unfoldable pub cut-computes : Bool
-unfolding cutCheck inLimits lengthsFit bwIn bhIn groupX groupY checkRun rows cells visitCell fitting clear wide high TRANSFORMS fillFrom cut gridFrom rowOf
+unfolding cutCheck inLimits lengthsFit bwIn bhIn groupX groupY checkRun rows alongRow visitCell fitting clear wide high TRANSFORMS fillFrom cut gridFrom rowOf
 cut-computes = true
 
 unfoldable pub bits-compute : Bool
@@ -46,7 +46,7 @@ unfolding itemsOf itemOf cellsOf paired natural cornersRow cornersFrom orderOf t
 items-compute = true
 
 unfoldable pub reading-computes : Bool
-unfolding items-compute readItems readItem counted fillFrom walk coeffContext FREQ NUM-NONZERO unpackSigned contextsOf sizeOf above lfIndexIn entryOf
+unfolding items-compute readItems readItem counted fillFrom walk coeffContext FREQ NUM-NONZERO unpackSigned contextsOf lfSizeOf above lfIndexIn entryOf
 reading-computes = true
 
 unfoldable pub sequence-computes : Bool
@@ -66,7 +66,7 @@ below m z (v ∷ l) t (suc i) = below m z l (and-r (ltb v m) (every (λ (v : ℕ
 abbrev small : List ℕ → Bool
 small g = every (λ (v : ℕ). ltb v (2 ^ 32)) g
 
-pub cells-below : (G : PerChannel) → T (every small G) → (c p : ℕ) → cell G c p < 2 ^ 32
+pub cells-below : (G : PerChannel) → T (every small G) → (c p : ℕ) → inCell G c p < 2 ^ 32
 cells-below [] t c p = omega arith
 cells-below (g ∷ G) t zero p = below (2 ^ 32) (omega arith) g (and-l (small g) (every small G) t) p
 cells-below (g ∷ G) t (suc c) p = cells-below G (and-r (small g) (every small G) t) c p

@@ -48,9 +48,9 @@ module _ (L : Lent) (fixed : Fixed L) where
   none-shared (v ∷ vs) f a = (
     (λ u i x y p q.
         let j = f v (first refl) in let k = f u (later i) in
-        let b = p .right in let c = right (fixed .layout) v j in let d = p .bottom in let e = bottom (fixed .layout) v j in
+        let b = p .toX in let c = right (fixed .layout) v j in let d = p .toY in let e = bottom (fixed .layout) v j in
         let o = disjoint (L .pass .bw) (L .pass .bh) (L .pass .kinds) (L .pass .hfMul) (fixed .layout) (u .x) (u .y) (v .x) (v .y) x y (omega arith) (omega arith)
-        (covers (fixed .layout) u k x y (q .left) (q .right) (q .top) (q .bottom)) (covers (fixed .layout) v j x y (p .left) (p .right) (p .top) (p .bottom)) in
+        (covers (fixed .layout) u k x y (q .fromX) (q .toX) (q .fromY) (q .toY)) (covers (fixed .layout) v j x y (p .fromX) (p .toX) (p .fromY) (p .toY)) in
         a .0 u i (o .0) (o .1)),
     none-shared vs (λ u j. f u (later j)) (a .1),
   )

@@ -37,7 +37,7 @@ use Rattle.one_to_one.specs.laws.Wanted.{wanted-filling}
 use Rattle.one_to_one.specs.laws.Chain.{fixed-by-calls}
 use Rattle.one_to_one.specs.laws.Computes.{cut-computes, bits-compute, sequence-computes, wanted-computes, below, cells-below}
 use Rattle.one_to_one.specs.FullWitness.{changed, contexts, full, kinds, lists, map, hfMul, pairs, start, store}
-use Rattle.coeff_group.specs.Sequence.{cell, theSequence}
+use Rattle.coeff_group.specs.Sequence.{inCell, theSequence}
 
 abbrev digitSymbols : List ℕ
 digitSymbols = 1 ∷ 1 ∷ 2 ∷ 2 ∷ 0 ∷ 0 ∷ []
@@ -98,14 +98,14 @@ given = record {
   sigma = four;
   used = 3;
   layout = ap (λ o. o .answer) layout-accepted;
-  g = 0;
+  index = 0;
   outKinds = four;
   outHfMul = four;
   cutting = ap (λ o. cutOf (bwOf columns) (bhOf columns) (o .kinds) (o .hfMul) 0 four four) layout-accepted ∙ cut-accepted;
-  bytes = 2 ∷ 8 ∷ 38 ∷ 160 ∷ 32 ∷ [];
+  contextBytes = 2 ∷ 8 ∷ 38 ∷ 160 ∷ 32 ∷ [];
   areBytes = below 256 (omega arith) (2 ∷ 8 ∷ 38 ∷ 160 ∷ 32 ∷ []) tt;
-  count = 2;
-  map = map;
+  clusters = 2;
+  contextMap = map;
   bitsRead = 39;
   contexts = ap (λ r. r .answer) contexts-read;
   record-is = sym (ap (λ r. r .contexts) contexts-read);
@@ -113,12 +113,12 @@ given = record {
   rest = record {
     few = omega arith;
     preset = 2;
-    bits = 2;
+    bitsRead = 2;
     readWhole = two-bits;
     below = omega arith;
     lengths = lengths-fit;
     three = refl;
-    start = cells-below start tt;
+    words = cells-below start tt;
     shift = refl;
   };
 }
@@ -128,12 +128,12 @@ pub fixed : Fixed full
 fixed = fixed-by-calls full given
 
 -- none of these cells is low-frequency
-changed-is : wanted full (cell changed) ≡ changed
+changed-is : wanted full (inCell changed) ≡ changed
 unfolding wanted-computes
 changed-is = refl
 
 pub filling : Filling full changed
-filling = subst (Filling full) changed-is (wanted-filling full fixed (cell changed) (cells-below changed tt))
+filling = subst (Filling full) changed-is (wanted-filling full fixed (inCell changed) (cells-below changed tt))
 
 -- its symbols
 lists-0 : (c : ℕ) → c < 3 → getD lists (3 * 4 + c) [] ≡ natural 16 8

@@ -95,17 +95,17 @@ pub record Sound (width cells clusters : ℕ) (it : Item) : Type 0 where
   pub places : (p : ℕ) → In p (it .cells) → p < cells
 
 -- a reading with three grids of so many cells, three rows so wide, and room in the log for so many more symbols
-pub record Sane (width gridCells due at : ℕ) (log : List ℕ) (grids rows : PerChannel) : Type 0 where
+pub record Sane (width gridLength due at : ℕ) (log : List ℕ) (grids rows : PerChannel) : Type 0 where
   pub three : 3 ≤ length grids
-  pub cells : (c : ℕ) → c < 3 → length (getD grids c []) ≡ gridCells
+  pub cells : (c : ℕ) → c < 3 → length (getD grids c []) ≡ gridLength
   pub rows3 : length rows ≡ 3
   pub wide : (c : ℕ) → c < 3 → length (getD rows c []) ≡ width
   pub small : (c : ℕ) → c < 3 → Small (getD rows c [])
   pub room : at + due ≤ length log
 
 abbrev pub Fine : ℕ → ℕ → ℕ → Reading → Type 0
-Fine width gridCells due (refused why at log grids) = Unit
-Fine width gridCells due (going us at log grids rows left) = Sane width gridCells due at log grids rows
+Fine width gridLength due (refused why at log grids) = Unit
+Fine width gridLength due (going us at log grids rows left) = Sane width gridLength due at log grids rows
 
 module _ (shift clusters : ℕ) (presetMap : List ℕ) (whole : length presetMap ≡ 495 * clusters) (width cells : ℕ) where
   module _ (it : Item) (s : Sound width cells clusters it) where

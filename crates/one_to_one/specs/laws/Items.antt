@@ -29,10 +29,10 @@ use Rattle.coeff_walk.specs.Item.{Item}
 use Rattle.coeff_group.specs.Group.{PerChannel}
 use Rattle.coeff_group.specs.Pass.{Pass, varblocks, blocksOf, cellsIn, itemOf, itemsOf}
 use Rattle.dct_select.specs.laws.Sides.{order-lt}
-use Rattle.one_to_one.specs.Filling.{gridCells, ReadAt, LaidOut, Sized, Low, LowKept}
+use Rattle.one_to_one.specs.Filling.{gridLength, ReadAt, LaidOut, Sized, Low, LowKept}
 use Rattle.coeff_group.specs.laws.Cells.{Distinct, distinct-both, distinct-map, Fit, In}
-use Rattle.one_to_one.specs.laws.Spread.{Spread, spread-of, place-in, in-place, cell-row, cell-column, distinct-places}
-use Rattle.coeff_group.specs.Sequence.{cell, GridCell, readCells}
+use Rattle.one_to_one.specs.laws.Spread.{Spread, spread-of, place-in, in-place, cell-row, cell-x, distinct-places}
+use Rattle.coeff_group.specs.Sequence.{inCell, GridCell, readCells}
 
 -- each of the 39 stretches is an order of its size
 abbrev pub Ordered : Pass → Type 0
@@ -118,7 +118,7 @@ module _ (P : Pass) (lay : LaidOut P) (ord : Ordered P) where
     cells-distinct : Distinct (map {B = GridCell} (λ (p : ℕ). (c, p)) (cellsIn P v c))
     cells-distinct = distinct-map (λ (p : ℕ). (c, p)) (cellsIn P v c) (λ p q j k e. ap (λ (x : GridCell). x .1) e) (distinct-places turn (8 * P .bw) (8 * v .x) (8 * v .y) rest in-row (spread .distinct))
 
-    places-inside : (p : ℕ) → In p (cellsIn P v c) → p < gridCells P
+    places-inside : (p : ℕ) → In p (cellsIn P v c) → p < gridLength P
     places-inside p j =
         let r = in-place turn (8 * P .bw) (8 * v .x) (8 * v .y) rest p j in
         let d = spread .inside (r .0) (r .1) .1 in
@@ -131,7 +131,7 @@ module _ (P : Pass) (lay : LaidOut P) (ord : Ordered P) where
         let h = in-row (r .0) (r .1) in (
           r .0,
           r .1,
-          ap (λ (x : ℕ). x % (8 * P .bw)) (sym (r .2)) ∙ cell-column turn (8 * P .bw) (8 * v .x) (8 * v .y) (r .0) h,
+          ap (λ (x : ℕ). x % (8 * P .bw)) (sym (r .2)) ∙ cell-x turn (8 * P .bw) (8 * v .x) (8 * v .y) (r .0) h,
           ap (λ (x : ℕ). x / (8 * P .bw)) (sym (r .2)) ∙ cell-row turn (8 * P .bw) (8 * v .x) (8 * v .y) (r .0) h,
         )
 
@@ -144,7 +144,7 @@ module _ (P : Pass) (lay : LaidOut P) (ord : Ordered P) where
         covers lay v i (p % (8 * P .bw) / 8) (p / (8 * P .bw) / 8) (omega arith) (omega arith) (omega arith) (omega arith)
 
   -- the block of a cell
-  in-block : (p : ℕ) → p < gridCells P → (p % (8 * P .bw) / 8 < P .bw) × (p / (8 * P .bw) / 8 < P .bh)
+  in-block : (p : ℕ) → p < gridLength P → (p % (8 * P .bw) / 8 < P .bw) × (p / (8 * P .bw) / 8 < P .bh)
   in-block p h = go (ℕ-discrete (P .bw) 0)
     where
       go : Dec (P .bw ≡ 0) → (p % (8 * P .bw) / 8 < P .bw) × (p / (8 * P .bw) / 8 < P .bh)
@@ -156,7 +156,7 @@ module _ (P : Pass) (lay : LaidOut P) (ord : Ordered P) where
           (omega arith, omega arith)
 
   -- rectangles with the block of one cell are one
-  one-corner : (u v : Varblock) (p : ℕ) → p < gridCells P → Covers K (u .x) (u .y) (p % (8 * P .bw) / 8) (p / (8 * P .bw) / 8)
+  one-corner : (u v : Varblock) (p : ℕ) → p < gridLength P → Covers K (u .x) (u .y) (p % (8 * P .bw) / 8) (p / (8 * P .bw) / 8)
       → Covers K (v .x) (v .y) (p % (8 * P .bw) / 8) (p / (8 * P .bw) / 8) → (u .x ≡ v .x) × (u .y ≡ v .y)
   one-corner u v p h a b =
       let k = in-block p h in
@@ -165,7 +165,7 @@ module _ (P : Pass) (lay : LaidOut P) (ord : Ordered P) where
   pub item-size : (it : Item) → In it (itemsOf P (varblocks P)) → (it .blocks ≤ 1024) × (length (it .cells) ≡ 63 * it .blocks)
   item-size = each-item P (λ it. (it .blocks ≤ 1024) × (length (it .cells) ≡ 63 * it .blocks)) (varblocks P) (λ v j n c hn hc. unfold itemOf in (few lay v j, places-size v j c hc))
 
-  pub cells-fit : (G : PerChannel) → Sized P G → ((c p : ℕ) → cell G c p < 2 ^ 32) → Fit G (readCells (itemsOf P (varblocks P)))
+  pub cells-fit : (G : PerChannel) → Sized P G → ((c p : ℕ) → inCell G c p < 2 ^ 32) → Fit G (readCells (itemsOf P (varblocks P)))
   cells-fit G sz small = record {
     channel = λ x j. let r = held P (varblocks P) (x .0) (x .1) j in omega (arith, sz .three, r .2);
     place = λ x j. let r = held P (varblocks P) (x .0) (x .1) j in rw (sz .cells (x .0) (r .2)) (places-inside (r .0) (r .1) (x .0) (r .2) (x .1) (r .3));
@@ -207,7 +207,7 @@ module _ (P : Pass) (lay : LaidOut P) (ord : Ordered P) where
   cells-apart = distinct-from (varblocks P) (λ v i. i) (corners-apart K (blockAt (P .hfMul) (P .bw)) (P .bw) (P .bh))
 
   -- every cell is low-frequency or read
-  pub low-or-held : (c p : ℕ) → c < 3 → p < gridCells P → Low P p ⊎ ReadAt P c p
+  pub low-or-held : (c p : ℕ) → c < 3 → p < gridLength P → Low P p ⊎ ReadAt P c p
   low-or-held c p hc h =
       let b = in-block p h in
       let o = lay .valid .owned (p % (8 * P .bw) / 8) (p / (8 * P .bw) / 8) (b .0) (b .1) in
@@ -236,7 +236,7 @@ module _ (P : Pass) (lay : LaidOut P) (ord : Ordered P) where
               (Memᴰ·cast (sym (ap₂ (λ (a b : ℕ). a * (8 * P .bw) + b) ey ex ∙ div-add-mod' p (8 * P .bw))) (place-in t (8 * P .bw) (8 * v .x) (8 * v .y) (rest v i c hc) (s .0) (s .1)))
 
           cases : Dec (dx < wide (v .type)) → Dec (dy < high (v .type)) → Low P p ⊎ ReadAt P c p
-          cases (yes a) (yes b) = inl (record { of = v; there = i; left = omega arith; right = omega arith; top = omega arith; bottom = omega arith })
+          cases (yes a) (yes b) = inl (record { of = v; there = i; fromX = omega arith; toX = omega arith; fromY = omega arith; toY = omega arith })
           cases (yes a) (no b) = inr (place (λ x y. b y))
           cases (no a) b = inr (place (λ x y. a x))
 
@@ -246,7 +246,7 @@ module _ (P : Pass) (lay : LaidOut P) (ord : Ordered P) where
       let s = held P (varblocks P) c p h in
       let v = s .0 in let i = s .1 in let u = l .of in
       let r = place-at v i c (s .2) p (s .3) in
-      let a = l .left in let b = l .right in let d = l .top in let e = l .bottom in
+      let a = l .fromX in let b = l .toX in let d = l .fromY in let e = l .toY in
       let o = one-corner u v p (places-inside v i c (s .2) p (s .3))
       (covers lay u (l .there) (p % (8 * P .bw) / 8) (p / (8 * P .bw) / 8) (omega arith) (omega arith) (omega arith) (omega arith)) (places-covered v i c (s .2) p (s .3)) in
       let t : u .type ≡ v .type = type-is lay u (l .there) ∙ ap₂ (λ (x y : ℕ). K x y - 2) (o .0) (o .1) ∙ sym (type-is lay v i) in
@@ -255,10 +255,10 @@ module _ (P : Pass) (lay : LaidOut P) (ord : Ordered P) where
       spread v i c (s .2) .upper (r .0) (r .1) (omega arith) (omega arith)
 
   -- so, of grids that agree in the low-frequency cells, each cell is read or the same in both
-  pub place-or-same : (G W : PerChannel) → Sized P G → Sized P W → LowKept P G W → (c p : ℕ) → ReadAt P c p ⊎ ((ReadAt P c p → ⊥) × (cell W c p ≡ cell G c p))
+  pub place-or-same : (G W : PerChannel) → Sized P G → Sized P W → LowKept P G W → (c p : ℕ) → ReadAt P c p ⊎ ((ReadAt P c p → ⊥) × (inCell W c p ≡ inCell G c p))
   place-or-same G W sg sw kept c p = channel (decLt c 3)
     where
-      at-cell : c < 3 → Dec (p < gridCells P) → ReadAt P c p ⊎ ((ReadAt P c p → ⊥) × (cell W c p ≡ cell G c p))
+      at-cell : c < 3 → Dec (p < gridLength P) → ReadAt P c p ⊎ ((ReadAt P c p → ⊥) × (inCell W c p ≡ inCell G c p))
       at-cell hc (yes h) = elim (low-or-held c p hc h) [ inl l ↦ inr (low-not-held c p l, kept c p hc l) | inr i ↦ inl i ]
       at-cell hc (no m) =
           let a = sw .cells c hc in let b = sg .cells c hc in
@@ -267,8 +267,8 @@ module _ (P : Pass) (lay : LaidOut P) (ord : Ordered P) where
             List·getD-eq-default (getD W c []) 0 (omega arith) ∙ sym (List·getD-eq-default (getD G c []) 0 (omega arith)),
           )
 
-      channel : Dec (c < 3) → ReadAt P c p ⊎ ((ReadAt P c p → ⊥) × (cell W c p ≡ cell G c p))
-      channel (yes hc) = at-cell hc (decLt p (gridCells P))
+      channel : Dec (c < 3) → ReadAt P c p ⊎ ((ReadAt P c p → ⊥) × (inCell W c p ≡ inCell G c p))
+      channel (yes hc) = at-cell hc (decLt p (gridLength P))
       channel (no m) =
           let a = sw .three in let b = sg .three in
           inr ((λ i. m (held P (varblocks P) c p i .2)), rw (List·getD-eq-default W [] {n = c} (omega arith), List·getD-eq-default G [] {n = c} (omega arith)))

@@ -12,26 +12,26 @@ use Rattle.coeff_group.specs.Group.{PerChannel}
 use Rattle.coeff_group.specs.Pass.{Pass, varblocks, itemsOf}
 use Rattle.coeff_call.specs.Call.{Lent, Outcome, outcomeOf, call}
 use Rattle.coeff_call.specs.laws.CallLaws.{lengths-fit}
-use Rattle.one_to_one.specs.Filling.{gridCells, put, ReadAt, LaidOut, Low, LowKept, Fixed, Filling}
+use Rattle.one_to_one.specs.Filling.{gridLength, put, ReadAt, LaidOut, Low, LowKept, Fixed, Filling}
 use Rattle.coeff_group.specs.laws.Cells.{set-below, adds, adds-off, put-cell, put-shape}
 use Rattle.coeff_group.specs.laws.Reads.{joined}
 use Rattle.one_to_one.specs.laws.Items.{wrote-ordered, Ordered, low-or-held, low-not-held}
 use Rattle.one_to_one.specs.laws.Ways.{Way, before, work, way, did, outcome-by}
 use Rattle.order_call.specs.Call.{Wrote}
-use Rattle.coeff_group.specs.Sequence.{cell, readCells}
+use Rattle.coeff_group.specs.Sequence.{inCell, readCells}
 
 -- Whatever is lent, with orders as an accepted order call wrote them: no call, accepted or refused and of whatever shift, changes a
 -- low-frequency cell.
 module _ (L : Lent) (orders : Wrote (L .pass .store)) where
   by-way : Way L → LowKept (L .pass) (L .grids) (call L .grids)
-  by-way (before why t n e) c p hc l = ap (λ (o : Outcome). cell (o .grids) c p) (e (L .symbols) (L .log) refl)
+  by-way (before why t n e) c p hc l = ap (λ (o : Outcome). inCell (o .grids) c p) (e (L .symbols) (L .log) refl)
   by-way (work passed preset e) c p hc l =
       let P = L .pass in
       let k = lengths-fit L (passed .lengths) in
       let lay : LaidOut P = layout-iff (P .bw) (P .bh) (P .kinds) (P .hfMul) (k .kinds) (k .hfMul) .0 (passed .layout) in
       let d = did L preset in
       let G = adds (L .shift) (L .grids) (readCells (itemsOf P (varblocks P))) (joined (d .dss)) in
-      ap (λ (o : Outcome). cell (o .grids) c p) (e (L .symbols) (L .log) refl ∙ ap outcomeOf (d .is (L .log)) ∙ outcome-by (d .end) (length (d .clusters)) (sets (L .log) 0 (d .clusters)) G)
+      ap (λ (o : Outcome). inCell (o .grids) c p) (e (L .symbols) (L .log) refl ∙ ap outcomeOf (d .is (L .log)) ∙ outcome-by (d .end) (length (d .clusters)) (sets (L .log) 0 (d .clusters)) G)
       ∙ adds-off (L .shift) (L .grids) (readCells (itemsOf P (varblocks P))) (joined (d .dss)) (c, p) (low-not-held P lay (wrote-ordered P orders) c p l)
 
   pub low-kept : LowKept (L .pass) (L .grids) (call L .grids)
@@ -42,7 +42,7 @@ module _ (L : Lent) (fixed : Fixed L) where
   P = L .pass
 
   -- each cell of the group is low-frequency or a place, and never both
-  pub low-or-place : (c p : ℕ) → c < 3 → p < gridCells (L .pass) → (Low (L .pass) p × (ReadAt (L .pass) c p → ⊥)) ⊎ (ReadAt (L .pass) c p × (Low (L .pass) p → ⊥))
+  pub low-or-place : (c p : ℕ) → c < 3 → p < gridLength (L .pass) → (Low (L .pass) p × (ReadAt (L .pass) c p → ⊥)) ⊎ (ReadAt (L .pass) c p × (Low (L .pass) p → ⊥))
   low-or-place c p hc h = go (low-or-held P (fixed .layout) ordered c p hc h)
     where
       ordered : Ordered P
@@ -59,11 +59,11 @@ module _ (L : Lent) (fixed : Fixed L) where
       g : List ℕ
       g = set (getD W c []) p v
 
-      words : (d q : ℕ) → Dec (d ≡ c) → c < length W → cell (set W c g) d q < 2 ^ 32
+      words : (d q : ℕ) → Dec (d ≡ c) → c < length W → inCell (set W c g) d q < 2 ^ 32
       words d q (yes e) l = rw (e, getD-set-same W c g [] l) (set-below (getD W c []) p v q (2 ^ 32) h (f .words c q))
       words d q (no m) l = rw (getD-set-other W c d g [] m) (f .words d q)
 
-      same : (q : ℕ) → Low P q → cell W c q ≡ getD (set (getD W c []) p v) q 0
+      same : (q : ℕ) → Low P q → inCell W c q ≡ getD (set (getD W c []) p v) q 0
       same q l = sym (getD-set-other (getD W c []) p q v 0 (λ (e : q ≡ p). n (rw e at l)))
 
       go : Dec (c < length W) → Filling L (put W c p v)

@@ -27,7 +27,7 @@ use Rattle.order_places.specs.Places.{Inside}
 use Rattle.order_places.specs.laws.Places.{fits-at}
 use Rattle.coeff_walk.specs.Item.{Item}
 use Rattle.coeff_group.specs.Group.{PerChannel, Reading, going, readItem, readItems, zeroRows}
-use Rattle.coeff_group.specs.Pass.{Pass, varblocks, blocksOf, contextEntry, cellsIn, itemOf, channels, itemsOf}
+use Rattle.coeff_group.specs.Pass.{Pass, varblocks, blocksOf, blockEntryOf, cellsIn, itemOf, channelItems, itemsOf}
 use Rattle.coeff_group.specs.Work.{clustersOf}
 use Rattle.dct_select.specs.laws.Sides.{order-lt}
 use Rattle.coeff_group.specs.laws.Stored.{stretch-long}
@@ -39,7 +39,7 @@ use Rattle.one_to_one.specs.Filling.{LaidOut}
 use Rattle.one_to_one.specs.laws.Spread.{in-place}
 use Rattle.one_to_one.specs.laws.Items.{each-item}
 use Rattle.coeff_group.specs.laws.Symbols.{symbolsIn, places-many, some-blocks, most-symbols}
-use Rattle.one_to_one.specs.Inside.{ReadInside, CornerInside, GroupInside, ReadingInside}
+use Rattle.one_to_one.specs.Inside.{ReadInside, VarblockInside, GroupInside, ReadingInside}
 use Rattle.one_to_one.specs.laws.InsideLaws.{Sound, Small, Sane, read-inside}
 use Rattle.coeff_group.specs.laws.Cells.{In}
 
@@ -92,7 +92,7 @@ module _ (P : Pass) (lay : LaidOut P) (narrow : P .bw ≤ 32) (contexts : fit (P
   all-sound = each-item P (Sound 32 (64 * blocks P) (clustersOf P)) (varblocks P) (λ v i n c hn hc. sound v i c hc n hn)
 
 -- Entries of the map of block contexts: the lists as far as they are used are no longer than the record says.
-entry-inside : (P : Pass) (v : Varblock) → orderOf (v .type) < 13 → (n : ℕ) → n < 3 → contextEntry P v n < 39 * bsizeOf (P .contexts .lengths)
+entry-inside : (P : Pass) (v : Varblock) → orderOf (v .type) < 13 → (n : ℕ) → n < 3 → blockEntryOf P v n < 39 * bsizeOf (P .contexts .lengths)
 entry-inside P v o n h =
     let a = block-entry-lt (inUse (P .contexts)) n (orderOf (v .type)) (v .hfMul) (P .lfThere) (blockAt (P .lf0) (P .bw) (v .x) (v .y)) (blockAt (P .lf1) (P .bw) (v .x) (v .y)) (blockAt (P .lf2) (P .bw) (v .x) (v .y)) h o in
     omega (arith, in-use-size-le (P .contexts))
@@ -105,13 +105,13 @@ module _ (shift clusters : ℕ) (presetMap₀ : List ℕ) where
   parts [] ys r h = (tt, h)
   parts (x ∷ xs) ys r h = let k = parts xs ys (readItem shift clusters presetMap₀ x r) (h .1) in ((h .0, k .0), k .1)
 
-  by-group : (P : Pass) (vs : List Varblock) (r : Reading) → ((v : Varblock) → Among v vs → CornerInside P v)
+  by-group : (P : Pass) (vs : List Varblock) (r : Reading) → ((v : Varblock) → Among v vs → VarblockInside P v)
       → ReadInside shift clusters presetMap₀ (itemsOf P vs) r → GroupInside shift clusters presetMap₀ P vs r
   unfolding itemsOf
   by-group P [] r f h = tt
   by-group P (v ∷ vs) r f h =
-      let k = parts (channels P v) (itemsOf P vs) r h in
-      (f v (first refl), k .0, by-group P vs (readItems shift clusters presetMap₀ (channels P v) r) (λ u j. f u (later j)) (k .1))
+      let k = parts (channelItems P v) (itemsOf P vs) r h in
+      (f v (first refl), k .0, by-group P vs (readItems shift clusters presetMap₀ (channelItems P v) r) (λ u j. f u (later j)) (k .1))
 
 -- The reading of a call.
 zeros-small : (n i : ℕ) → getD {A = ℕ} (replicate n 0) i 0 < 64
@@ -143,8 +143,8 @@ module _ (L : Lent) (passed : Passed L) (preset : ℕ) (below : preset < L .pres
       let n = 495 * clustersOf P in
       length-take-le n (drop (n * preset) (L .clusterMap)) (rw (length-drop (n * preset) (L .clusterMap)) (omega (arith, preset-inside)))
 
-  corner-inside : (v : Varblock) → Among v (varblocks P) → CornerInside P v
-  corner-inside v i =
+  varblock-inside : (v : Varblock) → Among v (varblocks P) → VarblockInside P v
+  varblock-inside v i =
       let k = lengths-fit L (passed .lengths) in
       let h : v .y * P .bw + v .x < P .bh * P .bw = place-lt (P .bw) (P .bh) (v .x) (v .y) (has lay v i .inX) (has lay v i .inY) in
       record {
@@ -191,7 +191,7 @@ module _ (L : Lent) (passed : Passed L) (preset : ℕ) (below : preset < L .pres
     preset-inside,
     let k = lengths-fit L (passed .lengths) in
         by-group (L .shift) (clustersOf P) (presetMap L preset) P (varblocks P) (going (L .symbols) 0 (L .log) (L .grids) zeroRows 0)
-        corner-inside
+        varblock-inside
         (read-inside (L .shift) (clustersOf P) (presetMap L preset) preset-whole 32 (64 * blocks P) (itemsOf P (varblocks P)) (going (L .symbols) 0 (L .log) (L .grids) zeroRows 0)
         (all-sound P lay (sides-fit P (passed .sides) .wide) (passed .contexts) (k .store) (passed .places)) start),
   )

@@ -17,13 +17,13 @@ use Rattle.coeff_walk.specs.laws.Walks.{nonZeros-le}
 use Rattle.coeff_group.specs.laws.Cells.{Distinct, Shape, same-shape, adds, adds-shape, adds-off, Fit, change, only-symbols, symbols-turn, In}
 use Rattle.coeff_group.specs.laws.Reads as run
 use Rattle.coeff_group.specs.laws.Reads.{joined, Long, Sized, words-both}
-use Rattle.coeff_group.specs.Sequence.{cell, sent, changes, GridCell, readCells}
+use Rattle.coeff_group.specs.Sequence.{inCell, sent, changes, GridCell, readCells}
 use Rattle.coeff_walk.specs.Sent.{Words, nonZeros, upTo}
 
 -- accepted, read to the last symbol, every count used up, these grids
 pub record Filled (r : Reading) (s : List ℕ) (W : PerChannel) : Type 0 where
   pub accepted : outcomeOf r .answer ≡ gives (length s)
-  pub used : leftOf r ≡ 0
+  pub usedUp : leftOf r ≡ 0
   pub grids : outcomeOf r .grids ≡ W
 
 -- what is held fixed, and a filling: each cell is read at, or kept
@@ -32,9 +32,9 @@ pub record Group (its : List Item) (G W : PerChannel) : Type 0 where
   pub sized : Sized its
   pub distinct : Distinct (readCells its)
   pub fit : Fit G (readCells its)
-  pub wanted : (c p : ℕ) → cell W c p < 2 ^ 32
+  pub wanted : (c p : ℕ) → inCell W c p < 2 ^ 32
   pub shape : Shape W G
-  pub kept : (c p : ℕ) → In (c, p) (readCells its) ⊎ ((In (c, p) (readCells its) → ⊥) × (cell W c p ≡ cell G c p))
+  pub kept : (c p : ℕ) → In (c, p) (readCells its) ⊎ ((In (c, p) (readCells its) → ⊥) × (inCell W c p ≡ inCell G c p))
 
 abbrev pub reading : ℕ → List ℕ → List Item → List ℕ → List ℕ → PerChannel → PerChannel → Reading
 reading clusters presetMap its s log G rows = readItems 0 clusters presetMap its (going s 0 log G rows 0)
@@ -90,8 +90,8 @@ unfolding sent
 sequence-words [] G W f = tt
 sequence-words (it ∷ its) G W f =
     let ds = changes G W it in
-    let w = map-words (λ (p : ℕ). symbol (cell W (it .channel) p) (cell G (it .channel) p)) (λ p. symbol-lt (cell W (it .channel) p) (cell G (it .channel) p)) (it .cells) in
-    (omega (arith, nonZeros-le ds, length-map (it .cells) (λ (p : ℕ). symbol (cell W (it .channel) p) (cell G (it .channel) p)), f it (here refl)), words-both (upTo (nonZeros ds) ds) (sent (map (changes G W) its)) (upTo-words (nonZeros ds) ds w) (sequence-words its G W (λ t i. f t (there i))))
+    let w = map-words (λ (p : ℕ). symbol (inCell W (it .channel) p) (inCell G (it .channel) p)) (λ p. symbol-lt (inCell W (it .channel) p) (inCell G (it .channel) p)) (it .cells) in
+    (omega (arith, nonZeros-le ds, length-map (it .cells) (λ (p : ℕ). symbol (inCell W (it .channel) p) (inCell G (it .channel) p)), f it (here refl)), words-both (upTo (nonZeros ds) ds) (sent (map (changes G W) its)) (upTo-words (nonZeros ds) ds w) (sequence-words its G W (λ t i. f t (there i))))
 
 none : (l : List ℕ) → length l ≡ 0 → l ≡ []
 none [] e = refl
@@ -106,7 +106,7 @@ module _ (clusters : ℕ) (presetMap : List ℕ) (its : List Item) (G W : PerCha
       let a = adds-shape 0 G (readCells its) (joined dss) in
       same-shape (adds 0 G (readCells its) (joined dss)) W (record { count = a .count ∙ sym (group .shape .count); sizes = λ c. a .sizes c ∙ sym (group .shape .sizes c) }) (λ c p. go c p (group .kept c p))
     where
-      go : (c p : ℕ) → In (c, p) (readCells its) ⊎ ((In (c, p) (readCells its) → ⊥) × (cell W c p ≡ cell G c p)) → cell (adds 0 G (readCells its) (joined dss)) c p ≡ cell W c p
+      go : (c p : ℕ) → In (c, p) (readCells its) ⊎ ((In (c, p) (readCells its) → ⊥) × (inCell W c p ≡ inCell G c p)) → inCell (adds 0 G (readCells its) (joined dss)) c p ≡ inCell W c p
       go c p (inl i) = rw (changes-joined G W its) (symbols-turn G W (readCells its) (group .distinct) (group .fit) (λ x j. group .wanted (x .0) (x .1)) (c, p) i)
       go c p (inr n) = adds-off 0 G (readCells its) (joined dss) (c, p) (n .0) ∙ sym (n .1)
 
@@ -128,7 +128,7 @@ module _ (clusters : ℕ) (presetMap : List ℕ) (its : List Item) (G W : PerCha
       let r = run.read-sent clusters presetMap its dss (changes-long G W its) (group .sized) 0 0 log G rows 0 in
       record {
         accepted = ap (λ (x : Reading). outcomeOf x .answer) (r .is) ∙ ap gives (to-last (sent dss) (r .at′) (r .log′) (adds 0 G (readCells its) (joined dss)) (r .rows′) 0 (r .is));
-        used = ap leftOf (r .is);
+        usedUp = ap leftOf (r .is);
         grids = ap (λ (x : Reading). outcomeOf x .grids) (r .is) ∙ reached;
       }
 
@@ -145,7 +145,7 @@ module _ (clusters : ℕ) (presetMap : List ℕ) (its : List Item) (G W : PerCha
           joined-only its ess dss long (changes-long G W its)
           (only-symbols G (readCells its) (joined ess) (group .distinct) (group .fit) (t .words h) (long-joined its ess long)
           ∙ ap (λ (X : PerChannel). map (change G X) (readCells its)) g ∙ sym (changes-joined G W its)) in
-          t .used (sym (ap leftOf e) ∙ f .used) ∙ rw (none us (omega (arith, t .read)), d) (append-nil (sent dss))
+          t .used (sym (ap leftOf e) ∙ f .usedUp) ∙ rw (none us (omega (arith, t .read)), d) (append-nil (sent dss))
       go k l ess (run.stops why) long e t =
           let a = sym (ap (λ (x : Reading). outcomeOf x .answer) e) ∙ f .accepted in
           let z : _≡_ {A = ℕ} 0 1 = cc in absurd (omega arith)

@@ -59,7 +59,7 @@ module _ (L : Lent) (fixed : Fixed L) where
         lengths = fixed .rest .lengths;
         layout = layout-check (P .bw) (P .bh) (P .kinds) (P .hfMul) (fixed .layout);
         places = wrote-fits (P .store) (fixed .orders);
-      })) (fixed .rest .preset) (fixed .rest .bits) (fixed .rest .readWhole) (fixed .rest .below)
+      })) (fixed .rest .preset) (fixed .rest .bitsRead) (fixed .rest .readWhole) (fixed .rest .below)
     where
       parameters : (shift presets : ℕ) → shift ≤ 3 → presets ≤ 256 → parametersFit shift presets ≡ true
       parameters shift presets a b = rw (le-leb shift 3 a, le-leb presets 256 b)
@@ -70,7 +70,7 @@ module _ (L : Lent) (fixed : Fixed L) where
       few = λ it i. let z = item-size P (fixed .layout) ordered it i in let a = z .0 in let b = z .1 in omega arith;
       sized = λ it i. item-size P (fixed .layout) ordered it i .1;
       distinct = cells-apart P (fixed .layout) ordered;
-      fit = cells-fit P (fixed .layout) ordered (L .grids) start-sized (fixed .rest .start);
+      fit = cells-fit P (fixed .layout) ordered (L .grids) start-sized (fixed .rest .words);
       wanted = filling .words;
       shape = shapes P (L .grids) W start-sized (filling .sized);
       kept = place-or-same P (fixed .layout) ordered (L .grids) W start-sized (filling .sized) (filling .low);
@@ -101,14 +101,14 @@ module _ (L : Lent) (fixed : Fixed L) where
         to : Fills L s W → over.Filled (readingOf s) s W
         to f = record {
           accepted = sym (ap (λ (o : Outcome). o .answer) e) ∙ f .accepted;
-          used = sym left ∙ f .used;
+          usedUp = sym left ∙ f .usedUp;
           grids = sym (ap (λ (o : Outcome). o .grids) e) ∙ f .grids;
         }
 
         from : over.Filled (readingOf s) s W → Fills L s W
         from f = record {
           accepted = ap (λ (o : Outcome). o .answer) e ∙ f .accepted;
-          used = left ∙ f .used;
+          usedUp = left ∙ f .usedUp;
           grids = ap (λ (o : Outcome). o .grids) e ∙ f .grids;
         }
 
@@ -116,7 +116,7 @@ module _ (L : Lent) (fixed : Fixed L) where
 pub fills-not : (L : Lent) (s : List ℕ) (W : PerChannel) → Fills L s W → Fails L s W → ⊥
 fills-not L s W f (refused why e) = let a = f .accepted in let z : _≡_ {A = ℕ} 0 1 = cc in omega arith
 fills-not L s W f (unread n h e) = let a : gives n ≡ gives (length s) = sym e ∙ f .accepted in let b : n ≡ length s = cc in omega arith
-fills-not L s W f (leftOver h) = let a = f .used in omega arith
+fills-not L s W f (leftOver h) = let a = f .usedUp in omega arith
 fills-not L s W f (otherGrids n) = n (f .grids)
 
 -- a sequence that does not fill fails
@@ -124,7 +124,7 @@ pub not-fills : (L : Lent) (s : List ℕ) (W : PerChannel) → (Fills L s W → 
 not-fills L s W n = by-answer (call (withSymbols L s) .answer) refl
   where
     by-rest : call (withSymbols L s) .answer ≡ gives (length s) → Dec (leftover (withSymbols L s) ≡ 0) → Fails L s W
-    by-rest a (yes u) = otherGrids (λ g. n (record { accepted = a; used = u; grids = g }))
+    by-rest a (yes u) = otherGrids (λ g. n (record { accepted = a; usedUp = u; grids = g }))
     by-rest a (no u) = leftOver (omega (arith, u))
 
     by-count : (m : ℕ) → call (withSymbols L s) .answer ≡ gives m → m ≤ length s → Dec (m ≡ length s) → Fails L s W

@@ -134,12 +134,12 @@ module _ (t : Bool) (width X Y : ℕ) where
   pub cell-row : (q : Place) → X + across t (q .0) (q .1) < width → cellOf t width X Y q / width ≡ Y + down t (q .0) (q .1)
   cell-row q h = digits-div (Y + down t (q .0) (q .1)) h
 
-  pub cell-column : (q : Place) → X + across t (q .0) (q .1) < width → cellOf t width X Y q % width ≡ X + across t (q .0) (q .1)
-  cell-column q h = digits-mod (Y + down t (q .0) (q .1)) h
+  pub cell-x : (q : Place) → X + across t (q .0) (q .1) < width → cellOf t width X Y q % width ≡ X + across t (q .0) (q .1)
+  cell-x q h = digits-mod (Y + down t (q .0) (q .1)) h
 
   pub distinct-places : (qs : List Place) → ((q : Place) → In q qs → X + across t (q .0) (q .1) < width) → Distinct qs → Distinct (cellsOf t width X Y qs)
   distinct-places qs h d = rw (places-map qs) (distinct-map (cellOf t width X Y) qs (λ q r i j e.
-      let a : X + across t (q .0) (q .1) ≡ X + across t (r .0) (r .1) = sym (cell-column q (h q i)) ∙ ap (λ (x : ℕ). x % width) e ∙ cell-column r (h r j) in
+      let a : X + across t (q .0) (q .1) ≡ X + across t (r .0) (r .1) = sym (cell-x q (h q i)) ∙ ap (λ (x : ℕ). x % width) e ∙ cell-x r (h r j) in
       let b : Y + down t (q .0) (q .1) ≡ Y + down t (r .0) (r .1) = sym (cell-row q (h q i)) ∙ ap (λ (x : ℕ). x / width) e ∙ cell-row r (h r j) in
       both t q r (omega arith) (omega arith)) d)
     where

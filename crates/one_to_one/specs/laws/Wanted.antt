@@ -16,11 +16,11 @@ use Rattle.layout.specs.Listed.{Among, first, later}
 use Rattle.coeff_group.specs.Group.{PerChannel}
 use Rattle.coeff_group.specs.Pass.{Pass, varblocks}
 use Rattle.coeff_call.specs.Call.{Lent}
-use Rattle.one_to_one.specs.Filling.{gridCells, Low, LowKept, lowIn, lowInSome, isLow, Sized, Fixed, Filling, asked, gridWanted, wanted, Fills, Fails}
+use Rattle.one_to_one.specs.Filling.{gridLength, Low, LowKept, lowIn, lowInSome, isLow, Sized, Fixed, Filling, asked, gridWanted, wanted, Fills, Fails}
 use Rattle.coeff_group.specs.laws.Cells.{same-shape}
 use Rattle.one_to_one.specs.laws.OverCall.{shapes, start-sized}
 use Rattle.one_to_one.specs.laws.Demand3.{one-sequence, every-other}
-use Rattle.coeff_group.specs.Sequence.{cell, theSequence}
+use Rattle.coeff_group.specs.Sequence.{inCell, theSequence}
 use Rattle.coeff_walk.specs.Sent.{Words}
 
 -- The test is what it says.
@@ -35,10 +35,10 @@ or-either false b (inr e) = e
 
 -- in the corner of v
 record In (x y : ℕ) (v : Varblock) : Type 0 where
-  left : 8 * v .x ≤ x
-  right : x < 8 * v .x + wide (v .type)
-  top : 8 * v .y ≤ y
-  bottom : y < 8 * v .y + high (v .type)
+  fromX : 8 * v .x ≤ x
+  toX : x < 8 * v .x + wide (v .type)
+  fromY : 8 * v .y ≤ y
+  toY : y < 8 * v .y + high (v .type)
 
 module _ (x y : ℕ) where
   in-one : (v : Varblock) → lowIn x y v ≡ true → In x y v
@@ -47,19 +47,19 @@ module _ (x y : ℕ) where
       let b = and-true _ _ (a .0) in
       let c = and-true _ _ (b .0) in
       record {
-        left = leb-true (8 * v .x) x (c .0);
-        right = ltb-true x (8 * v .x + wide (v .type)) (c .1);
-        top = leb-true (8 * v .y) y (b .1);
-        bottom = ltb-true y (8 * v .y + high (v .type)) (a .1);
+        fromX = leb-true (8 * v .x) x (c .0);
+        toX = ltb-true x (8 * v .x + wide (v .type)) (c .1);
+        fromY = leb-true (8 * v .y) y (b .1);
+        toY = ltb-true y (8 * v .y + high (v .type)) (a .1);
       }
 
   one-in : (v : Varblock) → In x y v → lowIn x y v ≡ true
   one-in v i =
       rw (
-        le-leb (8 * v .x) x (i .left),
-        lt-ltb x (8 * v .x + wide (v .type)) (i .right),
-        le-leb (8 * v .y) y (i .top),
-        lt-ltb y (8 * v .y + high (v .type)) (i .bottom),
+        le-leb (8 * v .x) x (i .fromX),
+        lt-ltb x (8 * v .x + wide (v .type)) (i .toX),
+        le-leb (8 * v .y) y (i .fromY),
+        lt-ltb y (8 * v .y + high (v .type)) (i .toY),
       )
 
   in-some : (vs : List Varblock) → lowInSome x y vs ≡ true → (v : Varblock) × Among v vs × In x y v
@@ -80,21 +80,21 @@ module _ (P : Pass) (p : ℕ) where
   is-low e =
       let r = in-some (p % (8 * P .bw)) (p / (8 * P .bw)) (varblocks P) e in
       let i = r .2 in
-      record { of = r .0; there = r .1; left = i .left; right = i .right; top = i .top; bottom = i .bottom }
+      record { of = r .0; there = r .1; fromX = i .fromX; toX = i .toX; fromY = i .fromY; toY = i .toY }
 
   pub low-is : Low P p → isLow P p ≡ true
   unfolding isLow
-  low-is l = some-in (p % (8 * P .bw)) (p / (8 * P .bw)) (varblocks P) (l .of) (l .there) (record { left = l .left; right = l .right; top = l .top; bottom = l .bottom })
+  low-is l = some-in (p % (8 * P .bw)) (p / (8 * P .bw)) (varblocks P) (l .of) (l .there) (record { fromX = l .fromX; toX = l .toX; fromY = l .fromY; toY = l .toY })
 
 -- The grids wanted.
 module _ (L : Lent) (f : ℕ → ℕ → ℕ) where
   abbrev P : Pass
   P = L .pass
 
-  grid-long : (c : ℕ) → length (gridWanted L f c) ≡ gridCells P
+  grid-long : (c : ℕ) → length (gridWanted L f c) ≡ gridLength P
   grid-long c = grid-length (λ (x y : ℕ). asked L f c (y * (8 * P .bw) + x)) (8 * P .bw) (8 * P .bh)
 
-  grid-cell : (c p : ℕ) → p < gridCells P → getD (gridWanted L f c) p 0 ≡ asked L f c p
+  grid-cell : (c p : ℕ) → p < gridLength P → getD (gridWanted L f c) p 0 ≡ asked L f c p
   grid-cell c p h = go (cell-at (8 * P .bw) (8 * P .bh) p h)
     where
       go : Cell (8 * P .bw) (8 * P .bh) p → getD (gridWanted L f c) p 0 ≡ asked L f c p
@@ -111,21 +111,21 @@ module _ (L : Lent) (f : ℕ → ℕ → ℕ) where
   unfolding wanted
   three = refl
 
-  cell-is : (c p : ℕ) → c < 3 → p < gridCells P → cell (wanted L f) c p ≡ asked L f c p
+  cell-is : (c p : ℕ) → c < 3 → p < gridLength P → inCell (wanted L f) c p ≡ asked L f c p
   cell-is c p hc h = rw (channel-is c hc) (grid-cell c p h)
 
 module _ (L : Lent) (fixed : Fixed L) (f : ℕ → ℕ → ℕ) (words : (c p : ℕ) → f c p < 2 ^ 32) where
   sized : Sized (L .pass) (wanted L f)
   sized = record { three = three L f; cells = λ c h. ap length (channel-is L f c h) ∙ grid-long L f c }
 
-  outside : (W : PerChannel) → Sized (L .pass) W → (c p : ℕ) → c < 3 → (p < gridCells (L .pass) → ⊥) → cell W c p ≡ 0
-  outside W s c p h n = let a : length (getD W c []) ≡ gridCells (L .pass) = s .cells c h in List·getD-eq-default (getD W c []) 0 (omega arith)
+  outside : (W : PerChannel) → Sized (L .pass) W → (c p : ℕ) → c < 3 → (p < gridLength (L .pass) → ⊥) → inCell W c p ≡ 0
+  outside W s c p h n = let a : length (getD W c []) ≡ gridLength (L .pass) = s .cells c h in List·getD-eq-default (getD W c []) 0 (omega arith)
 
-  no-channel : (W : PerChannel) → length W ≡ 3 → (c p : ℕ) → (c < 3 → ⊥) → cell W c p ≡ 0
+  no-channel : (W : PerChannel) → length W ≡ 3 → (c p : ℕ) → (c < 3 → ⊥) → inCell W c p ≡ 0
   no-channel W e c p n = rw (List·getD-eq-default W [] {n = c} (omega arith))
 
   -- each cell that is not low-frequency holds what is asked for
-  pub wanted-there : (c p : ℕ) → c < 3 → p < gridCells (L .pass) → (Low (L .pass) p → ⊥) → cell (wanted L f) c p ≡ f c p
+  pub wanted-there : (c p : ℕ) → c < 3 → p < gridLength (L .pass) → (Low (L .pass) p → ⊥) → inCell (wanted L f) c p ≡ f c p
   wanted-there c p hc h n = cell-is L f c p hc h ∙ go (isLow (L .pass) p) refl
     where
       go : (b : Bool) → isLow (L .pass) p ≡ b → asked L f c p ≡ f c p
@@ -133,20 +133,20 @@ module _ (L : Lent) (fixed : Fixed L) (f : ℕ → ℕ → ℕ) (words : (c p : 
       go false e = rw e
 
   low : LowKept (L .pass) (L .grids) (wanted L f)
-  low c p hc l = go (decLt p (gridCells (L .pass)))
+  low c p hc l = go (decLt p (gridLength (L .pass)))
     where
-      go : Dec (p < gridCells (L .pass)) → cell (wanted L f) c p ≡ cell (L .grids) c p
+      go : Dec (p < gridLength (L .pass)) → inCell (wanted L f) c p ≡ inCell (L .grids) c p
       go (yes h) = cell-is L f c p hc h ∙ rw (low-is (L .pass) p l)
       go (no n) = outside (wanted L f) sized c p hc n ∙ sym (outside (L .grids) (start-sized L fixed) c p hc n)
 
-  small : (c p : ℕ) → cell (wanted L f) c p < 2 ^ 32
-  small c p = go (decLt c 3) (decLt p (gridCells (L .pass)))
+  small : (c p : ℕ) → inCell (wanted L f) c p < 2 ^ 32
+  small c p = go (decLt c 3) (decLt p (gridLength (L .pass)))
     where
       by : (b : Bool) → isLow (L .pass) p ≡ b → asked L f c p < 2 ^ 32
-      by true e = rw e (fixed .rest .start c p)
+      by true e = rw e (fixed .rest .words c p)
       by false e = rw e (words c p)
 
-      go : Dec (c < 3) → Dec (p < gridCells (L .pass)) → cell (wanted L f) c p < 2 ^ 32
+      go : Dec (c < 3) → Dec (p < gridLength (L .pass)) → inCell (wanted L f) c p < 2 ^ 32
       go (yes a) (yes b) = rw (cell-is L f c p a b) (by (isLow (L .pass) p) refl)
       go (yes a) (no n) = rw (outside (wanted L f) sized c p a n) (omega arith)
       go (no n) b = rw (no-channel (wanted L f) (three L f) c p n) (omega arith)
@@ -156,17 +156,17 @@ module _ (L : Lent) (fixed : Fixed L) (f : ℕ → ℕ → ℕ) (words : (c p : 
   wanted-filling = record { sized = sized; words = small; low = low }
 
   -- and no other filling holds these numbers
-  pub wanted-only : (W : PerChannel) → Filling L W → ((c p : ℕ) → c < 3 → p < gridCells (L .pass) → (Low (L .pass) p → ⊥) → cell W c p ≡ f c p) → W ≡ wanted L f
+  pub wanted-only : (W : PerChannel) → Filling L W → ((c p : ℕ) → c < 3 → p < gridLength (L .pass) → (Low (L .pass) p → ⊥) → inCell W c p ≡ f c p) → W ≡ wanted L f
   wanted-only W filling g =
-      same-shape W (wanted L f) (shapes (L .pass) (wanted L f) W sized (filling .sized)) (λ (c : ℕ). λ (p : ℕ). at-cell c p (decLt c 3) (decLt p (gridCells (L .pass))))
+      same-shape W (wanted L f) (shapes (L .pass) (wanted L f) W sized (filling .sized)) (λ (c : ℕ). λ (p : ℕ). at-cell c p (decLt c 3) (decLt p (gridLength (L .pass))))
     where
-      by : (c p : ℕ) → c < 3 → p < gridCells (L .pass) → (b : Bool) → isLow (L .pass) p ≡ b → cell W c p ≡ cell (wanted L f) c p
+      by : (c p : ℕ) → c < 3 → p < gridLength (L .pass) → (b : Bool) → isLow (L .pass) p ≡ b → inCell W c p ≡ inCell (wanted L f) c p
       by c p a h true e = let l = is-low (L .pass) p e in filling .low c p a l ∙ sym (low c p a l)
       by c p a h false e =
           let n : Low (L .pass) p → ⊥ = λ l. let x : _≡_ {A = Bool} false true = sym e ∙ low-is (L .pass) p l in let z : _≡_ {A = ℕ} 0 1 = cc in omega arith in
           g c p a h n ∙ sym (wanted-there c p a h n)
 
-      at-cell : (c p : ℕ) → Dec (c < 3) → Dec (p < gridCells (L .pass)) → cell W c p ≡ cell (wanted L f) c p
+      at-cell : (c p : ℕ) → Dec (c < 3) → Dec (p < gridLength (L .pass)) → inCell W c p ≡ inCell (wanted L f) c p
       at-cell c p (yes a) (yes h) = by c p a h (isLow (L .pass) p) refl
       at-cell c p (yes a) (no n) = outside W (filling .sized) c p a n ∙ sym (outside (wanted L f) sized c p a n)
       at-cell c p (no n) h = no-channel W (filling .sized .three) c p n ∙ sym (no-channel (wanted L f) (three L f) c p n)

@@ -34,7 +34,7 @@ use Rattle.one_to_one.specs.laws.Computes.{cut-computes, bits-compute, r
 use Rattle.one_to_one.specs.Plain.{store}
 use Rattle.one_to_one.specs.laws.Plain.{store-long, order-0, store-wrote, defaults-read}
 use Rattle.one_to_one.specs.Witness.{one, wanted, zeros, leaving}
-use Rattle.coeff_group.specs.Sequence.{cell, theSequence}
+use Rattle.coeff_group.specs.Sequence.{inCell, theSequence}
 
 -- 8 × 8 pixels, modes 0, one column (0,0), filter off
 abbrev pub columns : Inputs
@@ -66,14 +66,14 @@ given = record {
   sigma = 0 ∷ [];
   used = 1;
   layout = ap (λ o. o .answer) layout-accepted;
-  g = 0;
+  index = 0;
   outKinds = 0 ∷ [];
   outHfMul = 0 ∷ [];
   cutting = ap (λ o. cutOf (bwOf columns) (bhOf columns) (o .kinds) (o .hfMul) 0 (0 ∷ []) (0 ∷ [])) layout-accepted ∙ cut-accepted;
-  bytes = 1 ∷ [];
+  contextBytes = 1 ∷ [];
   areBytes = below 256 (omega arith) (1 ∷ []) tt;
-  count = 0;
-  map = [];
+  clusters = 0;
+  contextMap = [];
   bitsRead = 1;
   contexts = ap (λ r. r .answer) defaults-read;
   record-is = sym (ap (λ r. r .contexts) defaults-read);
@@ -81,12 +81,12 @@ given = record {
   rest = record {
     few = omega arith;
     preset = 0;
-    bits = 0;
+    bitsRead = 0;
     readWhole = no-bits;
     below = omega arith;
     lengths = lengths-fit;
     three = refl;
-    start = cells-below zeros tt;
+    words = cells-below zeros tt;
     shift = refl;
   };
 }
@@ -96,12 +96,12 @@ pub fixed : Fixed one
 fixed = fixed-by-calls one given
 
 -- the filling is the one wanted of it: neither cell is low-frequency
-wanted-is : wantedOf one (cell wanted) ≡ wanted
+wanted-is : wantedOf one (inCell wanted) ≡ wanted
 unfolding wanted-computes
 wanted-is = refl
 
 pub filling : Filling one wanted
-filling = subst (Filling one) wanted-is (wanted-filling one fixed (cell wanted) (cells-below wanted tt))
+filling = subst (Filling one) wanted-is (wanted-filling one fixed (inCell wanted) (cells-below wanted tt))
 
 -- its symbols: 2 cells change in channel 1, none in channels 0 and 2
 pub sequence-is : theSequence (one .pass) (one .grids) wanted ≡ 2 ∷ 3 ∷ 0 ∷ 4 ∷ 0 ∷ 0 ∷ []

@@ -101,7 +101,7 @@ lengths : (c : tie.Else1 Inv-loop2 μ-loop2 Inv-loop μ-loop) →
 lengths c = let l = blockOf c .loop2 .inv in let o = rowOf c .loop .inv in (l .0 ∙ o .0, l .1 ∙ o .1, l .2 ∙ o .2, l .3 ∙ o .3)
 
 inside : (c : tie.Else1 Inv-loop2 μ-loop2 Inv-loop μ-loop) → (blockOf c .loop2 .x < 32) × (rowOf c .loop .y < 32)
-inside c = let r = startOf c .pre in (omega (arith, c .before .before .loop2-test .taken, r .across), omega (arith, c .before .before .before .before .loop-test .taken, r .below))
+inside c = let r = startOf c .pre in (omega (arith, c .before .before .loop2-test .taken, r .narrow), omega (arith, c .before .before .before .before .loop-test .taken, r .below))
 
 -- The varblock is read: its corner.
 abbrev corner : tie.After-slice-known8 Inv-loop2 μ-loop2 Inv-loop μ-loop → tie.Else1 Inv-loop2 μ-loop2 Inv-loop μ-loop
@@ -116,13 +116,13 @@ loop-holds c =
 mul-i : tie.Need-mul-i Inv-loop2 μ-loop2 Inv-loop μ-loop
 mul-i c =
     let h = to-start (to-shared-slice-known7 (c .before .before .before .before)) .pre .below in
-    let k = to-start (to-shared-slice-known7 (c .before .before .before .before)) .pre .across in
+    let k = to-start (to-shared-slice-known7 (c .before .before .before .before)) .pre .narrow in
     omega (arith, few (c .before .before .before .loop .y) (to-start (to-shared-slice-known7 (c .before .before .before .before)) .args .group .bw) 0 (omega (arith, c .before .before .loop-test .taken)) k (omega arith))
 
 add-i : tie.Need-add-i Inv-loop2 μ-loop2 Inv-loop μ-loop
 add-i c =
     let h = to-start (to-shared-slice-known7 (c .before .before .before .before)) .pre .below in
-    let k = to-start (to-shared-slice-known7 (c .before .before .before .before)) .pre .across in
+    let k = to-start (to-shared-slice-known7 (c .before .before .before .before)) .pre .narrow in
     omega (arith, few (c .before .before .before .loop .y) (to-start (to-shared-slice-known7 (c .before .before .before .before)) .args .group .bw) (c .before .loop2 .x) (omega (arith, c .before .before .loop-test .taken)) k (omega (arith, c .loop2-test .taken)))
 
 shared-slice-read-kind : tie.Need-shared-slice-read-kind Inv-loop2 μ-loop2 Inv-loop μ-loop
@@ -140,16 +140,16 @@ loop2-again c =
     (l .inv .0, l .inv .1, l .inv .2, l .inv .3, omega (arith, c .before .before .loop2-test .taken), λ W d. due-skip (a .shift) (a .t4 .«num_block_clusters») (a .preset-map .now) (passAt s) (a .symbols .now) (192 * (a .group .bw * a .group .bh)) W (l .at) (l .rows) (l .log) (l .g0 ∷ l .g1 ∷ l .g2 ∷ []) (l .x) (o .y) (rowsFrom (passAt s) (o .y + 1)) (c .before .before .loop2-test .taken) (c .if1 .taken) (l .inv .5 W d))
 
 mul-plan-of : tie.Need-mul-plan-of Inv-loop2 μ-loop2 Inv-loop μ-loop
-mul-plan-of c = let k = inside c in omega (arith, few (rowOf c .loop .y) (startOf c .args .group .bw) (blockOf c .loop2 .x) (k .1) (startOf c .pre .across) (k .0))
+mul-plan-of c = let k = inside c in omega (arith, few (rowOf c .loop .y) (startOf c .args .group .bw) (blockOf c .loop2 .x) (k .1) (startOf c .pre .narrow) (k .0))
 
 shared-slice-read-plan-of : tie.Need-shared-slice-read-plan-of Inv-loop2 μ-loop2 Inv-loop μ-loop
 shared-slice-read-plan-of c = rw (to-start (to-shared-slice-known7 (to-lengths (c .before))) .pre .layout .hfMulLength) (digits-lt (c .before .before .before .before .before .loop-test .taken) (c .before .before .before .loop2-test .taken))
 
 plan-of-requires : tie.Need-plan-of-requires Inv-loop2 μ-loop2 Inv-loop μ-loop
-plan-of-requires c κs = let e = c .before .before .before .before .before in let k = inside e in (e .if1 .left, k .0, k .1, startOf e .pre .across)
+plan-of-requires c κs = let e = c .before .before .before .before .before in let k = inside e in (e .if1 .left, k .0, k .1, startOf e .pre .narrow)
 
-step-varblock-requires : tie.Need-step-varblock-requires Inv-loop2 μ-loop2 Inv-loop μ-loop
-step-varblock-requires c κs =
+read-varblock-requires : tie.Need-read-varblock-requires Inv-loop2 μ-loop2 Inv-loop μ-loop
+read-varblock-requires c κs =
     let e = to-else1 (c .before .before .before .before .before) in
     let s = startOf e in
     let a = s .args in
@@ -178,7 +178,7 @@ returns c =
     let o = rowOf e .loop in
     let l = blockOf e .loop2 in
     let p = to-plan-of (c .before .before .before .before .before .before .before .before .before) .plan-of in
-    let w = c .before .before .before .before .before .before .before .before .before .before .step-varblock in
+    let w = c .before .before .before .before .before .before .before .before .before .before .read-varblock in
     let z = w .last .1 .1 .1 .1 .1 .1 .1 .1 in
     corner-stop (a .shift) (a .t4 .«num_block_clusters») (a .preset-map .now) (passAt s) (a .symbols .now) (length (a .log .now)) (s .pre) (wholeAt s) (l .x) (o .y) (l .at) (l .rows) (l .log) (l .g0 ∷ l .g1 ∷ l .g2 ∷ []) (e .before .before .loop2-test .taken) (e .before .before .before .before .loop-test .taken) (e .if1 .left) (due e) (p .result) (p .ensures) (w .result) (z .0) (z .1 .0) (z .1 .1 .0 ∷ z .1 .1 .1 .0 ∷ z .1 .1 .1 .1 .0 ∷ []) (w .ensures .1) (sym (c .before .is-stopped .ensures) ∙ c .if2 .taken)
 
@@ -196,14 +196,14 @@ loop2-again-2 c =
     let o = rowOf e .loop in
     let l = blockOf e .loop2 in
     let p = to-plan-of (c .before .before .before .before .before .before .before .before .before .before) .plan-of in
-    let w = c .before .before .before .before .before .before .before .before .before .before .before .step-varblock in
+    let w = c .before .before .before .before .before .before .before .before .before .before .before .read-varblock in
     let z = w .last .1 .1 .1 .1 .1 .1 .1 .1 in (
       c .before .before .before .before .before .before .before .before .before .before .log .given ∙ l .inv .0,
       c .before .before .before .before .before .before .before .before .g0 .given ∙ l .inv .1,
       c .before .before .before .before .before .before .g1 .given ∙ l .inv .2,
       c .before .before .before .before .g2 .given ∙ l .inv .3,
       omega (arith, e .before .before .loop2-test .taken),
-      λ W d. corner-step (a .shift) (a .t4 .«num_block_clusters») (a .preset-map .now) (passAt s) (a .symbols .now) (length (a .log .now)) (s .pre) W (l .x) (o .y) (l .at) (l .rows) (l .log) (l .g0 ∷ l .g1 ∷ l .g2 ∷ []) (e .before .before .loop2-test .taken) (e .before .before .before .before .loop-test .taken) (e .if1 .left) (l .inv .5 W d) (p .result) (p .ensures) (w .result) (z .0) (z .1 .0) (z .1 .1 .0 ∷ z .1 .1 .1 .0 ∷ z .1 .1 .1 .1 .0 ∷ []) (w .ensures .1) (sym (c .before .before .is-stopped .ensures) ∙ c .before .if2 .left) (w .ensures .0) (c .symbols-read .result) (c .symbols-read .ensures),
+      λ W d. corner-step (a .shift) (a .t4 .«num_block_clusters») (a .preset-map .now) (passAt s) (a .symbols .now) (length (a .log .now)) (s .pre) W (l .x) (o .y) (l .at) (l .rows) (l .log) (l .g0 ∷ l .g1 ∷ l .g2 ∷ []) (e .before .before .loop2-test .taken) (e .before .before .before .before .loop-test .taken) (e .if1 .left) (l .inv .5 W d) (p .result) (p .ensures) (w .result) (z .0) (z .1 .0) (z .1 .1 .0 ∷ z .1 .1 .1 .0 ∷ z .1 .1 .1 .1 .0 ∷ []) (w .ensures .1) (sym (c .before .before .is-stopped .ensures) ∙ c .before .if2 .left) (w .ensures .0) (c .read-by .result) (c .read-by .ensures),
     )
 
 loop-less : tie.Need-loop-less Inv-loop2 μ-loop2 Inv-loop μ-loop
@@ -250,7 +250,7 @@ read-group-spec =
     mul-plan-of
     shared-slice-read-plan-of
     plan-of-requires
-    step-varblock-requires
+    read-varblock-requires
     (λ c κs. tt)
     same-length
     same-length-2

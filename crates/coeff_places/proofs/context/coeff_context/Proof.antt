@@ -5,7 +5,7 @@ use Rattle.coeff_places.proofs.context.coeff_context.Tie as tie
 
 returns : tie.Need-returns
 unfolding coeffContext
-returns c = rw (c .before .nonzeros-entry .ensures .0, c .frequency-entry .ensures .0)
+returns c = rw (c .before .nonzeros-at .ensures .0, c .frequency-at .ensures .0)
 
 pub coeff-context-spec : {M : Type 1} → statement M
 coeff-context-spec =

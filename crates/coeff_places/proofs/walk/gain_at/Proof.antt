@@ -8,15 +8,15 @@ use Rattle.coeff_places.proofs.walk.gain_at.Statement.{statement}
 use Rattle.coeff_places.proofs.walk.gain_at.Tie as tie
 
 returns : tie.Need-returns
-returns c = let a = c .before .before .before .before .args in sym (gain-out (a .shift) (a .grid .now) (getD (spotCells (a .spot) (a .list .now)) (a .k) 0) (a .u) (omega (arith, c .before .cell .ensures)))
+returns c = let a = c .before .before .before .before .args in sym (gain-out (a .shift) (a .grid .now) (getD (spotCells (a .spot) (a .list .now)) (a .k) 0) (a .u) (omega (arith, c .before .cell-of .ensures)))
 
 returns-2 : tie.Need-returns-2
 returns-2 c =
     let a = c .before .before .before .before .before .before .before .before .args in
-    rw (c .before .before .before .before .before .cell .ensures)
+    rw (c .before .before .before .before .before .cell-of .ensures)
     (gain-sum (a .shift) (a .grid .now) (getD (spotCells (a .spot) (a .list .now)) (a .k) 0) (a .u) _
-    (rw (sym (c .before .before .before .before .before .cell .ensures), sym (c .before .before .unpack-signed .ensures), sym (c .before .shifted .ensures)) (c .sum .ensures .0))
-    (rw (sym (c .before .before .before .before .before .cell .ensures), sym (c .before .before .unpack-signed .ensures), sym (c .before .shifted .ensures)) (c .sum .ensures .1)))
+    (rw (sym (c .before .before .before .before .before .cell-of .ensures), sym (c .before .before .unpack-signed .ensures), sym (c .before .shifted .ensures)) (c .sum .ensures .0))
+    (rw (sym (c .before .before .before .before .before .cell-of .ensures), sym (c .before .before .unpack-signed .ensures), sym (c .before .shifted .ensures)) (c .sum .ensures .1)))
 
 pub gain-at-spec : {M : Type 1} → statement M
 gain-at-spec =

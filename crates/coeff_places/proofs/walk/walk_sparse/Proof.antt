@@ -38,8 +38,8 @@ turning : (c : tie.Else1 Inv-loop μ-loop) → Turn (to-start (c .before .before
 turning c = turn (c .before .before .loop .inv) (to-start (c .before .before) .pre .2) (c .before .loop-test .taken) (c .if1 .left)
 
 -- The count's entry.
-entry : (c : tie.After-nonzeros-entry Inv-loop μ-loop) → 2 * c .nonzeros-entry .result ≡ 2 * getD NUM-NONZERO ((c .before .before .before .before .before .before .before .loop .left - 1) / 2 ^ (to-start (c .before .before .before .before .before .before .before) .args .spot .exponent)) 0
-entry c = ap (λ (n : ℕ). 2 * n) (c .nonzeros-entry .ensures .0)
+entry : (c : tie.After-nonzeros-at Inv-loop μ-loop) → 2 * c .nonzeros-at .result ≡ 2 * getD NUM-NONZERO ((c .before .before .before .before .before .before .before .loop .left - 1) / 2 ^ (to-start (c .before .before .before .before .before .before .before) .args .spot .exponent)) 0
+entry c = ap (λ (n : ℕ). 2 * n) (c .nonzeros-at .ensures .0)
 
 loop-holds : tie.Need-loop-holds Inv-loop μ-loop
 loop-holds c = let m = c .lesser-of .ensures in let b = c .before .behind .ensures in sparse-start (c .before .before .before .before .before .before .before .pre .2) (c .before .before .before .before .before .before .before .pre .3) (c .lesser-of .result) (m .0) (omega (arith, m .1, b)) (λ h. m .2 h ∙ b)
@@ -50,8 +50,8 @@ coeff-context-requires c κs = let t = turning c in (to-start (c .before .before
 shared-slice-read-log : tie.Need-shared-slice-read-log Inv-loop μ-loop
 shared-slice-read-log c = omega (arith, c .before .before .coeff-context .ensures, turning (c .before .before .before) .context, to-start (c .before .before .before .before .before) .pre .2 .entries)
 
-nonzeros-entry-requires : tie.Need-nonzeros-entry-requires Inv-loop μ-loop
-nonzeros-entry-requires c κs = (to-start (c .before .before .before .before .before .before) .pre .0, to-start (c .before .before .before .before .before .before) .pre .2 .exponent, turning (c .before .before .before .before) .counts)
+nonzeros-at-requires : tie.Need-nonzeros-at-requires Inv-loop μ-loop
+nonzeros-at-requires c κs = (to-start (c .before .before .before .before .before .before) .pre .0, to-start (c .before .before .before .before .before .before) .pre .2 .exponent, turning (c .before .before .before .before) .counts)
 
 sub-zeros-from : tie.Need-sub-zeros-from Inv-loop μ-loop
 sub-zeros-from c = omega (arith, entry c, turning (c .before .before .before .before .before) .entry)
@@ -92,8 +92,8 @@ walk-sparse-spec =
     shared-slice-read-log
     (λ c. turning (c .before .before .before) .room)
     (λ c. turning (c .before .before .before .before) .due)
-    nonzeros-entry-requires
-    (λ c. omega (arith, c .nonzeros-entry .ensures .1))
+    nonzeros-at-requires
+    (λ c. omega (arith, c .nonzeros-at .ensures .1))
     (λ c. next-fits (c .before .before .before .before .before .before .before))
     sub-zeros-from
     sub-zeros-from

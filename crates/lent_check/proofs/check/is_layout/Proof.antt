@@ -7,10 +7,10 @@ use borrow.Author.Tests.{not-true, not-false}
 use native.Mathlib.Omega.{arith}
 use borrow.Author.Needs.{needs}
 use Rattle.dct_select.specs.Transforms.{TRANSFORMS}
-use Rattle.layout.specs.Walk.{cells}
+use Rattle.layout.specs.Walk.{alongRow}
 use Rattle.layout.specs.Grid.{blockAt}
 use Rattle.layout.specs.Check.{Until, isLayout}
-use Rattle.lent_sides.specs.laws.Sizes.{widths, heights}
+use Rattle.lent_sides.specs.laws.Sizes.{WIDES, HIGHS}
 use Rattle.lent_check.specs.laws.Flaws.{isSound, sound-cells, unsound}
 use Rattle.lent_check.specs.laws.Steps.{place, close}
 use Rattle.lent_check.specs.laws.Rows.{rowsLeft, rows-start, rows-finish, row-next, row-stop, close-fault, told-good, told-bad}
@@ -43,7 +43,7 @@ loop-holds : tie.Need-loop-holds Inv-loop μ-loop
 loop-holds c = let a = c .before .before .before .before .args in (omega arith, omega arith, rows-start (a .kinds .now) (a .hf-mul .now) (a .bw) (a .bh) (omega arith))
 
 place-row-requires : tie.Need-place-row-requires Inv-loop μ-loop
-unfolding widths heights TRANSFORMS
+unfolding WIDES HIGHS TRANSFORMS
 place-row-requires c κs =
     let a = c .before .before .before .before .before .before .before .before .before .args in
     let p = c .before .before .before .before .before .before .before .before .before .pre in
@@ -56,8 +56,8 @@ returns-2 c =
     let l = c .before .before .before .before .before .before .loop in
     let v = c .before .place-row in
     let k = blockAt (a .kinds .now) (a .bw) in
-    let e = told-bad (v .result) (v .last .0) (cells (place (a .bw) (a .bh) k) (a .bw) 0 (l .y) (Until (l .depth))) (v .ensures) (not-true (v .result) (c .if2 .taken)) in
-    sym (l .inv .2 ∙ row-stop (a .kinds .now) (a .hf-mul .now) (a .bw) (a .bh) (sound-cells (a .bw) (a .bh) (a .kinds .now) (a .hf-mul .now) (p .2) (p .3) (sound (c .before .before .before .before .before .before .before))) (l .y) (l .depth) (omega arith) (l .inv .1) (sym (close-fault (a .bw) (a .bh) k (l .y) (a .bw) 0) ∙ ap (cells (close k) (a .bw) 0 (l .y)) e))
+    let e = told-bad (v .result) (v .last .0) (alongRow (place (a .bw) (a .bh) k) (a .bw) 0 (l .y) (Until (l .depth))) (v .ensures) (not-true (v .result) (c .if2 .taken)) in
+    sym (l .inv .2 ∙ row-stop (a .kinds .now) (a .hf-mul .now) (a .bw) (a .bh) (sound-cells (a .bw) (a .bh) (a .kinds .now) (a .hf-mul .now) (p .2) (p .3) (sound (c .before .before .before .before .before .before .before))) (l .y) (l .depth) (omega arith) (l .inv .1) (sym (close-fault (a .bw) (a .bh) k (l .y) (a .bw) 0) ∙ ap (alongRow (close k) (a .bw) 0 (l .y)) e))
 
 close-row-requires : tie.Need-close-row-requires Inv-loop μ-loop
 close-row-requires c κs =
@@ -77,9 +77,9 @@ returns-3 c =
     let v = c .before .before .before .before .place-row in
     let w = c .before .close-row in
     let k = blockAt (a .kinds .now) (a .bw) in
-    let e = told-good (v .result) (v .last .0) (cells (place (a .bw) (a .bh) k) (a .bw) 0 (l .y) (Until (l .depth))) (v .ensures) (not-false (v .result) (c .before .before .before .if2 .left)) in
-    let f = told-bad (w .result) (w .last .0) (cells (close k) (a .bw) 0 (l .y) (Until (v .last .0))) (w .ensures) (not-true (w .result) (c .if3 .taken)) in
-    sym (l .inv .2 ∙ row-stop (a .kinds .now) (a .hf-mul .now) (a .bw) (a .bh) (sound-cells (a .bw) (a .bh) (a .kinds .now) (a .hf-mul .now) (p .2) (p .3) (sound (c .before .before .before .before .before .before .before .before .before .before))) (l .y) (l .depth) (omega arith) (l .inv .1) (f ∙ ap (cells (close k) (a .bw) 0 (l .y)) e))
+    let e = told-good (v .result) (v .last .0) (alongRow (place (a .bw) (a .bh) k) (a .bw) 0 (l .y) (Until (l .depth))) (v .ensures) (not-false (v .result) (c .before .before .before .if2 .left)) in
+    let f = told-bad (w .result) (w .last .0) (alongRow (close k) (a .bw) 0 (l .y) (Until (v .last .0))) (w .ensures) (not-true (w .result) (c .if3 .taken)) in
+    sym (l .inv .2 ∙ row-stop (a .kinds .now) (a .hf-mul .now) (a .bw) (a .bh) (sound-cells (a .bw) (a .bh) (a .kinds .now) (a .hf-mul .now) (p .2) (p .3) (sound (c .before .before .before .before .before .before .before .before .before .before))) (l .y) (l .depth) (omega arith) (l .inv .1) (f ∙ ap (alongRow (close k) (a .bw) 0 (l .y)) e))
 
 add-y : tie.Need-add-y Inv-loop μ-loop
 add-y c = search needs
@@ -95,9 +95,9 @@ loop-again c =
     let v = c .before .before .before .before .place-row in
     let w = c .before .close-row in
     let k = blockAt (a .kinds .now) (a .bw) in
-    let e = told-good (v .result) (v .last .0) (cells (place (a .bw) (a .bh) k) (a .bw) 0 (l .y) (Until (l .depth))) (v .ensures) (not-false (v .result) (c .before .before .before .if2 .left)) in
-    let f = told-good (w .result) (w .last .0) (cells (close k) (a .bw) 0 (l .y) (Until (v .last .0))) (w .ensures) (not-false (w .result) (c .if3 .left)) in
-    let n = row-next (a .kinds .now) (a .hf-mul .now) (a .bw) (a .bh) (sound-cells (a .bw) (a .bh) (a .kinds .now) (a .hf-mul .now) (p .2) (p .3) (sound (c .before .before .before .before .before .before .before .before .before .before))) (l .y) (l .depth) (omega arith) (l .inv .1) (w .last .0) (f ∙ ap (cells (close k) (a .bw) 0 (l .y)) e) in
+    let e = told-good (v .result) (v .last .0) (alongRow (place (a .bw) (a .bh) k) (a .bw) 0 (l .y) (Until (l .depth))) (v .ensures) (not-false (v .result) (c .before .before .before .if2 .left)) in
+    let f = told-good (w .result) (w .last .0) (alongRow (close k) (a .bw) 0 (l .y) (Until (v .last .0))) (w .ensures) (not-false (w .result) (c .if3 .left)) in
+    let n = row-next (a .kinds .now) (a .hf-mul .now) (a .bw) (a .bh) (sound-cells (a .bw) (a .bh) (a .kinds .now) (a .hf-mul .now) (p .2) (p .3) (sound (c .before .before .before .before .before .before .before .before .before .before))) (l .y) (l .depth) (omega arith) (l .inv .1) (w .last .0) (f ∙ ap (alongRow (close k) (a .bw) 0 (l .y)) e) in
     (omega arith, n .1, l .inv .2 ∙ n .0)
 
 returns-4 : tie.Need-returns-4 Inv-loop μ-loop

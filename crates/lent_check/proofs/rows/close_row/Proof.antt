@@ -5,7 +5,7 @@ use lib.Arith.{digits-lt}
 use lib.ListN.{getD, set}
 use native.Mathlib.Omega.{arith}
 use borrow.Author.Needs.{needs}
-use Rattle.layout.specs.Walk.{cells}
+use Rattle.layout.specs.Walk.{alongRow}
 use Rattle.layout.specs.Grid.{blockAt}
 use Rattle.layout.specs.Check.{Until}
 use Rattle.lent_check.specs.laws.Steps.{gapOf, close}
@@ -14,7 +14,7 @@ use Rattle.lent_check.proofs.rows.close_row.Statement.{statement}
 use Rattle.lent_check.proofs.rows.close_row.Tie as tie
 
 abbrev Inv-loop : tie.InvT-loop
-Inv-loop depth₀ bw kinds y start gaps₀ x₀ depth gaps x = (x ≤ bw) × (cells (close (blockAt kinds bw)) bw 0 y (Until depth₀) ≡ closing bw (blockAt kinds bw) y gaps x depth)
+Inv-loop depth₀ bw kinds y start gaps₀ x₀ depth gaps x = (x ≤ bw) × (alongRow (close (blockAt kinds bw)) bw 0 y (Until depth₀) ≡ closing bw (blockAt kinds bw) y gaps x depth)
 
 abbrev μ-loop : tie.MeasureT-loop
 μ-loop depth₀ bw kinds y start gaps₀ x₀ depth gaps x = bw - x

@@ -6,18 +6,18 @@ use lib.ListN.{drop}
 use borrow.Author.Tests.{not-true, not-false}
 use native.Mathlib.Omega.{arith}
 use borrow.Author.Needs.{needs}
-use Rattle.layout.specs.Walk.{cells}
+use Rattle.layout.specs.Walk.{alongRow}
 use Rattle.layout.specs.Grid.{blockAt}
 use Rattle.layout.specs.Check.{Until}
 use Rattle.lent_check.specs.laws.Steps.{placeCell, place}
-use Rattle.lent_check.specs.laws.Listing.{flagAt, flagged-flags, listed-row, Listed, placeAll, looked, column-below, place-start, place-next, place-stop, place-end}
+use Rattle.lent_check.specs.laws.Listing.{flagAt, flagged-flags, listed-row, Listed, placeAll, looked, x-below, place-start, place-next, place-stop, place-end}
 use Rattle.lent_check.specs.laws.Rows.{told-good, told-bad}
 use Rattle.lent_check.proofs.rows.place_row.Statement.{statement}
 use Rattle.lent_check.proofs.rows.place_row.Tie as tie
 
 abbrev Inv-loop : tie.InvT-loop
 Inv-loop depth₀ wides highs bw bh kinds y start list n i₀ depth i =
-    (i ≤ n) × (cells (place bw bh (blockAt kinds bw)) bw 0 y (Until depth₀) ≡ placeAll bw bh (blockAt kinds bw) y (drop i (looked (flagAt (blockAt kinds bw) y) bw 0)) (Until depth))
+    (i ≤ n) × (alongRow (place bw bh (blockAt kinds bw)) bw 0 y (Until depth₀) ≡ placeAll bw bh (blockAt kinds bw) y (drop i (looked (flagAt (blockAt kinds bw) y) bw 0)) (Until depth))
 
 abbrev μ-loop : tie.MeasureT-loop
 μ-loop depth₀ wides highs bw bh kinds y start list n i₀ depth i = n - i
@@ -63,7 +63,7 @@ below : (c : tie.After-to-usize Inv-loop μ-loop) → c .to-usize .result < c .b
 below c =
     let a = c .before .before .before .before .before .before .before .before .before .args in
     let r = c .before .before .before .list-row in
-    let b = column-below (flagAt (blockAt (a .kinds .now) (a .bw)) (a .y)) (a .bw) (c .before .before .loop .i) (r .result) (r .last .0) (listed (c .before .before .before)) (omega arith) in
+    let b = x-below (flagAt (blockAt (a .kinds .now) (a .bw)) (a .y)) (a .bw) (c .before .before .loop .i) (r .result) (r .last .0) (listed (c .before .before .before)) (omega arith) in
     omega (arith, c .to-usize .ensures)
 
 add-kind : tie.Need-add-kind Inv-loop μ-loop

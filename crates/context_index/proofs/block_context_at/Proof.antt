@@ -5,8 +5,8 @@ use borrow.Author.Needs.{needs}
 use native.Mathlib.Omega.{arith}
 use mathlib.Core.Path.{sym}
 use Prim.Native.Nat.{_+_, _*_}
-use Rattle.context_index.proofs.context_at.Statement.{statement}
-use Rattle.context_index.proofs.context_at.Tie as tie
+use Rattle.context_index.proofs.block_context_at.Statement.{statement}
+use Rattle.context_index.proofs.block_context_at.Tie as tie
 
 returns : tie.Need-returns
 returns c =
@@ -14,26 +14,26 @@ returns c =
     let k = place-ge (a .qf-size) (a .lf-size) (a .n) (a .order) (a .qf) (a .lf) (omega arith) (omega arith) in
     sym (List·getD-eq-default (a .block-ctx-map .now) 0 {n = entryOf (a .qf-size) (a .lf-size) (a .n) (a .order) (a .qf) (a .lf)} (omega arith))
 
-mul-index-2 : tie.Need-mul-index-2
-mul-index-2 c =
+mul-entry-2 : tie.Need-mul-entry-2
+mul-entry-2 c =
     let a = c .before .before .args in
     omega
     (arith, place-le {qfs = a .qf-size} {lfs = a .lf-size} {n = a .n} {order = a .order} {qf = a .qf} (omega arith) (omega arith) (omega arith) (omega arith) (omega arith))
 
-add-index-2 : tie.Need-add-index-2
-add-index-2 c =
+add-entry-2 : tie.Need-add-entry-2
+add-entry-2 c =
     let a = c .before .before .args in
     omega
     (arith, place-le {qfs = a .qf-size} {lfs = a .lf-size} {n = a .n} {order = a .order} {qf = a .qf} (omega arith) (omega arith) (omega arith) (omega arith) (omega arith))
 
-mul-index-3 : tie.Need-mul-index-3
-mul-index-3 c =
+mul-entry-3 : tie.Need-mul-entry-3
+mul-entry-3 c =
     let a = c .before .before .args in
     omega
     (arith, place-le {qfs = a .qf-size} {lfs = a .lf-size} {n = a .n} {order = a .order} {qf = a .qf} (omega arith) (omega arith) (omega arith) (omega arith) (omega arith))
 
-add-index-3 : tie.Need-add-index-3
-add-index-3 c =
+add-entry-3 : tie.Need-add-entry-3
+add-entry-3 c =
     let a = c .before .before .args in
     omega
     (arith, place-le {qfs = a .qf-size} {lfs = a .lf-size} {n = a .n} {order = a .order} {qf = a .qf} (omega arith) (omega arith) (omega arith) (omega arith) (omega arith))
@@ -48,7 +48,7 @@ returns-3 : tie.Need-returns-3
 unfolding entryOf
 returns-3 c = c .to-usize .ensures
 
-pub context-at-spec : {M : Type 1} → statement M
-context-at-spec =
-    tie.close (tie.spec returns (λ c. search needs) (λ c. search needs) mul-index-2 add-index-2 mul-index-3 add-index-3
+pub block-context-at-spec : {M : Type 1} → statement M
+block-context-at-spec =
+    tie.close (tie.spec returns (λ c. search needs) (λ c. search needs) mul-entry-2 add-entry-2 mul-entry-3 add-entry-3
     returns-2 (λ c. search needs) (λ c κs. search needs) returns-3)

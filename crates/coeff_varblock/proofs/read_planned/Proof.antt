@@ -7,8 +7,8 @@ use lib.ListN.{length}
 use Rattle.coeff_group.specs.laws.Rewritten.{VarblockShown}
 use Rattle.order_store.specs.LookedUp.{stretchAt}
 use Rattle.coeff_group.specs.laws.Lent.{varblockFits, fits-planned, varblock-refused, varblock-reads}
-use Rattle.coeff_varblock.proofs.read_varblock.Statement.{statement}
-use Rattle.coeff_varblock.proofs.read_varblock.Tie as tie
+use Rattle.coeff_varblock.proofs.read_planned.Statement.{statement}
+use Rattle.coeff_varblock.proofs.read_planned.Tie as tie
 
 -- Stages: from one to an earlier one.
 abbrev to-start : tie.After-stretch-of → tie.Start
@@ -45,8 +45,8 @@ returns-2 c =
     let z = w .last .1 .1 .1 .1 .1 .1 .1 .1 .1 .1 in
     λ left. subst (VarblockShown (a .plan) (a .symbols .now) (a .at + 192 * 2 ^ (a .plan .shape .exponent)) (w .result .walk) (w .result .«counts_over») (a .rows .now) (z .0) (z .1 .0 ∷ z .1 .1 .0 ∷ z .1 .1 .1 .0 ∷ [])) (varblock-reads (a .plan) (a .group) (a .clusters) (a .preset-map .now) (a .store .now) (a .rows .now) (a .symbols .now) (a .at) (a .shift) (a .log .now) (a .g0 .now ∷ a .g1 .now ∷ a .g2 .now ∷ []) (sym (fits f) ∙ not-false (f .varblock-fits .result) (r .before .before .before .before .before .if1 .left)) left) (w .ensures left)
 
-pub read-varblock-spec : {M : Type 1} → statement M
-read-varblock-spec =
+pub read-planned-spec : {M : Type 1} → statement M
+read-planned-spec =
     tie.close
     (tie.spec
     (λ c κs. search needs)

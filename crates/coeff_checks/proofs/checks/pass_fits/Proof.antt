@@ -2,8 +2,8 @@ use borrow.Author.Tests.{eq-eqb, ne-eqb, not-true, not-false}
 use Rattle.order_store.specs.Store.{PLACES}
 use borrow.Author.Needs.{needs}
 use mathlib.Core.Path.{_∙_, sym}
-use Rattle.coeff_checks.proofs.checks.read_fit.Statement.{statement}
-use Rattle.coeff_checks.proofs.checks.read_fit.Tie as tie
+use Rattle.coeff_checks.proofs.checks.pass_fits.Statement.{statement}
+use Rattle.coeff_checks.proofs.checks.pass_fits.Tie as tie
 
 returns : tie.Need-returns
 returns c =
@@ -18,15 +18,15 @@ returns-2 c =
 returns-3 : tie.Need-returns-3
 returns-3 c =
     let a = c .before .before .before .before .args in
-    let f = sym (c .before .lf-lengths-fit .ensures) ∙ not-true (c .before .lf-lengths-fit .result) (c .if3 .taken) in
+    let f = sym (c .before .lf-fits .ensures) ∙ not-true (c .before .lf-fits .result) (c .if3 .taken) in
     rw (eq-eqb (a .kinds) (a .n) (c .before .before .before .if1 .left), eq-eqb (a .hf-mul) (a .n) (c .before .before .if2 .left), f)
 
 returns-4 : tie.Need-returns-4
 unfolding PLACES
 returns-4 c =
     let a = c .before .before .before .before .args in
-    let f = sym (c .before .lf-lengths-fit .ensures) ∙ not-false (c .before .lf-lengths-fit .result) (c .if3 .left) in
+    let f = sym (c .before .lf-fits .ensures) ∙ not-false (c .before .lf-fits .result) (c .if3 .left) in
     rw (eq-eqb (a .kinds) (a .n) (c .before .before .before .if1 .left), eq-eqb (a .hf-mul) (a .n) (c .before .before .if2 .left), f)
 
-pub read-fit-spec : {M : Type 1} → statement M
-read-fit-spec = tie.close (tie.spec returns returns-2 (λ c κs. search needs) returns-3 returns-4)
+pub pass-fits-spec : {M : Type 1} → statement M
+pass-fits-spec = tie.close (tie.spec returns returns-2 (λ c κs. search needs) returns-3 returns-4)

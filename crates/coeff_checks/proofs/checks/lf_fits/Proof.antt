@@ -1,7 +1,7 @@
 use borrow.Author.Tests.{not-true, not-false}
 use borrow.Author.Needs.{needs}
-use Rattle.coeff_checks.proofs.checks.lf_lengths_fit.Statement.{statement}
-use Rattle.coeff_checks.proofs.checks.lf_lengths_fit.Tie as tie
+use Rattle.coeff_checks.proofs.checks.lf_fits.Statement.{statement}
+use Rattle.coeff_checks.proofs.checks.lf_fits.Tie as tie
 
 returns : tie.Need-returns
 returns c =
@@ -13,5 +13,5 @@ returns-2 c =
     let a = c .before .before .args in
     rw (not-false (a .there) (c .before .if1 .left)) (c .three-fit .ensures)
 
-pub lf-lengths-fit-spec : {M : Type 1} → statement M
-lf-lengths-fit-spec = tie.close (tie.spec returns (λ c κs. search needs) returns-2)
+pub lf-fits-spec : {M : Type 1} → statement M
+lf-fits-spec = tie.close (tie.spec returns (λ c κs. search needs) returns-2)

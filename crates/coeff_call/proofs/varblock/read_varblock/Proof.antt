@@ -3,14 +3,14 @@ use mathlib.Core.List.{[], _∷_}
 use borrow.Author.Needs.{needs}
 use Rattle.coeff_group.specs.laws.Rewritten.{rows-are}
 use Rattle.coeff_group.specs.laws.Step.{step-stops, step-goes}
-use Rattle.coeff_call.proofs.varblock.step_varblock.Statement.{statement}
-use Rattle.coeff_call.proofs.varblock.step_varblock.Tie as tie
+use Rattle.coeff_call.proofs.varblock.read_varblock.Statement.{statement}
+use Rattle.coeff_call.proofs.varblock.read_varblock.Tie as tie
 
 -- Stages: from one to an earlier one.
 abbrev to-start : tie.After-slice-known4 → tie.Start
 to-start c = c .before .before .before .before .before .before .before
 
-abbrev to-slice-known4 : tie.After-read-varblock → tie.After-slice-known4
+abbrev to-slice-known4 : tie.After-read-planned → tie.After-slice-known4
 to-slice-known4 c = c .before .before .before .before .before .before
 
 abbrev to-g1 : tie.After-rewrite → tie.After-g1
@@ -19,7 +19,7 @@ to-g1 c = c .before .before .before .before .before .before .before .before
 returns : tie.Need-returns
 returns c =
     let a = to-start (to-slice-known4 (c .before .before .before .before .before .before .before .before .before .before)) .args in
-    let w = c .before .before .before .before .before .before .before .before .before .before .read-varblock in
+    let w = c .before .before .before .before .before .before .before .before .before .before .read-planned in
     let z = w .last .1 .1 .1 .1 .1 .1 .1 .1 in
     (to-start (to-slice-known4 (c .before .before .before .before .before .before .before .before .before .before)) .pre .3, step-stops (a .plan) (a .group) (a .clusters) (a .preset-map .now) (a .store .now) (a .rows .now) (a .symbols .now) (a .at) (a .shift) (a .log .now) (a .g0 .now ∷ a .g1 .now ∷ a .g2 .now ∷ []) (to-start (to-slice-known4 (c .before .before .before .before .before .before .before .before .before .before)) .pre .0) (to-start (to-slice-known4 (c .before .before .before .before .before .before .before .before .before .before)) .pre .1) (to-start (to-slice-known4 (c .before .before .before .before .before .before .before .before .before .before)) .pre .3) (w .result .walk) (w .result .«counts_over») (z .1 .0) (z .1 .1 .0 ∷ z .1 .1 .1 .0 ∷ z .1 .1 .1 .1 .0 ∷ []) (w .ensures) (sym (c .before .is-stopped .ensures) ∙ c .if1 .taken))
 
@@ -44,12 +44,12 @@ same-length-7 c = to-g1 (c .before .before .before .before .before .before) .g1 
 returns-2 : tie.Need-returns-2
 returns-2 c =
     let a = to-start (to-slice-known4 (to-g1 (c .before .before .before .before .before .before) .before .before .before .before .before)) .args in
-    let w = to-g1 (c .before .before .before .before .before .before) .before .before .before .before .before .read-varblock in
+    let w = to-g1 (c .before .before .before .before .before .before) .before .before .before .before .before .read-planned in
     let z = w .last .1 .1 .1 .1 .1 .1 .1 .1 in
     step-goes (a .plan) (a .group) (a .clusters) (a .preset-map .now) (a .store .now) (a .rows .now) (a .symbols .now) (a .at) (a .shift) (a .log .now) (a .g0 .now ∷ a .g1 .now ∷ a .g2 .now ∷ []) (to-start (to-slice-known4 (to-g1 (c .before .before .before .before .before .before) .before .before .before .before .before)) .pre .0) (to-start (to-slice-known4 (to-g1 (c .before .before .before .before .before .before) .before .before .before .before .before)) .pre .1) (to-start (to-slice-known4 (to-g1 (c .before .before .before .before .before .before) .before .before .before .before .before)) .pre .3) (w .result .walk) (w .result .«counts_over») (z .1 .0) (z .1 .1 .0 ∷ z .1 .1 .1 .0 ∷ z .1 .1 .1 .1 .0 ∷ []) (w .ensures) _ (rows-are (a .plan) (w .result .«counts_over») (a .rows .now) (to-start (to-slice-known4 (to-g1 (c .before .before .before .before .before .before) .before .before .before .before .before)) .pre .3) _ _ _ (c .before .before .before .before .before .before .rewrite .ensures) (c .before .before .before .rewrite2 .ensures) (c .rewrite3 .ensures))
 
-pub step-varblock-spec : {M : Type 1} → statement M
-step-varblock-spec =
+pub read-varblock-spec : {M : Type 1} → statement M
+read-varblock-spec =
     tie.close
     (tie.spec
     (λ c κs. tt)

@@ -1,8 +1,8 @@
 use mathlib.Core.Path.{_∙_, ap, sym}
 use Rattle.coeff_checks.specs.laws.Tests.{isFine, passes-by}
 use borrow.Author.Needs.{needs}
-use Rattle.coeff_checks.proofs.checks.group_passes.Statement.{statement}
-use Rattle.coeff_checks.proofs.checks.group_passes.Tie as tie
+use Rattle.coeff_checks.proofs.checks.layout_fits.Statement.{statement}
+use Rattle.coeff_checks.proofs.checks.layout_fits.Tie as tie
 
 returns : tie.Need-returns
 returns c =
@@ -16,5 +16,5 @@ returns-2 c =
     let k = c .before .before .check-group in
     sym (ap isFine (c .enum-told2 .given .1)) ∙ passes-by (a .group .bw) (a .group .bh) (a .kinds .now) (a .hf-mul .now) (k .result) (k .ensures)
 
-pub group-passes-spec : {M : Type 1} → statement M
-group-passes-spec = tie.close (tie.spec (λ c κs. search needs) (λ c. search needs) (λ c. search needs) returns returns-2)
+pub layout-fits-spec : {M : Type 1} → statement M
+layout-fits-spec = tie.close (tie.spec (λ c κs. search needs) (λ c. search needs) (λ c. search needs) returns returns-2)

@@ -2,8 +2,8 @@ use Rattle.coeff_walk.specs.laws.PlaceLaws.{place-turned, place-straight, cell-
 use borrow.Author.Needs.{needs}
 use native.Mathlib.Omega.{arith}
 use mathlib.Core.Path.{sym}
-use Rattle.coeff_places.proofs.place.cell.Statement.{statement}
-use Rattle.coeff_places.proofs.place.cell.Tie as tie
+use Rattle.coeff_places.proofs.place.cell_of.Statement.{statement}
+use Rattle.coeff_places.proofs.place.cell_of.Tie as tie
 
 mul-result : tie.Need-mul-result
 mul-result c =
@@ -43,8 +43,8 @@ returns-2 c =
     let a = c .before .before .before .before .before .before .before .before .before .args in
     rw (c .before .before .before .if1 .left, c .before .before .before .before .before .before .to-usize .ensures .0, c .before .before .before .before .to-usize2 .ensures .0) (sym (place-straight (a .spot .width) (a .spot .x) (a .spot .y) (a .list .now) (a .k) (omega arith)))
 
-pub cell-spec : {M : Type 1} → statement M
-cell-spec =
+pub cell-of-spec : {M : Type 1} → statement M
+cell-of-spec =
     tie.close
     (tie.spec
     (λ c. search needs)

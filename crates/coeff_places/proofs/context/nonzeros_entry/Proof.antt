@@ -1,8 +1,0 @@
-use native.Mathlib.Omega.{arith}
-use Rattle.coeff_walk.specs.laws.Outcome.{below-63}
-use borrow.Author.Needs.{needs}
-use Rattle.coeff_places.proofs.context.nonzeros_entry.Statement.{statement}
-use Rattle.coeff_places.proofs.context.nonzeros_entry.Tie as tie
-
-pub nonzeros-entry-spec : {M : Type 1} → statement M
-nonzeros-entry-spec = tie.close (tie.spec (λ c. search needs) (λ c. below-63 (c .args .exponent) (c .args .n) (omega arith)) (λ c κs. search needs) (λ c. (rw (c .to-usize .ensures .0, c .before .before .pre .0), c .to-usize .ensures .1)))
