@@ -20,10 +20,10 @@ use Rattle.context_thresholds.specs.Thresholds.{Lists, listsOf, readLists, pad}
 abbrev pub lengthsOf : Lists → List ℕ
 lengthsOf l = length (l .lf0) ∷ length (l .lf1) ∷ length (l .lf2) ∷ length (l .qf) ∷ []
 
--- the record of a count, lists and a map
+-- the record of a number of clusters, lists and a context map
 unfoldable pub contextsOf : ℕ → Lists → List ℕ → HfBlockContext
-contextsOf count l map =
-    recordOf count (lengthsOf l) (pad 15 (l .lf0) ++ (pad 15 (l .lf1) ++ pad 15 (l .lf2))) (pad 15 (l .qf)) (pad 2496 map)
+contextsOf clusters l map =
+    recordOf clusters (lengthsOf l) (pad 15 (l .lf0) ++ (pad 15 (l .lf1) ++ pad 15 (l .lf2))) (pad 15 (l .qf)) (pad 2496 map)
 
 abbrev pub noLists : Lists
 noLists = listsOf [] [] [] []
@@ -54,20 +54,20 @@ accepted at contexts = record { answer = gives at; contexts = contexts }
 abbrev pub refused : Said → Outcome
 refused s = record { answer = refuses s; contexts = contextsOf 0 noLists [] }
 
--- all bits are read: bsize (12), map length (1), count (12), map bytes (12)
+-- all bits are read: bsize (12), map length (1), clusters (12), map bytes (12)
 unfoldable pub judged : ℕ → List ℕ → List ℕ → Answer Unit
-judged count map lengths =
+judged clusters map lengths =
     unless 12 (leb (bsizeOf lengths) 64)
     (unless 1 (eqb (length map) (39 * bsizeOf lengths))
-    (unless 12 (leb 1 count)
-    (unless 12 (leb count 16)
-    (unless 12 (bytesBelow count map) passed))))
+    (unless 12 (leb 1 clusters)
+    (unless 12 (leb clusters 16)
+    (unless 12 (bytesBelow clusters map) passed))))
 
 abbrev pub judgedAs : ℕ → List ℕ → List ℕ → HfBlockContext → ℕ → Outcome
-judgedAs count map lengths contexts at = answeredBy (judged count map lengths) refused (λ (u : Unit). accepted at contexts)
+judgedAs clusters map lengths contexts at = answeredBy (judged clusters map lengths) refused (λ (u : Unit). accepted at contexts)
 
 abbrev pub judgedLists : ℕ → List ℕ → Lists → ℕ → Outcome
-judgedLists count map l at = judgedAs count map (lengthsOf l) (contextsOf count l map) at
+judgedLists clusters map l at = judgedAs clusters map (lengthsOf l) (contextsOf clusters l map) at
 
 abbrev pub orEnded : {A : Type 0} → Read A → (A → ℕ → Outcome) → Outcome
 orEnded (Value l at) k = k l at
@@ -75,8 +75,8 @@ orEnded (Ended at) k = refused (said (BitsEnd at))
 
 -- first bit 1: 15 clusters, the 39-entry map, no thresholds
 abbrev pub byFirst : List ℕ → ℕ → List ℕ → ℕ → ℕ → Outcome
-byFirst bytes count map first at =
-    cond (eqb first 1) (accepted at (contextsOf 15 noLists DEFAULT-MAP)) (orEnded (readLists bytes at) (judgedLists count map))
+byFirst bytes clusters map first at =
+    cond (eqb first 1) (accepted at (contextsOf 15 noLists DEFAULT-MAP)) (orEnded (readLists bytes at) (judgedLists clusters map))
 
 unfoldable pub parsed : List ℕ → ℕ → List ℕ → Outcome
-parsed bytes count map = orEnded (readBits bytes 0 1) (byFirst bytes count map)
+parsed bytes clusters map = orEnded (readBits bytes 0 1) (byFirst bytes clusters map)
