@@ -328,8 +328,8 @@ static inline size_t netbuff_context_map_length(uint32_t lf0_length, uint32_t lf
 /* ---- Transforms and bits ---- */
 
 /*
- * The transform of a number: its varblock's width and height in blocks, its order (0 to 12), and
- * whether x and y of a place of that order are swapped: for Dct8, for larger squares and for
+ * The transform of a number: how many blocks its varblock is wide and high, its order (0 to 12),
+ * and whether x and y of a place of that order are swapped: for Dct8, for larger squares and for
  * varblocks higher than wide. (So Dct8 has its first coefficient at place (1, 0), in cell (0, 1).)
  * Refused: 5 at 0, 0 for 27 and more.
  */

@@ -100,7 +100,8 @@ fn walk_dense(
 }
 
 // Skips the zeros from place `from` on, below place `stop`: logs each, and tells the place behind them. A 0 leaves the
-// count as it is, so `map_from`, the coefficient map from the count's entry on, serves them all; 2 to the power `exponent` blocks.
+// count as it is, so `map_from`, the coefficient map from the count's entry on, serves them all; 2 to the power
+// `exponent` blocks.
 fn skip_zeros(
     frequencies: &[u8; 63],
     exponent: usize,

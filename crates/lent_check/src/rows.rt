@@ -53,7 +53,7 @@ fn claim_four(depth: &mut [u8; 259], x: usize, n: usize, v: u8) -> bool
     found == 0
 }
 
-// Each x from x to x + n - 1, which must be clear, now have depth v.
+// The n numbers from x on, which must be clear, now have depth v.
 fn claim(depth: &mut [u8; 259], x: usize, n: usize, v: u8) -> bool
     requires { ⌜ (x < 256) × (x + n ≤ 256) ⌝ }
     ensures { λ r. ⌜ cond r (Until (now (depth .exit))) Fault ≡ claimed (now (depth .entry)) x n v ⌝ }
