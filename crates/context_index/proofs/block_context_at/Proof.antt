@@ -1,42 +1,36 @@
 use lib.ListN.{List·getD-eq-default}
 use Rattle.context_index.specs.Contexts.{entryOf}
-use Rattle.context_index.specs.laws.Laws.{place-le, place-ge}
+use Rattle.context_index.specs.laws.Laws.{entry-le, entry-ge}
 use borrow.Author.Needs.{needs}
 use native.Mathlib.Omega.{arith}
 use mathlib.Core.Path.{sym}
-use Prim.Native.Nat.{_+_, _*_}
+use Prim.Native.Nat.{_+_, _*_, _≤_}
 use Rattle.context_index.proofs.block_context_at.Statement.{statement}
 use Rattle.context_index.proofs.block_context_at.Tie as tie
 
 returns : tie.Need-returns
 returns c =
     let a = c .before .before .args in
-    let k = place-ge (a .qf-size) (a .lf-size) (a .n) (a .order) (a .qf) (a .lf) (omega arith) (omega arith) in
+    let k = entry-ge (a .qf-size) (a .lf-size) (a .n) (a .order) (a .qf) (a .lf) (omega arith) (omega arith) in
     sym (List·getD-eq-default (a .block-ctx-map .now) 0 {n = entryOf (a .qf-size) (a .lf-size) (a .n) (a .order) (a .qf) (a .lf)} (omega arith))
 
-mul-entry-2 : tie.Need-mul-entry-2
-mul-entry-2 c =
+-- The order is below the map's length, so no step of the entry's number wraps.
+small : (c : tie.Else1) → let a = c .before .before .args in ((a .n * 13 + a .order) * a .qf-size ≤ 40336) × (((a .n * 13 + a .order) * a .qf-size + a .qf) * a .lf-size ≤ 165277696)
+small c =
     let a = c .before .before .args in
-    omega
-    (arith, place-le {qfs = a .qf-size} {lfs = a .lf-size} {n = a .n} {order = a .order} {qf = a .qf} (omega arith) (omega arith) (omega arith) (omega arith) (omega arith))
+    entry-le {qfs = a .qf-size} {lfs = a .lf-size} {n = a .n} {order = a .order} {qf = a .qf} (omega arith) (omega arith) (omega arith) (omega arith) (omega arith)
+
+mul-entry-2 : tie.Need-mul-entry-2
+mul-entry-2 c = omega (arith, small c)
 
 add-entry-2 : tie.Need-add-entry-2
-add-entry-2 c =
-    let a = c .before .before .args in
-    omega
-    (arith, place-le {qfs = a .qf-size} {lfs = a .lf-size} {n = a .n} {order = a .order} {qf = a .qf} (omega arith) (omega arith) (omega arith) (omega arith) (omega arith))
+add-entry-2 c = omega (arith, small c)
 
 mul-entry-3 : tie.Need-mul-entry-3
-mul-entry-3 c =
-    let a = c .before .before .args in
-    omega
-    (arith, place-le {qfs = a .qf-size} {lfs = a .lf-size} {n = a .n} {order = a .order} {qf = a .qf} (omega arith) (omega arith) (omega arith) (omega arith) (omega arith))
+mul-entry-3 c = omega (arith, small c)
 
 add-entry-3 : tie.Need-add-entry-3
-add-entry-3 c =
-    let a = c .before .before .args in
-    omega
-    (arith, place-le {qfs = a .qf-size} {lfs = a .lf-size} {n = a .n} {order = a .order} {qf = a .qf} (omega arith) (omega arith) (omega arith) (omega arith) (omega arith))
+add-entry-3 c = omega (arith, small c)
 
 returns-2 : tie.Need-returns-2
 unfolding entryOf

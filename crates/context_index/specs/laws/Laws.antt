@@ -55,18 +55,18 @@ digits-le {a} {b} {s} ha hs hb ht =
     let k : a * s + b ≤ 255 = omega arith in
     (h, mul-le-mul k ht)
 
--- Places in the map.
-pub place-le : {qfs lfs n order qf : ℕ} → qfs ≤ 16 → lfs ≤ 4096 → n < 3 → order < 2496 → qf ≤ 15
+-- Entries of the context map.
+pub entry-le : {qfs lfs n order qf : ℕ} → qfs ≤ 16 → lfs ≤ 4096 → n < 3 → order < 2496 → qf ≤ 15
     → ((n * 13 + order) * qfs ≤ 40336) × (((n * 13 + order) * qfs + qf) * lfs ≤ 165277696)
-place-le {qfs} {lfs} {n} {order} {qf} hq hl hn ho hf =
+entry-le {qfs} {lfs} {n} {order} {qf} hq hl hn ho hf =
     let k : n * 13 + order ≤ 2521 = omega arith in
     let h : (n * 13 + order) * qfs ≤ 40336 = mul-le-mul k hq in
     let m : (n * 13 + order) * qfs + qf ≤ 40351 = omega arith in
     (h, mul-le-mul m hl)
 
-pub place-ge : (qfs lfs n order qf lf : ℕ) → 1 ≤ qfs → 1 ≤ lfs → order ≤ entryOf qfs lfs n order qf lf
+pub entry-ge : (qfs lfs n order qf lf : ℕ) → 1 ≤ qfs → 1 ≤ lfs → order ≤ entryOf qfs lfs n order qf lf
 unfolding entryOf
-place-ge qfs lfs n order qf lf hq hl =
+entry-ge qfs lfs n order qf lf hq hl =
     let a : n * 13 + order ≤ (n * 13 + order) * qfs = le-mul-of-pos-right (n * 13 + order) hq in
     let b : (n * 13 + order) * qfs + qf ≤ ((n * 13 + order) * qfs + qf) * lfs = le-mul-of-pos-right ((n * 13 + order) * qfs + qf) hl in
     omega arith

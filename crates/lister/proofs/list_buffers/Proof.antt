@@ -1,13 +1,12 @@
 use Rattle.lister.specs.laws.ListSteps.{few-wide, few-high, few-blocks, cleared}
 use Rattle.layout_sizes.specs.declared.Blocks.{Blocks}
 use lib.Seq.{length-take-le}
-use lib.ListN.{length-replicate}
-use mathlib.Core.Path.{refl}
 use borrow.Author.Needs.{needs}
 use native.Mathlib.Omega.{arith}
-use mathlib.Core.Path.{_≡_, _∙_, ap, sym}
+use mathlib.Core.Path.{_≡_, _∙_, refl, ap, sym}
+use mathlib.Core.List.{List}
 use Prim.Native.Nat.{ℕ, _≤_, _*_}
-use lib.ListN.{length}
+use lib.ListN.{length, take, replicate, length-replicate}
 use Rattle.lister.proofs.list_buffers.Statement.{statement}
 use Rattle.lister.proofs.list_buffers.Tie as tie
 
@@ -15,120 +14,55 @@ use Rattle.lister.proofs.list_buffers.Tie as tie
 abbrev to-start : tie.After-blocks-of → tie.Start
 to-start c = c .before .before .before .before .before .before .before .before
 
+-- The job's grid is at most 64 blocks wide and high, so the 4,096 elements of each buffer are enough.
+wide : (c : tie.After-blocks-of) → c .blocks-of .result .bw ≤ 64
+wide c = omega (arith, ap (λ (s : Blocks). s .bw) (c .blocks-of .ensures), few-wide (to-start c .args .width) (to-start c .pre .0))
+
+high : (c : tie.After-blocks-of) → c .blocks-of .result .bh ≤ 64
+high c = omega (arith, ap (λ (s : Blocks). s .bh) (c .blocks-of .ensures), few-high (to-start c .args .height) (to-start c .pre .1))
+
+few : (c : tie.After-blocks-of) → c .blocks-of .result .bh * c .blocks-of .result .bw ≤ 4096
+few c = few-blocks (c .blocks-of .result .bw) (c .blocks-of .result .bh) (wide c) (high c)
+
+fits : (c : tie.After-blocks-of) (buffer : List ℕ) → buffer ≡ replicate 4096 0 → c .blocks-of .result .bh * c .blocks-of .result .bw ≤ length buffer
+fits c buffer e = omega (arith, few c, ap length e ∙ length-replicate {A = ℕ} 4096 0)
+
+as-long : (c : tie.After-blocks-of) (buffer : List ℕ) → buffer ≡ replicate 4096 0
+    → c .blocks-of .result .bh * c .blocks-of .result .bw ≡ length (take (c .blocks-of .result .bh * c .blocks-of .result .bw) buffer)
+as-long c buffer e = sym (length-take-le (c .blocks-of .result .bh * c .blocks-of .result .bw) buffer (fits c buffer e))
+
 mul-n : tie.Need-mul-n
-mul-n c =
-    let a = to-start c .args in
-    let h = to-start c .pre in
-    let b = c .blocks-of in
-    let ew = ap (λ (s : Blocks). s .bw) (b .ensures) in
-    let eh = ap (λ (s : Blocks). s .bh) (b .ensures) in
-    let w : b .result .bw ≤ 64 = omega (arith, ew, few-wide (a .width) (h .0)) in
-    let v : b .result .bh ≤ 64 = omega (arith, eh, few-high (a .height) (h .1)) in
-    let m = few-blocks (b .result .bw) (b .result .bh) w v in
-    omega arith
+mul-n c = omega (arith, few c)
 
 slice-aggregate-list-layout : tie.Need-slice-aggregate-list-layout
-slice-aggregate-list-layout c =
-    let a = to-start (c .before .before) .args in
-    let h = to-start (c .before .before) .pre in
-    let b = c .before .before .blocks-of in
-    let ew = ap (λ (s : Blocks). s .bw) (b .ensures) in
-    let eh = ap (λ (s : Blocks). s .bh) (b .ensures) in
-    let w : b .result .bw ≤ 64 = omega (arith, ew, few-wide (a .width) (h .0)) in
-    let v : b .result .bh ≤ 64 = omega (arith, eh, few-high (a .height) (h .1)) in
-    let m = few-blocks (b .result .bw) (b .result .bh) w v in
-    let l : length (a .sharpness .now) ≡ 4096 = ap length (h .2) ∙ length-replicate {A = ℕ} 4096 0 in
-    sym (length-take-le (b .result .bh * b .result .bw) (a .sharpness .now) (omega arith))
+slice-aggregate-list-layout c = let s = c .before .before in as-long s (to-start s .args .sharpness .now) (to-start s .pre .2)
 
 slice-relend-prefix-list-layout : tie.Need-slice-relend-prefix-list-layout
-slice-relend-prefix-list-layout c =
-    let a = to-start (c .before .before) .args in
-    let h = to-start (c .before .before) .pre in
-    let b = c .before .before .blocks-of in
-    let ew = ap (λ (s : Blocks). s .bw) (b .ensures) in
-    let eh = ap (λ (s : Blocks). s .bh) (b .ensures) in
-    let w : b .result .bw ≤ 64 = omega (arith, ew, few-wide (a .width) (h .0)) in
-    let v : b .result .bh ≤ 64 = omega (arith, eh, few-high (a .height) (h .1)) in
-    let m = few-blocks (b .result .bw) (b .result .bh) w v in
-    let l : length (a .kinds .now) ≡ 4096 = ap length (h .3) ∙ length-replicate {A = ℕ} 4096 0 in
-    omega arith
+slice-relend-prefix-list-layout c = let s = c .before .before in fits s (to-start s .args .kinds .now) (to-start s .pre .3)
 
 slice-aggregate-list-layout-2 : tie.Need-slice-aggregate-list-layout-2
-slice-aggregate-list-layout-2 c =
-    let a = to-start (c .before .before .before) .args in
-    let h = to-start (c .before .before .before) .pre in
-    let b = c .before .before .before .blocks-of in
-    let ew = ap (λ (s : Blocks). s .bw) (b .ensures) in
-    let eh = ap (λ (s : Blocks). s .bh) (b .ensures) in
-    let w : b .result .bw ≤ 64 = omega (arith, ew, few-wide (a .width) (h .0)) in
-    let v : b .result .bh ≤ 64 = omega (arith, eh, few-high (a .height) (h .1)) in
-    let m = few-blocks (b .result .bw) (b .result .bh) w v in
-    let l : length (a .kinds .now) ≡ 4096 = ap length (h .3) ∙ length-replicate {A = ℕ} 4096 0 in
-    sym (length-take-le (b .result .bh * b .result .bw) (a .kinds .now) (omega arith))
+slice-aggregate-list-layout-2 c = let s = c .before .before .before in as-long s (to-start s .args .kinds .now) (to-start s .pre .3)
 
 slice-relend-prefix-list-layout-2 : tie.Need-slice-relend-prefix-list-layout-2
-slice-relend-prefix-list-layout-2 c =
-    let a = to-start (c .before .before .before) .args in
-    let h = to-start (c .before .before .before) .pre in
-    let b = c .before .before .before .blocks-of in
-    let ew = ap (λ (s : Blocks). s .bw) (b .ensures) in
-    let eh = ap (λ (s : Blocks). s .bh) (b .ensures) in
-    let w : b .result .bw ≤ 64 = omega (arith, ew, few-wide (a .width) (h .0)) in
-    let v : b .result .bh ≤ 64 = omega (arith, eh, few-high (a .height) (h .1)) in
-    let m = few-blocks (b .result .bw) (b .result .bh) w v in
-    let l : length (a .hf-mul .now) ≡ 4096 = ap length (h .4) ∙ length-replicate {A = ℕ} 4096 0 in
-    omega arith
+slice-relend-prefix-list-layout-2 c = let s = c .before .before .before in fits s (to-start s .args .hf-mul .now) (to-start s .pre .4)
 
 slice-aggregate-list-layout-3 : tie.Need-slice-aggregate-list-layout-3
-slice-aggregate-list-layout-3 c =
-    let a = to-start (c .before .before .before .before) .args in
-    let h = to-start (c .before .before .before .before) .pre in
-    let b = c .before .before .before .before .blocks-of in
-    let ew = ap (λ (s : Blocks). s .bw) (b .ensures) in
-    let eh = ap (λ (s : Blocks). s .bh) (b .ensures) in
-    let w : b .result .bw ≤ 64 = omega (arith, ew, few-wide (a .width) (h .0)) in
-    let v : b .result .bh ≤ 64 = omega (arith, eh, few-high (a .height) (h .1)) in
-    let m = few-blocks (b .result .bw) (b .result .bh) w v in
-    let l : length (a .hf-mul .now) ≡ 4096 = ap length (h .4) ∙ length-replicate {A = ℕ} 4096 0 in
-    sym (length-take-le (b .result .bh * b .result .bw) (a .hf-mul .now) (omega arith))
+slice-aggregate-list-layout-3 c = let s = c .before .before .before .before in as-long s (to-start s .args .hf-mul .now) (to-start s .pre .4)
 
 slice-relend-prefix-list-layout-3 : tie.Need-slice-relend-prefix-list-layout-3
-slice-relend-prefix-list-layout-3 c =
-    let a = to-start (c .before .before .before .before) .args in
-    let h = to-start (c .before .before .before .before) .pre in
-    let b = c .before .before .before .before .blocks-of in
-    let ew = ap (λ (s : Blocks). s .bw) (b .ensures) in
-    let eh = ap (λ (s : Blocks). s .bh) (b .ensures) in
-    let w : b .result .bw ≤ 64 = omega (arith, ew, few-wide (a .width) (h .0)) in
-    let v : b .result .bh ≤ 64 = omega (arith, eh, few-high (a .height) (h .1)) in
-    let m = few-blocks (b .result .bw) (b .result .bh) w v in
-    let l : length (a .sigma .now) ≡ 4096 = ap length (h .5) ∙ length-replicate {A = ℕ} 4096 0 in
-    omega arith
+slice-relend-prefix-list-layout-3 c = let s = c .before .before .before .before in fits s (to-start s .args .sigma .now) (to-start s .pre .5)
 
 slice-aggregate-list-layout-4 : tie.Need-slice-aggregate-list-layout-4
-slice-aggregate-list-layout-4 c =
-    let a = to-start (c .before .before .before .before .before) .args in
-    let h = to-start (c .before .before .before .before .before) .pre in
-    let b = c .before .before .before .before .before .blocks-of in
-    let ew = ap (λ (s : Blocks). s .bw) (b .ensures) in
-    let eh = ap (λ (s : Blocks). s .bh) (b .ensures) in
-    let w : b .result .bw ≤ 64 = omega (arith, ew, few-wide (a .width) (h .0)) in
-    let v : b .result .bh ≤ 64 = omega (arith, eh, few-high (a .height) (h .1)) in
-    let m = few-blocks (b .result .bw) (b .result .bh) w v in
-    let l : length (a .sigma .now) ≡ 4096 = ap length (h .5) ∙ length-replicate {A = ℕ} 4096 0 in
-    sym (length-take-le (b .result .bh * b .result .bw) (a .sigma .now) (omega arith))
+slice-aggregate-list-layout-4 c = let s = c .before .before .before .before .before in as-long s (to-start s .args .sigma .now) (to-start s .pre .5)
 
 list-layout-requires : tie.Need-list-layout-requires
 list-layout-requires c κs =
-    let a = to-start (c .before .before .before .before .before) .args in
-    let h = to-start (c .before .before .before .before .before) .pre in
-    let b = c .before .before .before .before .before .blocks-of in
-    let ew = ap (λ (s : Blocks). s .bw) (b .ensures) in
-    let eh = ap (λ (s : Blocks). s .bh) (b .ensures) in
-    let w : b .result .bw ≤ 64 = omega (arith, ew, few-wide (a .width) (h .0)) in
-    let v : b .result .bh ≤ 64 = omega (arith, eh, few-high (a .height) (h .1)) in
-    let m = few-blocks (b .result .bw) (b .result .bh) w v in
-    (ew, eh, w, v, cleared 0 (a .sharpness .now) (b .result .bh * b .result .bw) (b .result .bh * b .result .bw) (h .2) m refl, cleared 0 (a .kinds .now) (b .result .bh * b .result .bw) (b .result .bh * b .result .bw) (h .3) m refl, cleared 0 (a .hf-mul .now) (b .result .bh * b .result .bw) (b .result .bh * b .result .bw) (h .4) m refl, cleared 0 (a .sigma .now) (b .result .bh * b .result .bw) (b .result .bh * b .result .bw) (h .5) m refl)
+    let s = c .before .before .before .before .before in
+    let a = to-start s .args in
+    let h = to-start s .pre in
+    let b = s .blocks-of in
+    let n = b .result .bh * b .result .bw in
+    (ap (λ (z : Blocks). z .bw) (b .ensures), ap (λ (z : Blocks). z .bh) (b .ensures), wide s, high s, cleared 0 (a .sharpness .now) n n (h .2) (few s) refl, cleared 0 (a .kinds .now) n n (h .3) (few s) refl, cleared 0 (a .hf-mul .now) n n (h .4) (few s) refl, cleared 0 (a .sigma .now) n n (h .5) (few s) refl)
 
 pub list-buffers-spec : {M : Type 1} → statement M
 list-buffers-spec =
