@@ -10,7 +10,7 @@ use Rattle.bits.specs.Bits.{Read, Value, Ended, readBits}
 use Rattle.coded_numbers.specs.Exponent.{exponent}
 use Rattle.coeff_call.specs.declared.CoeffAnswer.{CoeffAnswer}
 use Rattle.coeff_call.specs.declared.CoeffAnswer.the-variants.{Accepted, Refused}
-use Rattle.coeff_group.specs.Pass.{Pass}
+use Rattle.coeff_group.specs.PassGroup.{PassGroup}
 use Rattle.coeff_group.specs.Group.{PerChannel, Reading, going, refused, leftOf}
 use Rattle.coeff_group.specs.Work.{presetMapOf, readingBy}
 use Rattle.coeff_checks.specs.Checks as checks
@@ -18,7 +18,7 @@ use Rattle.coeff_preset.specs.Preset.{presetOf}
 
 -- what is lent
 pub record Lent : Type 0 where
-  pub pass : Pass
+  pub passGroup : PassGroup
   pub presets : ℕ
   pub clusterMap : List ℕ
   pub shift : ℕ
@@ -28,10 +28,10 @@ pub record Lent : Type 0 where
   pub log : List ℕ
   pub grids : PerChannel
 
-abbrev pub lent : Pass → (presets : ℕ) (clusterMap : List ℕ) (shift : ℕ) (bytes symbols log g0 g1 g2 : List ℕ) → Lent
-lent pass presets clusterMap shift bytes symbols log g0 g1 g2 =
+abbrev pub lent : PassGroup → (presets : ℕ) (clusterMap : List ℕ) (shift : ℕ) (bytes symbols log g0 g1 g2 : List ℕ) → Lent
+lent passGroup presets clusterMap shift bytes symbols log g0 g1 g2 =
     record {
-      pass = pass;
+      passGroup = passGroup;
       presets = presets;
       clusterMap = clusterMap;
       shift = shift;
@@ -46,7 +46,7 @@ abbrev pub answered : CoeffAnswer → Answer ℕ
 answered (Accepted at) = gives at
 answered (Refused why) = refuses (said why)
 
--- the answer, and what is left in the log and in the grids
+-- the answer, and what log and grids hold then
 pub record Outcome : Type 0 where
   pub answer : Answer ℕ
   pub log : List ℕ
@@ -56,26 +56,26 @@ abbrev pub leaves : CoeffAnswer → (log g0 g1 g2 : List ℕ) → Outcome
 leaves r log g0 g1 g2 = record { answer = answered r; log = log; grids = g0 ∷ g1 ∷ g2 ∷ [] }
 
 -- Checks before work: of log and grids the lengths alone (CallLaws, steady).
-abbrev pub lengthsFit : Lent → Bool
-lengthsFit L =
-    checks.lengthsBy (L .pass) (L .presets) (length (L .clusterMap)) (length (L .log)) (length (getD (L .grids) 0 [])) (length (getD (L .grids) 1 [])) (length (getD (L .grids) 2 []))
+abbrev pub allLengthsFit : Lent → Bool
+allLengthsFit L =
+    checks.allLengthsFit (L .passGroup) (L .presets) (length (L .clusterMap)) (length (L .log)) (length (getD (L .grids) 0 [])) (length (getD (L .grids) 1 [])) (length (getD (L .grids) 2 []))
 
 abbrev pub beforeWork : Lent → Answer Unit
 beforeWork L =
-    checks.beforeWork (L .pass) (L .presets) (L .shift) (length (L .clusterMap)) (length (L .log)) (length (getD (L .grids) 0 [])) (length (getD (L .grids) 1 [])) (length (getD (L .grids) 2 []))
+    checks.beforeWork (L .passGroup) (L .presets) (L .shift) (length (L .clusterMap)) (length (L .log)) (length (getD (L .grids) 0 [])) (length (getD (L .grids) 1 [])) (length (getD (L .grids) 2 []))
 
 -- what they leave
 abbrev pub Passed : Lent → Type 0
 Passed L =
-    checks.Passed (L .pass) (L .presets) (L .shift) (length (L .clusterMap)) (length (L .log)) (length (getD (L .grids) 0 [])) (length (getD (L .grids) 1 [])) (length (getD (L .grids) 2 []))
+    checks.Passed (L .passGroup) (L .presets) (L .shift) (length (L .clusterMap)) (length (L .log)) (length (getD (L .grids) 0 [])) (length (getD (L .grids) 1 [])) (length (getD (L .grids) 2 []))
 
 -- The work.
 -- the preset's part of the cluster map
 abbrev pub presetMap : Lent → ℕ → List ℕ
-presetMap L preset = presetMapOf (L .pass) (L .clusterMap) preset
+presetMap L preset = presetMapOf (L .passGroup) (L .clusterMap) preset
 
 unfoldable pub reading : Lent → ℕ → Reading
-reading L preset = readingBy (L .pass) (L .clusterMap) (L .shift) (L .symbols) (L .log) (L .grids) preset
+reading L preset = readingBy (L .passGroup) (L .clusterMap) (L .shift) (L .symbols) (L .log) (L .grids) preset
 
 -- symbols read; 15 to 17 keep what was added and logged
 abbrev pub outcomeOf : Reading → Outcome

@@ -17,7 +17,7 @@ pub mod varblock;
 ghost use mathlib.Core.Path.{_≡_};
 ghost use Prim.Native.Nat.{_+_, _*_, _≤_, _<_};
 ghost use lib.ListN.{length, take, drop};
-ghost use Rattle.coeff_group.specs.Pass.{passWith};
+ghost use Rattle.coeff_group.specs.PassGroup.{passGroup};
 ghost use Rattle.coeff_call.specs.Call.{lent, leaves, call};
 ghost use Rattle.coeff_call.specs.laws.CallSteps.{answerBy};
 
@@ -69,7 +69,7 @@ pub fn write_hf_coeff<'a>(
     g1: &mut [u32],
     g2: &mut [u32],
 ) -> CoeffAnswer
-    ensures { λ r. ⌜ leaves r (now (log .exit)) (now (g0 .exit)) (now (g1 .exit)) (now (g2 .exit)) ≡ call (lent (passWith group (now (kinds .entry)) (now («hf_mul» .entry)) contexts «lf_there» (now (lf0 .entry)) (now (lf1 .entry)) (now (lf2 .entry)) (now (store .entry))) presets (now («cluster_map» .entry)) shift (now (bytes .entry)) (now (symbols .entry)) (now (log .entry)) (now (g0 .entry)) (now (g1 .entry)) (now (g2 .entry))) ⌝ }
+    ensures { λ r. ⌜ leaves r (now (log .exit)) (now (g0 .exit)) (now (g1 .exit)) (now (g2 .exit)) ≡ call (lent (passGroup group (now (kinds .entry)) (now («hf_mul» .entry)) contexts «lf_there» (now (lf0 .entry)) (now (lf1 .entry)) (now (lf2 .entry)) (now (store .entry))) presets (now («cluster_map» .entry)) shift (now (bytes .entry)) (now (symbols .entry)) (now (log .entry)) (now (g0 .entry)) (now (g1 .entry)) (now (g2 .entry))) ⌝ }
 {
     let checked = before_work(
         group,

@@ -10,13 +10,13 @@ use Rattle.layout.specs.Check.{isLayout}
 use Rattle.lent_sides.specs.Limits.{inLimits}
 use Rattle.order_store.specs.Store.{PLACES, placesFit}
 use Rattle.context_record.specs.Record.{fit}
-use Rattle.coeff_group.specs.Pass.{Pass}
+use Rattle.coeff_group.specs.PassGroup.{PassGroup}
 use Rattle.coeff_group.specs.Work.{clustersOf}
 
-abbrev pub blocks : Pass → ℕ
+abbrev pub blocks : PassGroup → ℕ
 blocks P = P .bh * P .bw
 
-abbrev pub sidesFit : Pass → Bool
+abbrev pub sidesFit : PassGroup → Bool
 sidesFit P = inLimits 32 (P .bw) (P .bh)
 
 abbrev pub parametersFit : ℕ → ℕ → Bool
@@ -27,38 +27,38 @@ abbrev pub threeFit : ℕ → ℕ → ℕ → ℕ → Bool
 threeFit a b c n = eqb a n && eqb b n && eqb c n
 
 -- the LF grids, if there are any
-abbrev pub lfFits : Pass → Bool
+abbrev pub lfFits : PassGroup → Bool
 lfFits P = cond (P .lfThere) (threeFit (length (P .lf0)) (length (P .lf1)) (length (P .lf2)) (blocks P)) true
 
-abbrev pub passFits : Pass → Bool
-passFits P = eqb (length (P .kinds)) (blocks P) && eqb (length (P .hfMul)) (blocks P) && lfFits P && eqb (length (P .store)) (2 * PLACES)
+abbrev pub readFits : PassGroup → Bool
+readFits P = eqb (length (P .kinds)) (blocks P) && eqb (length (P .hfMul)) (blocks P) && lfFits P && eqb (length (P .store)) (2 * PLACES)
 
 -- with the lengths of the cluster map, the log and the three grids
-abbrev pub lengthsBy : Pass → (presets clusterMap log g0 g1 g2 : ℕ) → Bool
-lengthsBy P presets clusterMap log g0 g1 g2 =
-    passFits P
+abbrev pub allLengthsFit : PassGroup → (presets clusterMap log g0 g1 g2 : ℕ) → Bool
+allLengthsFit P presets clusterMap log g0 g1 g2 =
+    readFits P
     && eqb clusterMap (495 * clustersOf P * presets)
     && threeFit g0 g1 g2 (64 * blocks P)
     && leb (192 * blocks P) log
 
 -- 18: what passes is a layout (crate layout, Theorems, layout-iff)
-abbrev pub layoutFits : Pass → Bool
+abbrev pub layoutFits : PassGroup → Bool
 layoutFits P = isLayout (P .bw) (P .bh) (P .kinds) (P .hfMul)
 
-unfoldable pub beforeWork : Pass → (presets shift clusterMap log g0 g1 g2 : ℕ) → Answer Unit
+unfoldable pub beforeWork : PassGroup → (presets shift clusterMap log g0 g1 g2 : ℕ) → Answer Unit
 beforeWork P presets shift clusterMap log g0 g1 g2 =
     unless 2 (sidesFit P)
     (unless 11 (parametersFit shift presets)
     (unless 12 (fit (P .contexts))
-    (unless 1 (lengthsBy P presets clusterMap log g0 g1 g2)
+    (unless 1 (allLengthsFit P presets clusterMap log g0 g1 g2)
     (unless 18 (layoutFits P)
     (unless 13 (placesFit (P .store)) passed)))))
 
 -- what they leave
-pub record Passed (P : Pass) (presets shift clusterMap log g0 g1 g2 : ℕ) : Type 0 where
+pub record Passed (P : PassGroup) (presets shift clusterMap log g0 g1 g2 : ℕ) : Type 0 where
   pub sides : sidesFit P ≡ true
   pub parameters : parametersFit shift presets ≡ true
   pub contexts : fit (P .contexts) ≡ true
-  pub lengths : lengthsBy P presets clusterMap log g0 g1 g2 ≡ true
+  pub lengths : allLengthsFit P presets clusterMap log g0 g1 g2 ≡ true
   pub layout : layoutFits P ≡ true
   pub places : placesFit (P .store) ≡ true

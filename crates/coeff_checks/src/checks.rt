@@ -5,7 +5,7 @@ use order_store::NUMBERS;
 use refusal::Checked;
 ghost use mathlib.Core.Path.{_≡_};
 ghost use Rattle.coeff_checks.specs.Checks.{parametersFit, threeFit};
-ghost use Rattle.coeff_checks.specs.laws.Tests.{lfLengthsFit, readFit, otherLengthsFit, groupPasses};
+ghost use Rattle.coeff_checks.specs.laws.Tests.{lfLengthsFit, readLengthsFit, otherLengthsFit, groupPasses};
 
 pub(crate) fn parameters_fit(shift: u32, presets: u32) -> bool
     ensures { λ r. ⌜ r ≡ parametersFit shift presets ⌝ }
@@ -40,7 +40,7 @@ fn lf_fits(there: bool, lf0: usize, lf1: usize, lf2: usize, n: usize) -> bool
 }
 
 // Lengths of what is lent to be read, for n blocks.
-pub(crate) fn pass_fits(
+pub(crate) fn read_fits(
     kinds: usize,
     hf_mul: usize,
     there: bool,
@@ -50,7 +50,7 @@ pub(crate) fn pass_fits(
     store: usize,
     n: usize,
 ) -> bool
-    ensures { λ r. ⌜ r ≡ readFit kinds «hf_mul» there lf0 lf1 lf2 store n ⌝ }
+    ensures { λ r. ⌜ r ≡ readLengthsFit kinds «hf_mul» there lf0 lf1 lf2 store n ⌝ }
 {
     if kinds != n {
         return false;

@@ -2,7 +2,7 @@
 use crate::checks::layout_fits;
 use crate::checks::other_lengths_fit;
 use crate::checks::parameters_fit;
-use crate::checks::pass_fits;
+use crate::checks::read_fits;
 use context_record::HfBlockContext;
 use context_record::fit::is_fit;
 use lent_check::Group;
@@ -15,7 +15,7 @@ pub mod checks;
 
 ghost use mathlib.Core.Path.{_≡_};
 ghost use Rattle.refusal.specs.laws.Answer.{checked};
-ghost use Rattle.coeff_group.specs.Pass.{passWith};
+ghost use Rattle.coeff_group.specs.PassGroup.{passGroup};
 ghost use Rattle.coeff_checks.specs.Checks.{beforeWork};
 
 // All checks before work: 2, 11, 12, 1, 18, stored places (13). Of the cluster map, the log and the grids they look at the
@@ -38,7 +38,7 @@ pub fn before_work<'a>(
     g1: usize,
     g2: usize,
 ) -> Checked
-    ensures { λ r. ⌜ checked r ≡ beforeWork (passWith group (now (kinds .entry)) (now («hf_mul» .entry)) contexts «lf_there» (now (lf0 .entry)) (now (lf1 .entry)) (now (lf2 .entry)) (now (store .entry))) presets shift «cluster_map» log g0 g1 g2 ⌝ }
+    ensures { λ r. ⌜ checked r ≡ beforeWork (passGroup group (now (kinds .entry)) (now («hf_mul» .entry)) contexts «lf_there» (now (lf0 .entry)) (now (lf1 .entry)) (now (lf2 .entry)) (now (store .entry))) presets shift «cluster_map» log g0 g1 g2 ⌝ }
 {
     let bw = group.bw;
     let bh = group.bh;
@@ -53,7 +53,7 @@ pub fn before_work<'a>(
     }
     let n = bh * bw;
     let clusters = contexts.num_block_clusters as usize;
-    let read = pass_fits(
+    let read = read_fits(
         kinds.len(),
         hf_mul.len(),
         lf_there,

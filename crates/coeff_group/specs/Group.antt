@@ -6,7 +6,7 @@ use Rattle.refusal.specs.declared.Refusal.{Refusal}
 use Rattle.layout.specs.Varblocks.{Varblock}
 use Rattle.coeff_walk.specs.Walk.{Walked, done, stopped}
 use Rattle.coeff_walk.specs.Item.{Item, newRow, counted}
-use Rattle.coeff_group.specs.Pass.{Pass, channelItems}
+use Rattle.coeff_group.specs.PassGroup.{PassGroup, channelItems}
 
 -- a list for each of the channels 0, 1, 2
 abbrev pub PerChannel : Type 0
@@ -38,7 +38,7 @@ module _ (shift clusters : ℕ) (presetMap : List ℕ) where
   readItems [] r = r
   readItems (it ∷ its) r = readItems its (readItem it r)
 
-  module _ (P : Pass) where
+  module _ (P : PassGroup) where
     abbrev pub readVarblock : Varblock → Reading → Reading
     readVarblock v r = readItems (channelItems P v) r
 

@@ -5,7 +5,7 @@ use lib.ListN.{getD}
 use Rattle.coded_numbers.specs.Signed.{symbol}
 use Rattle.coeff_walk.specs.Item.{Item}
 use Rattle.coeff_walk.specs.Sent.{nonZeros, upTo}
-use Rattle.coeff_group.specs.Pass.{Pass, varblocks, itemsOf}
+use Rattle.coeff_group.specs.PassGroup.{PassGroup, varblocks, itemsOf}
 use Rattle.coeff_group.specs.Group.{PerChannel}
 
 -- a channel, and a cell of its grid
@@ -31,5 +31,5 @@ abbrev pub changes : PerChannel → PerChannel → Item → List ℕ
 changes G W it = map (λ (p : ℕ). symbol (inCell W (it .channel) p) (inCell G (it .channel) p)) (it .cells)
 
 -- the sequence that makes W of the grids G of a group
-unfoldable pub theSequence : Pass → PerChannel → PerChannel → List ℕ
+unfoldable pub theSequence : PassGroup → PerChannel → PerChannel → List ℕ
 theSequence P G W = sent (map (changes G W) (itemsOf P (varblocks P)))

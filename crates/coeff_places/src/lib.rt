@@ -34,33 +34,26 @@ fn spot_small(spot: Spot, shift: u32) -> bool
 }
 
 // What is lent fits: lengths and limits.
-fn lent_fits(
-    spot: Spot,
-    list: usize,
-    start: usize,
-    coeff_map: usize,
-    shift: u32,
-    log: usize,
-) -> bool
-    ensures { λ r. ⌜ r ≡ lentFits spot list start «coeff_map» shift log ⌝ }
+fn lent_fits(spot: Spot, list: usize, at: usize, coeff_map: usize, shift: u32, log: usize) -> bool
+    ensures { λ r. ⌜ r ≡ lentFits spot list at «coeff_map» shift log ⌝ }
 {
     if !spot_small(spot, shift) {
         return false;
     }
-    if log < start {
+    if log < at {
         return false;
     }
-    (list / 2 <= 63 << spot.exponent) & (coeff_map == 458) & (list / 2 <= log - start)
+    (list / 2 <= 63 << spot.exponent) & (coeff_map == 458) & (list / 2 <= log - at)
 }
 
 // The coefficients behind a count of `count`: refused where what is lent does not fit. `list` is the channel's without its
-// first places, which are the low-frequency cells, `start` the symbols read, `first_prev` whether the count is at most four
+// first places, which are the low-frequency cells, `at` the symbols read, `first_prev` whether the count is at most four
 // for each block, `coeff_map` the 458 entries of the cluster map.
 pub fn read_places(
     list: &[u16],
     spot: Spot,
     symbols: &[u32],
-    start: usize,
+    at: usize,
     count: usize,
     first_prev: bool,
     coeff_map: &[u8],
@@ -68,13 +61,13 @@ pub fn read_places(
     log: &mut [u8],
     grid: &mut [u32],
 ) -> WalkEnd
-    ensures { λ r. ⌜ WalkShown r (now (log .exit)) (now (grid .exit)) (placesRead spot (now (list .entry)) (now (symbols .entry)) start count «first_prev» (now («coeff_map» .entry)) shift (now (log .entry)) (now (grid .entry))) ⌝ }
+    ensures { λ r. ⌜ WalkShown r (now (log .exit)) (now (grid .exit)) (placesRead spot (now (list .entry)) (now (symbols .entry)) at count «first_prev» (now («coeff_map» .entry)) shift (now (log .entry)) (now (grid .entry))) ⌝ }
 {
-    if !lent_fits(spot, list.len(), start, coeff_map.len(), shift, log.len()) {
+    if !lent_fits(spot, list.len(), at, coeff_map.len(), shift, log.len()) {
         return WalkEnd::Stopped(Refusal::Length);
     }
     if 63 << spot.exponent < count {
-        return WalkEnd::Stopped(Refusal::Count(start));
+        return WalkEnd::Stopped(Refusal::Count(at));
     }
     let nonzeros = COEFF_NUM_NONZERO_CONTEXT;
     let frequencies = COEFF_FREQ_CONTEXT;
@@ -84,7 +77,7 @@ pub fn read_places(
         list,
         spot,
         symbols,
-        start,
+        at,
         count,
         to_usize(first_prev),
         coeff_map,

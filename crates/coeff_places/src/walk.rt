@@ -61,7 +61,7 @@ fn walk_dense(
     list: &[u16],
     spot: Spot,
     symbols: &[u32],
-    start: usize,
+    at: usize,
     count: usize,
     first_prev: usize,
     coeff_map: &[u8],
@@ -69,10 +69,10 @@ fn walk_dense(
     log: &mut [u8],
     grid: &mut [u32],
 ) -> WalkEnd
-    requires { ⌜ (now nonzeros ≡ NUM-NONZERO) × (now frequencies ≡ FREQ) × WalkReady spot (now list) start count «first_prev» (length (now «coeff_map»)) shift (length (now log)) ⌝ }
-    ensures { λ r. ⌜ WalkShown r (now (log .exit)) (now (grid .exit)) (walk shift (2 ^ (spot .exponent)) (now («coeff_map» .entry)) (spotCells spot (now (list .entry))) 0 «first_prev» count (drop start (now (symbols .entry))) start (now (log .entry)) (now (grid .entry))) ⌝ }
+    requires { ⌜ (now nonzeros ≡ NUM-NONZERO) × (now frequencies ≡ FREQ) × WalkReady spot (now list) at count «first_prev» (length (now «coeff_map»)) shift (length (now log)) ⌝ }
+    ensures { λ r. ⌜ WalkShown r (now (log .exit)) (now (grid .exit)) (walk shift (2 ^ (spot .exponent)) (now («coeff_map» .entry)) (spotCells spot (now (list .entry))) 0 «first_prev» count (drop at (now (symbols .entry))) at (now (log .entry)) (now (grid .entry))) ⌝ }
 {
-    let mut at = start;
+    let mut at = at;
     let mut left = count;
     let mut prev = first_prev;
     let mut k = 0;
@@ -106,23 +106,23 @@ fn skip_zeros(
     frequencies: &[u8; 63],
     exponent: usize,
     symbols: &[u32],
-    start: usize,
+    at: usize,
     from: usize,
     stop: usize,
     map_from: &[u8],
     log: &mut [u8],
 ) -> usize
-    requires { ⌜ (now frequencies ≡ FREQ) × ZerosReady exponent (length (now symbols)) start from stop (length (now «map_from»)) (length (now log)) ⌝ }
-    ensures { λ r. ⌜ Zeros exponent (now («map_from» .entry)) (now (symbols .entry)) start from stop (now (log .entry)) r (now (log .exit)) ⌝ }
+    requires { ⌜ (now frequencies ≡ FREQ) × ZerosReady exponent (length (now symbols)) at from stop (length (now «map_from»)) (length (now log)) ⌝ }
+    ensures { λ r. ⌜ Zeros exponent (now («map_from» .entry)) (now (symbols .entry)) at from stop (now (log .entry)) r (now (log .exit)) ⌝ }
 {
     let mut k = from;
     while k < stop {
-        let at = start + k;
-        if symbols[at] != 0 {
+        let i = at + k;
+        if symbols[i] != 0 {
             return k;
         }
         let y = frequency_at(frequencies, exponent, k);
-        log[at] = map_from[y * 2];
+        log[i] = map_from[y * 2];
         k += 1;
     }
     k
@@ -133,23 +133,23 @@ fn zeros_from(
     frequencies: &[u8; 63],
     exponent: usize,
     symbols: &[u32],
-    start: usize,
+    at: usize,
     from: usize,
     stop: usize,
     map_from: &[u8],
     log: &mut [u8],
 ) -> usize
-    requires { ⌜ (now frequencies ≡ FREQ) × ZerosReady exponent (length (now symbols)) start from stop (length (now «map_from»)) (length (now log)) ⌝ }
-    ensures { λ r. ⌜ Zeros exponent (now («map_from» .entry)) (now (symbols .entry)) start from stop (now (log .entry)) r (now (log .exit)) ⌝ }
+    requires { ⌜ (now frequencies ≡ FREQ) × ZerosReady exponent (length (now symbols)) at from stop (length (now «map_from»)) (length (now log)) ⌝ }
+    ensures { λ r. ⌜ Zeros exponent (now («map_from» .entry)) (now (symbols .entry)) at from stop (now (log .entry)) r (now (log .exit)) ⌝ }
 {
     if exponent == 0 {
-        return skip_zeros(frequencies, 0, symbols, start, from, stop, map_from, log);
+        return skip_zeros(frequencies, 0, symbols, at, from, stop, map_from, log);
     }
     skip_zeros(
         frequencies,
         exponent,
         symbols,
-        start,
+        at,
         from,
         stop,
         map_from,
@@ -167,17 +167,17 @@ fn lesser_of(a: usize, b: usize) -> usize
     b
 }
 
-// What of n lies behind start.
-fn behind(n: usize, start: usize) -> usize
-    ensures { λ r. ⌜ r ≡ n - start ⌝ }
+// What of n lies behind `at`.
+fn behind(n: usize, at: usize) -> usize
+    ensures { λ r. ⌜ r ≡ n - at ⌝ }
 {
-    if n < start {
+    if n < at {
         return 0;
     }
-    n - start
+    n - at
 }
 
-// The same, for a count of at most 32 for each block, with which no context is too large. Zeros are passed in a loop of their
+// The same, for a count of at most 32 for each block, with which no context is too large. Zeros are skipped in a loop of their
 // own.
 fn walk_sparse(
     nonzeros: &[u8; 63],
@@ -185,7 +185,7 @@ fn walk_sparse(
     list: &[u16],
     spot: Spot,
     symbols: &[u32],
-    start: usize,
+    at: usize,
     count: usize,
     first_prev: usize,
     coeff_map: &[u8],
@@ -193,29 +193,29 @@ fn walk_sparse(
     log: &mut [u8],
     grid: &mut [u32],
 ) -> WalkEnd
-    requires { ⌜ (now nonzeros ≡ NUM-NONZERO) × (now frequencies ≡ FREQ) × WalkReady spot (now list) start count «first_prev» (length (now «coeff_map»)) shift (length (now log)) × (count ≤ 32 * 2 ^ (spot .exponent)) ⌝ }
-    ensures { λ r. ⌜ WalkShown r (now (log .exit)) (now (grid .exit)) (walk shift (2 ^ (spot .exponent)) (now («coeff_map» .entry)) (spotCells spot (now (list .entry))) 0 «first_prev» count (drop start (now (symbols .entry))) start (now (log .entry)) (now (grid .entry))) ⌝ }
+    requires { ⌜ (now nonzeros ≡ NUM-NONZERO) × (now frequencies ≡ FREQ) × WalkReady spot (now list) at count «first_prev» (length (now «coeff_map»)) shift (length (now log)) × (count ≤ 32 * 2 ^ (spot .exponent)) ⌝ }
+    ensures { λ r. ⌜ WalkShown r (now (log .exit)) (now (grid .exit)) (walk shift (2 ^ (spot .exponent)) (now («coeff_map» .entry)) (spotCells spot (now (list .entry))) 0 «first_prev» count (drop at (now (symbols .entry))) at (now (log .entry)) (now (grid .entry))) ⌝ }
 {
     let mut left = count;
     let mut prev = first_prev;
     let mut k = 0;
     let end = list.len() / 2;
-    let stop = lesser_of(end, behind(symbols.len(), start));
+    let stop = lesser_of(end, behind(symbols.len(), at));
     while k < stop {
         if left == 0 {
-            return WalkEnd::Done(start + k);
+            return WalkEnd::Done(at + k);
         }
-        let at = start + k;
+        let i = at + k;
         let context = coeff_context(nonzeros, frequencies, spot.exponent, left - 1, k, prev);
-        let u = symbols[at];
-        log[at] = coeff_map[context];
+        let u = symbols[i];
+        log[i] = coeff_map[context];
         if u == 0 {
             let entry = 2 * nonzeros_at(nonzeros, spot.exponent, left - 1);
             k = zeros_from(
                 frequencies,
                 spot.exponent,
                 symbols,
-                start,
+                at,
                 k + 1,
                 stop,
                 &coeff_map[entry..],
@@ -230,12 +230,12 @@ fn walk_sparse(
         k += 1;
     }
     if end <= k {
-        return WalkEnd::Done(start + k);
+        return WalkEnd::Done(at + k);
     }
     if left == 0 {
-        return WalkEnd::Done(start + k);
+        return WalkEnd::Done(at + k);
     }
-    WalkEnd::Stopped(Refusal::SymbolsEnd(start + k))
+    WalkEnd::Stopped(Refusal::SymbolsEnd(at + k))
 }
 
 // The same, by the way that suits the count: sparse, that is at most a quarter of the places, or dense. A list has two numbers
@@ -246,7 +246,7 @@ pub(crate) fn walk_places(
     list: &[u16],
     spot: Spot,
     symbols: &[u32],
-    start: usize,
+    at: usize,
     count: usize,
     first_prev: usize,
     coeff_map: &[u8],
@@ -254,8 +254,8 @@ pub(crate) fn walk_places(
     log: &mut [u8],
     grid: &mut [u32],
 ) -> WalkEnd
-    requires { ⌜ (now nonzeros ≡ NUM-NONZERO) × (now frequencies ≡ FREQ) × WalkReady spot (now list) start count «first_prev» (length (now «coeff_map»)) shift (length (now log)) ⌝ }
-    ensures { λ r. ⌜ WalkShown r (now (log .exit)) (now (grid .exit)) (walk shift (2 ^ (spot .exponent)) (now («coeff_map» .entry)) (spotCells spot (now (list .entry))) 0 «first_prev» count (drop start (now (symbols .entry))) start (now (log .entry)) (now (grid .entry))) ⌝ }
+    requires { ⌜ (now nonzeros ≡ NUM-NONZERO) × (now frequencies ≡ FREQ) × WalkReady spot (now list) at count «first_prev» (length (now «coeff_map»)) shift (length (now log)) ⌝ }
+    ensures { λ r. ⌜ WalkShown r (now (log .exit)) (now (grid .exit)) (walk shift (2 ^ (spot .exponent)) (now («coeff_map» .entry)) (spotCells spot (now (list .entry))) 0 «first_prev» count (drop at (now (symbols .entry))) at (now (log .entry)) (now (grid .entry))) ⌝ }
 {
     if list.len() / 8 < count {
         return walk_dense(
@@ -264,7 +264,7 @@ pub(crate) fn walk_places(
             list,
             spot,
             symbols,
-            start,
+            at,
             count,
             first_prev,
             coeff_map,
@@ -279,7 +279,7 @@ pub(crate) fn walk_places(
         list,
         spot,
         symbols,
-        start,
+        at,
         count,
         first_prev,
         coeff_map,

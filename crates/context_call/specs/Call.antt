@@ -18,12 +18,12 @@ use Rattle.context_call.specs.declared.ContextResult.{ContextResult}
 use Rattle.context_thresholds.specs.Thresholds.{Lists, listsOf, readLists, pad}
 
 abbrev pub lengthsOf : Lists → List ℕ
-lengthsOf l = length (l .lf0) ∷ length (l .lf1) ∷ length (l .lf2) ∷ length (l .qf) ∷ []
+lengthsOf l = length (l .lfThresholds0) ∷ length (l .lfThresholds1) ∷ length (l .lfThresholds2) ∷ length (l .qfThresholds) ∷ []
 
 -- the record of a number of clusters, lists and a context map
 unfoldable pub contextsOf : ℕ → Lists → List ℕ → HfBlockContext
 contextsOf clusters l map =
-    recordOf clusters (lengthsOf l) (pad 15 (l .lf0) ++ (pad 15 (l .lf1) ++ pad 15 (l .lf2))) (pad 15 (l .qf)) (pad 2496 map)
+    recordOf clusters (lengthsOf l) (pad 15 (l .lfThresholds0) ++ (pad 15 (l .lfThresholds1) ++ pad 15 (l .lfThresholds2))) (pad 15 (l .qfThresholds)) (pad 2496 map)
 
 abbrev pub noLists : Lists
 noLists = listsOf [] [] [] []

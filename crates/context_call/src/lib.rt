@@ -105,22 +105,26 @@ fn by_lists<'a>(
     ensures { λ r. ⌜ withLists r (now («lf_thresholds» .exit)) (now («qf_thresholds» .exit)) (now («block_ctx_map» .exit))
         ≡ orKept (orEnded (readLists (now (bytes .entry)) (bitsBefore p)) (judgedLists «num_clusters» (now (map .entry)))) (now («lf_thresholds» .entry)) (now («qf_thresholds» .entry)) (now («block_ctx_map» .entry)) ⌝ }
 {
-    let lf0 = read_list(bytes, p, Kind::Lf);
-    let step0 = lf0.step;
+    let lf_thresholds0 = read_list(bytes, p, Kind::Lf);
+    let step0 = lf_thresholds0.step;
     match step0 {
         ListStep::End(taken) => ended(p, taken),
         ListStep::Listed(n0, p0) => {
-            let lf1 = read_list(bytes, p0, Kind::Lf);
-            let step1 = lf1.step;
+            let lf_thresholds1 = read_list(bytes, p0, Kind::Lf);
+            let step1 = lf_thresholds1.step;
             match step1 {
                 ListStep::End(taken) => ended(p0, taken),
                 ListStep::Listed(n1, p1) => {
-                    let lf2 = read_list(bytes, p1, Kind::Lf);
-                    let step2 = lf2.step;
+                    let lf_thresholds2 = read_list(bytes, p1, Kind::Lf);
+                    let step2 = lf_thresholds2.step;
                     match step2 {
                         ListStep::End(taken) => ended(p1, taken),
                         ListStep::Listed(n2, p2) => {
-                            let lf = joined(&lf0.values, &lf1.values, &lf2.values);
+                            let lf = joined(
+                                &lf_thresholds0.values,
+                                &lf_thresholds1.values,
+                                &lf_thresholds2.values,
+                            );
                             with_qf(
                                 bytes,
                                 p2,

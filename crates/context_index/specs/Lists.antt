@@ -7,16 +7,16 @@ use Rattle.context_index.specs.Contexts.{Contexts}
 
 -- the LF list of channel c, of n thresholds: the first of its 15 elements
 abbrev pub lfList : List ℕ → ℕ → ℕ → List ℕ
-lfList lf c n = take n (take 15 (drop (15 * c) lf))
+lfList lfThresholds c n = take n (take 15 (drop (15 * c) lfThresholds))
 
 -- by the lengths of the LF lists of channels 0, 1, 2 and of the qf list, the LF and qf thresholds, and the context map
 abbrev pub contextsBy : List ℕ → List ℕ → List ℕ → List ℕ → Contexts
-contextsBy lengths lf qf contextMap =
+contextsBy lengths lfThresholds qfThresholds contextMap =
     record {
-      lfThresholds0 = lfList lf 0 (getD lengths 0 0);
-      lfThresholds1 = lfList lf 1 (getD lengths 1 0);
-      lfThresholds2 = lfList lf 2 (getD lengths 2 0);
-      qfThresholds = take (getD lengths 3 0) qf;
+      lfThresholds0 = lfList lfThresholds 0 (getD lengths 0 0);
+      lfThresholds1 = lfList lfThresholds 1 (getD lengths 1 0);
+      lfThresholds2 = lfList lfThresholds 2 (getD lengths 2 0);
+      qfThresholds = take (getD lengths 3 0) qfThresholds;
       contextMap = contextMap;
     }
 

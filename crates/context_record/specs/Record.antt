@@ -8,13 +8,13 @@ use Rattle.laws.specs.Tables.{every}
 use Rattle.bytes_below.specs.Below.{bytesBelow}
 use Rattle.context_record.specs.declared.HfBlockContext.{HfBlockContext}
 
-abbrev pub recordOf : (clusters : ℕ) (lengths lf qf map : List ℕ) → HfBlockContext
-recordOf clusters lengths lf qf map =
+abbrev pub recordOf : (clusters : ℕ) (lengths lfThresholds qfThresholds map : List ℕ) → HfBlockContext
+recordOf clusters lengths lfThresholds qfThresholds map =
     record {
       «num_block_clusters» = clusters;
       lengths = lengths;
-      «lf_thresholds» = lf;
-      «qf_thresholds» = qf;
+      «lf_thresholds» = lfThresholds;
+      «qf_thresholds» = qfThresholds;
       «block_ctx_map» = map;
     }
 
@@ -29,7 +29,7 @@ qfFit v = leb 1 v && leb v 300
 
 -- Not refused with 12. Elements behind a list's length, and map bytes from 39 × bsize on, are not looked at.
 unfoldable pub fitOf : ℕ → List ℕ → List ℕ → List ℕ → Bool
-fitOf clusters lengths qf map =
+fitOf clusters lengths qfThresholds map =
     leb (getD lengths 0 0) 15
     && leb (getD lengths 1 0) 15
     && leb (getD lengths 2 0) 15
@@ -37,7 +37,7 @@ fitOf clusters lengths qf map =
     && leb (bsizeOf lengths) 64
     && leb 1 clusters
     && leb clusters 16
-    && every qfFit (take (getD lengths 3 0) qf)
+    && every qfFit (take (getD lengths 3 0) qfThresholds)
     && bytesBelow clusters (take (39 * bsizeOf lengths) map)
 
 abbrev pub fit : HfBlockContext → Bool

@@ -36,13 +36,13 @@ readList s value p = then (readBits s p 4) (readValues value)
 
 -- three LF lists, then one qf list
 pub record Lists : Type 0 where
-  pub lf0 : List ℕ
-  pub lf1 : List ℕ
-  pub lf2 : List ℕ
-  pub qf : List ℕ
+  pub lfThresholds0 : List ℕ
+  pub lfThresholds1 : List ℕ
+  pub lfThresholds2 : List ℕ
+  pub qfThresholds : List ℕ
 
 abbrev pub listsOf : List ℕ → List ℕ → List ℕ → List ℕ → Lists
-listsOf a b c d = record { lf0 = a; lf1 = b; lf2 = c; qf = d }
+listsOf a b c d = record { lfThresholds0 = a; lfThresholds1 = b; lfThresholds2 = c; qfThresholds = d }
 
 unfoldable pub readLists : List ℕ → ℕ → Read Lists
 readLists s p =

@@ -14,7 +14,7 @@ use Rattle.context_record.specs.declared.HfBlockContext.{HfBlockContext}
 use Rattle.context_thresholds.specs.Thresholds.{listsOf}
 use Rattle.context_call.specs.Call as context
 use Rattle.coeff_group.specs.Group.{PerChannel}
-use Rattle.coeff_group.specs.Pass.{Pass}
+use Rattle.coeff_group.specs.PassGroup.{PassGroup}
 use Rattle.coeff_call.specs.Call.{Lent}
 
 -- Orders: order 0 alone is used, channel 0 with digit 1, channel 1 with digits 2, 0, channel 2 with none.
@@ -43,8 +43,8 @@ abbrev pub hfMul : List ℕ
 hfMul = 5 ∷ 1 ∷ 0 ∷ 3 ∷ []
 
 -- The group.
-abbrev pub pass : Pass
-pass = record {
+abbrev pub passGroup : PassGroup
+passGroup = record {
   bw = 2;
   bh = 2;
   kinds = kinds;
@@ -64,7 +64,7 @@ start = replicate 256 5 ∷ replicate 256 4294967295 ∷ replicate 256 0 ∷ []
 -- three presets, of which the byte 2 takes the last
 abbrev pub full : Lent
 full = record {
-  pass = pass;
+  passGroup = passGroup;
   presets = 3;
   clusterMap = replicate 990 0 ++ (replicate 990 1 ++ replicate 990 2);
   shift = 0;

@@ -13,7 +13,7 @@ use Rattle.context_record.specs.Record.{bsizeOf}
 use Rattle.coeff_walk.specs.Walk.{FREQ, NUM-NONZERO, coeffContext, flag, less, gain}
 use Rattle.coeff_walk.specs.Item.{Item, countEntry, countCluster, coeffMapOf}
 use Rattle.coeff_group.specs.Group.{Reading, going, refused, readItem, readVarblock, zeroRows}
-use Rattle.coeff_group.specs.Pass.{Pass, varblocks, blocksOf, blockEntryOf, cellsIn, channelItems}
+use Rattle.coeff_group.specs.PassGroup.{PassGroup, varblocks, blocksOf, blockEntryOf, cellsIn, channelItems}
 use Rattle.coeff_group.specs.Work.{clustersOf}
 use Rattle.coeff_call.specs.Call.{Lent, presetMap}
 
@@ -36,7 +36,7 @@ module _ (shift blocks : ℕ) (coeffMap : List ℕ) where
       × WalkInside ps (i + 1) (flag u) (less u n) us (at + 1) (set log at (getD coeffMap (coeffContext blocks n i prev) 0)) (gain shift g p u))
 
 -- what the channels of a varblock are made from
-pub record VarblockInside (P : Pass) (v : Varblock) : Type 0 where
+pub record VarblockInside (P : PassGroup) (v : Varblock) : Type 0 where
   -- a row of the transforms' table
   pub known : v .type < COUNT
   -- of a row of counts, only as many numbers as the group is wide
@@ -79,12 +79,12 @@ module _ (shift clusters : ℕ) (presetMap : List ℕ) where
   ReadInside (it ∷ its) r = ItemInside it r × ReadInside its (readItem shift clusters presetMap it r)
 
   -- along `readGroup`
-  abbrev pub GroupInside : Pass → List Varblock → Reading → Type 0
+  abbrev pub GroupInside : PassGroup → List Varblock → Reading → Type 0
   GroupInside P [] r = Unit
   GroupInside P (v ∷ vs) r = VarblockInside P v × ReadInside (channelItems P v) r × GroupInside P vs (readVarblock shift clusters presetMap P v r)
 
 -- along `reading`: the preset map lies whole in the cluster map, and the group is read with it
 abbrev pub ReadingInside : Lent → ℕ → Type 0
 ReadingInside L preset =
-    (495 * clustersOf (L .pass) * preset + 495 * clustersOf (L .pass) ≤ length (L .clusterMap))
-    × GroupInside (L .shift) (clustersOf (L .pass)) (presetMap L preset) (L .pass) (varblocks (L .pass)) (going (L .symbols) 0 (L .log) (L .grids) zeroRows 0)
+    (495 * clustersOf (L .passGroup) * preset + 495 * clustersOf (L .passGroup) ≤ length (L .clusterMap))
+    × GroupInside (L .shift) (clustersOf (L .passGroup)) (presetMap L preset) (L .passGroup) (varblocks (L .passGroup)) (going (L .symbols) 0 (L .log) (L .grids) zeroRows 0)

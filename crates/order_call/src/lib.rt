@@ -16,7 +16,7 @@ ghost use Rattle.order_sizes.specs.BlockSizes.{BLOCK-SIZES};
 ghost use Rattle.order_natural.specs.Places.{flat};
 ghost use Rattle.order_natural.specs.Natural.{natural};
 ghost use Rattle.order_natural.specs.Order.{Size};
-ghost use Rattle.order_store.specs.Store.{stored, from};
+ghost use Rattle.order_store.specs.Store.{stored, firstOf};
 ghost use Rattle.order_naturals.specs.Naturals.{naturals};
 ghost use Rattle.order_call.specs.Orders.{isUsed, byDigits, entryList, orders};
 ghost use Rattle.order_call.specs.Call.{leaves, usedOrders, outcomeOf, parsed};
@@ -83,24 +83,24 @@ fn read_list(
     height: usize,
     used: bool,
     symbols: &[u32],
-    start: usize,
+    at: usize,
 ) -> OrdersAnswer
-    requires { ⌜ (Size width height) × (width ≤ 256) × (width * height ≤ 65536) × (start ≤ length (now symbols)) × (now list ≡ flat (natural width height)) ⌝ }
-    ensures { λ r. ⌜ Listed (entryList used width height (drop start (now (symbols .entry))) start) r (now (list .exit)) ⌝ }
+    requires { ⌜ (Size width height) × (width ≤ 256) × (width * height ≤ 65536) × (at ≤ length (now symbols)) × (now list ≡ flat (natural width height)) ⌝ }
+    ensures { λ r. ⌜ Listed (entryList used width height (drop at (now (symbols .entry))) at) r (now (list .exit)) ⌝ }
 {
     if !used {
-        return OrdersAnswer::Accepted(start);
+        return OrdersAnswer::Accepted(at);
     }
-    if symbols.len() <= start {
-        return OrdersAnswer::Refused(Refusal::SymbolsEnd(start));
+    if symbols.len() <= at {
+        return OrdersAnswer::Refused(Refusal::SymbolsEnd(at));
     }
-    let n = to_usize(symbols[start]);
+    let n = to_usize(symbols[at]);
     let size = width * height;
-    let at = start + 1;
+    let next = at + 1;
     if size - size / 64 < n {
-        return OrdersAnswer::Refused(Refusal::Order(at));
+        return OrdersAnswer::Refused(Refusal::Order(next));
     }
-    read_digits(&mut list[..], width, height, n, symbols, at)
+    read_digits(&mut list[..], width, height, n, symbols, next)
 }
 
 fn is_refused(t: OrdersAnswer) -> bool
@@ -121,15 +121,15 @@ fn count_of(t: OrdersAnswer) -> usize
     }
 }
 
-// What reading a list answered, and where the next one starts in the store.
+// What reading a list answered, and where the next one begins in the store.
 struct Turn {
     answer: OrdersAnswer,
     next: usize,
 }
 
-// List i, which starts at place start of the store; `at` symbols are read.
-fn read_at(store: &mut [u16], start: usize, i: usize, used: u32, symbols: &[u32], at: usize) -> Turn
-    requires { ⌜ (Progress used (now symbols) (now store) i at) × (start ≡ from i) × (i < 39) ⌝ }
+// List i, which begins at number `first` of the store; `at` symbols are read.
+fn read_at(store: &mut [u16], first: usize, i: usize, used: u32, symbols: &[u32], at: usize) -> Turn
+    requires { ⌜ (Progress used (now symbols) (now store) i at) × (first ≡ firstOf i) × (i < 39) ⌝ }
     ensures { λ r. ⌜ AfterList used (now (symbols .entry)) (now (store .exit)) i (r .next) (r .answer) ⌝ }
 {
     let k = i / 3;
@@ -137,8 +137,8 @@ fn read_at(store: &mut [u16], start: usize, i: usize, used: u32, symbols: &[u32]
     let width = size.width;
     let height = size.height;
     let u = is_used(used, k);
-    let next = start + 2 * (width * height);
-    let answer = read_list(&mut store[start..next], width, height, u, symbols, at);
+    let next = first + 2 * (width * height);
+    let answer = read_list(&mut store[first..next], width, height, u, symbols, at);
     Turn { answer, next }
 }
 
@@ -147,18 +147,18 @@ fn read_lists(store: &mut [u16], used: u32, symbols: &[u32]) -> OrdersAnswer
     requires { ⌜ (length (now store) ≡ 787968) × (now store ≡ stored (naturals BLOCK-SIZES)) ⌝ }
     ensures { λ r. ⌜ leaves r (now (store .exit)) ≡ outcomeOf (orders used (now (symbols .entry))) ⌝ }
 {
-    let mut start = 0;
+    let mut first = 0;
     let mut at = 0;
     let mut i = 0;
     while i < 39 {
-        let turn = read_at(&mut store[..], start, i, used, symbols, at);
+        let turn = read_at(&mut store[..], first, i, used, symbols, at);
         let answer = turn.answer;
         if is_refused(answer) {
             zeros::clear_u16(&mut store[..]);
             return answer;
         }
         at = count_of(answer);
-        start = turn.next;
+        first = turn.next;
         i += 1;
     }
     OrdersAnswer::Accepted(at)

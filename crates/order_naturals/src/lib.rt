@@ -40,16 +40,16 @@ pub fn fill_natural_orders(store: &mut [u16]) -> bool
     if store.len() != NUMBERS {
         return false;
     }
-    let mut start = 0;
+    let mut first = 0;
     let mut k = 0;
     while k < 13 {
         let size = block_size(k);
         let width = size.width;
         let height = size.height;
         let n = 2 * (width * height);
-        let e = start + 3 * n;
-        fill_order(&mut store[start..e], k, n);
-        start = e;
+        let e = first + 3 * n;
+        fill_order(&mut store[first..e], k, n);
+        first = e;
         k += 1;
     }
     true

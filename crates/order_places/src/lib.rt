@@ -71,17 +71,17 @@ pub fn places_fit(store: &[u16]) -> bool
     if store.len() != NUMBERS {
         return false;
     }
-    let mut start = 0;
+    let mut first = 0;
     let mut i = 0;
     while i < 39 {
         let size = block_size(i / 3);
         let width = size.width;
         let height = size.height;
-        let e = start + 2 * (width * height);
-        if !all_inside(&store[start..e], width, height) {
+        let e = first + 2 * (width * height);
+        if !all_inside(&store[first..e], width, height) {
             return false;
         }
-        start = e;
+        first = e;
         i += 1;
     }
     true

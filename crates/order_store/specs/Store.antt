@@ -20,14 +20,15 @@ abbrev pub thrice : List (ℕ × ℕ) → List (ℕ × ℕ)
 thrice [] = []
 thrice (s ∷ ss) = s ∷ s ∷ s ∷ thrice ss
 
-abbrev pub area : ℕ × ℕ → ℕ
-area s = s .0 * s .1
+-- places in a list of this size
+abbrev pub placesIn : ℕ × ℕ → ℕ
+placesIn s = s .0 * s .1
 
 -- places in the lists before list i
 abbrev pub before : List (ℕ × ℕ) → ℕ → ℕ
 before [] i = 0
 before (s ∷ ss) zero = 0
-before (s ∷ ss) (suc i) = area s + before ss i
+before (s ∷ ss) (suc i) = placesIn s + before ss i
 
 -- the list of an order and a channel as it is stored; an order above 12, a channel above 2 or a store of another length gets the empty stretch
 unfoldable pub stretch : List ℕ → ℕ → ℕ → List ℕ
@@ -45,12 +46,12 @@ insideAll w h (x ∷ y ∷ r) = ltb x w && (ltb y h && insideAll w h r)
 -- lists of these sizes, one behind the other, each inside its own
 abbrev pub listsFit : List (ℕ × ℕ) → List ℕ → Bool
 listsFit [] store = true
-listsFit (s ∷ ss) store = insideAll (s .0) (s .1) (take (2 * area s) store) && listsFit ss (drop (2 * area s) store)
+listsFit (s ∷ ss) store = insideAll (s .0) (s .1) (take (2 * placesIn s) store) && listsFit ss (drop (2 * placesIn s) store)
 
 -- a whole store with no place, in any of the 39 lists, outside width × height (refusal 13 of the coefficient call)
 unfoldable pub placesFit : List ℕ → Bool
 placesFit store = eqb (length store) (2 * PLACES) && listsFit (thrice BLOCK-SIZES) store
 
--- list i begins at the number `from i` and ends at `from (i + 1)`
-unfoldable pub from : ℕ → ℕ
-from i = 2 * before (thrice BLOCK-SIZES) i
+-- list i begins at the number `firstOf i` and ends where the next begins, at `firstOf (i + 1)`
+unfoldable pub firstOf : ℕ → ℕ
+firstOf i = 2 * before (thrice BLOCK-SIZES) i

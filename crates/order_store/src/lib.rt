@@ -2,16 +2,16 @@
 ghost use mathlib.Core.Path.{_≡_};
 ghost use Prim.Native.Nat.{_+_, _*_, _<_};
 ghost use Rattle.order_sizes.specs.BlockSizes.{widthOf, heightOf};
-ghost use Rattle.order_store.specs.Store.{stretch, from};
+ghost use Rattle.order_store.specs.Store.{stretch, firstOf};
 ghost use Rattle.order_store.specs.LookedUp.{stretchAt};
 
 // The numbers of a whole store: two for each of 393,984 places.
 pub const NUMBERS: usize = 787968;
 
 // Where the three lists of an order begin. A `match`, since a constant array is laid out anew wherever it is named.
-fn start_of(order: usize) -> usize
+fn first_of(order: usize) -> usize
     requires { ⌜ order < 13 ⌝ }
-    ensures { λ r. ⌜ r ≡ from (3 * order) ⌝ }
+    ensures { λ r. ⌜ r ≡ firstOf (3 * order) ⌝ }
 {
     match order {
         0 => 0,
@@ -72,7 +72,7 @@ pub fn stretch_of(numbers: usize, order: usize, channel: usize) -> Stretch
         return Stretch { first: 0, len: 0 };
     }
     let n = numbers_of(order);
-    let first = start_of(order) + channel * n;
+    let first = first_of(order) + channel * n;
     Stretch { first, len: n }
 }
 

@@ -1,7 +1,7 @@
 use mathlib.Core.List.{[], _∷_}
 use lib.ListN.{length}
 use Prim.Native.Nat.{_*_}
-use Rattle.coeff_group.specs.Pass.{passWith}
+use Rattle.coeff_group.specs.PassGroup.{passGroup}
 use Rattle.coeff_group.specs.Work.{clustersOf}
 use Rattle.coeff_group.specs.laws.WorkLaws.{WorkReady, part-long}
 use Rattle.coeff_call.specs.Call.{Lent, lent, Passed, reading}
@@ -24,14 +24,14 @@ to-preset-map-of c = c .before .before .before .before .before .before .before .
 abbrev lentAt : tie.Start → Lent
 lentAt c =
     let a = c .args in
-    lent (passWith (a .group) (a .kinds .now) (a .hf-mul .now) (a .contexts) (a .lf-there) (a .lf0 .now) (a .lf1 .now) (a .lf2 .now) (a .store .now)) (a .presets) (a .cluster-map .now) (a .shift) (a .bytes .now) (a .symbols .now) (a .log .now) (a .g0 .now) (a .g1 .now) (a .g2 .now)
+    lent (passGroup (a .group) (a .kinds .now) (a .hf-mul .now) (a .contexts) (a .lf-there) (a .lf0 .now) (a .lf1 .now) (a .lf2 .now) (a .store .now)) (a .presets) (a .cluster-map .now) (a .shift) (a .bytes .now) (a .symbols .now) (a .log .now) (a .g0 .now) (a .g1 .now) (a .g2 .now)
 
 -- The checks let it pass.
 passed : (c : tie.After-enum-told) → Passed (lentAt (to-start (to-shared-slice-known7 (c .before .before))))
 passed c = checks-passed (lentAt (to-start (to-shared-slice-known7 (c .before .before)))) (c .before .before .before-work .result) (c .before .before .before-work .ensures) (c .enum-told .given .1)
 
 -- What the work asks for, with the preset that was read.
-ready : (c : tie.After-known-told3) → WorkReady (lentAt (to-start (to-shared-slice-known7 (c .before .before .before .before .before .before))) .pass) (length (lentAt (to-start (to-shared-slice-known7 (c .before .before .before .before .before .before))) .clusterMap)) (lentAt (to-start (to-shared-slice-known7 (c .before .before .before .before .before .before))) .shift) (length (lentAt (to-start (to-shared-slice-known7 (c .before .before .before .before .before .before))) .log)) (c .before .chosen2 .given .0 .0)
+ready : (c : tie.After-known-told3) → WorkReady (lentAt (to-start (to-shared-slice-known7 (c .before .before .before .before .before .before))) .passGroup) (length (lentAt (to-start (to-shared-slice-known7 (c .before .before .before .before .before .before))) .clusterMap)) (lentAt (to-start (to-shared-slice-known7 (c .before .before .before .before .before .before))) .shift) (length (lentAt (to-start (to-shared-slice-known7 (c .before .before .before .before .before .before))) .log)) (c .before .chosen2 .given .0 .0)
 ready c =
     let n = c .before .chosen2 .given in
     let p = passed (c .before .before .before .before) in
@@ -44,7 +44,7 @@ read-group-requires : tie.Need-read-group-requires
 read-group-requires c κs =
     let L = lentAt (to-start (to-shared-slice-known7 (c .before .before .before .before .before .before .before .before .before .before .before))) in
     let w = ready (c .before .before .before .before .before) in
-    w .ready _ (ap length (c .before .before .before .before .preset-map-of .ensures) ∙ part-long (L .clusterMap) (495 * clustersOf (L .pass)) (c .before .before .before .before .before .before .chosen2 .given .0 .0) (w .part))
+    w .ready _ (ap length (c .before .before .before .before .preset-map-of .ensures) ∙ part-long (L .clusterMap) (495 * clustersOf (L .passGroup)) (c .before .before .before .before .before .before .chosen2 .given .0 .0) (w .part))
 
 returns-2 : tie.Need-returns-2
 returns-2 c =

@@ -14,21 +14,21 @@ use Rattle.bits.specs.Bits.{Value, Ended}
 use Rattle.coeff_checks.specs.Checks.{blocks}
 use Rattle.coeff_checks.specs.laws.ChecksLaws as checks
 use Rattle.coeff_group.specs.Group.{PerChannel}
-use Rattle.coeff_call.specs.Call.{Lent, lengthsFit, beforeWork, Passed, presetBits, reading, outcomeOf, refuse, call}
+use Rattle.coeff_call.specs.Call.{Lent, allLengthsFit, beforeWork, Passed, presetBits, reading, outcomeOf, refuse, call}
 
 module _ (L : Lent) where
   pub checks-pass : Passed L → beforeWork L ≡ passed
   checks-pass =
-      checks.checks-pass (L .pass) (L .presets) (L .shift) (length (L .clusterMap)) (length (L .log)) (length (getD (L .grids) 0 [])) (length (getD (L .grids) 1 [])) (length (getD (L .grids) 2 []))
+      checks.checks-pass (L .passGroup) (L .presets) (L .shift) (length (L .clusterMap)) (length (L .log)) (length (getD (L .grids) 0 [])) (length (getD (L .grids) 1 [])) (length (getD (L .grids) 2 []))
 
   pub passed-by : beforeWork L ≡ passed → Passed L
   passed-by =
-      checks.passed-by (L .pass) (L .presets) (L .shift) (length (L .clusterMap)) (length (L .log)) (length (getD (L .grids) 0 [])) (length (getD (L .grids) 1 [])) (length (getD (L .grids) 2 []))
+      checks.passed-by (L .passGroup) (L .presets) (L .shift) (length (L .clusterMap)) (length (L .log)) (length (getD (L .grids) 0 [])) (length (getD (L .grids) 1 [])) (length (getD (L .grids) 2 []))
 
-  pub lengths-fit : lengthsFit L ≡ true → checks.Lengths (L .pass) (L .presets) (length (L .clusterMap)) (length (L .log)) (length (getD (L .grids) 0 [])) (length (getD (L .grids) 1 [])) (length (getD (L .grids) 2 []))
-  lengths-fit = checks.lengths-fit (L .pass) (L .presets) (length (L .clusterMap)) (length (L .log)) (length (getD (L .grids) 0 [])) (length (getD (L .grids) 1 [])) (length (getD (L .grids) 2 []))
+  pub lengths-fit : allLengthsFit L ≡ true → checks.Lengths (L .passGroup) (L .presets) (length (L .clusterMap)) (length (L .log)) (length (getD (L .grids) 0 [])) (length (getD (L .grids) 1 [])) (length (getD (L .grids) 2 []))
+  lengths-fit = checks.lengths-fit (L .passGroup) (L .presets) (length (L .clusterMap)) (length (L .log)) (length (getD (L .grids) 0 [])) (length (getD (L .grids) 1 [])) (length (getD (L .grids) 2 []))
 
-  pub grids-fit : lengthsFit L ≡ true → (c : ℕ) → c < 3 → length (getD (L .grids) c []) ≡ 64 * blocks (L .pass)
+  pub grids-fit : allLengthsFit L ≡ true → (c : ℕ) → c < 3 → length (getD (L .grids) c []) ≡ 64 * blocks (L .passGroup)
   grids-fit e zero h = lengths-fit e .grids .0
   grids-fit e (suc zero) h = lengths-fit e .grids .1
   grids-fit e (suc (suc zero)) h = lengths-fit e .grids .2
@@ -54,7 +54,7 @@ module _ (L : Lent) where
 
 -- other log and grids
 abbrev pub withOut : Lent → List ℕ → PerChannel → Lent
-withOut L log G = record { pass = L .pass; presets = L .presets; clusterMap = L .clusterMap; shift = L .shift; bytes = L .bytes; symbols = L .symbols; log = log; grids = G }
+withOut L log G = record { passGroup = L .passGroup; presets = L .presets; clusterMap = L .clusterMap; shift = L .shift; bytes = L .bytes; symbols = L .symbols; log = log; grids = G }
 
 -- the checks look at log and grids only by their lengths
 pub steady : (L : Lent) (log : List ℕ) (G : PerChannel) → length log ≡ length (L .log)

@@ -78,9 +78,9 @@ pub call-done : (L : Lent) → Passed L → (q : PresetAnswer) → number.answer
 call-done L p q e n f r v log g0 g1 g2 a d =
     ap (λ (w : CoeffAnswer). leaves w log g0 g1 g2) a ∙ outcome-by r log (g0 ∷ g1 ∷ g2 ∷ []) (reading L n) d ∙ call-read L p q e n f
 
-pub work-ready : (L : Lent) → Passed L → (n : ℕ) → n < L .presets → WorkReady (L .pass) (length (L .clusterMap)) (L .shift) (length (L .log)) n
+pub work-ready : (L : Lent) → Passed L → (n : ℕ) → n < L .presets → WorkReady (L .passGroup) (length (L .clusterMap)) (L .shift) (length (L .log)) n
 work-ready L p n h =
-    let P = L .pass in
+    let P = L .passGroup in
     let s = sides-fit P (p .sides) in
     let t = parameters-fit (L .shift) (L .presets) (p .parameters) in
     let l = lengths-fit L (p .lengths) in

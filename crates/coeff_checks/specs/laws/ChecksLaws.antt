@@ -13,18 +13,18 @@ use Rattle.order_store.specs.Store.{PLACES, placesFit}
 use Rattle.context_record.specs.declared.HfBlockContext.{HfBlockContext}
 use Rattle.context_record.specs.Record.{fit}
 use Rattle.context_record.specs.laws.Bounds.{is-fit}
-use Rattle.coeff_group.specs.Pass.{Pass}
+use Rattle.coeff_group.specs.PassGroup.{PassGroup}
 use Rattle.coeff_group.specs.Work.{clustersOf}
-use Rattle.coeff_checks.specs.Checks.{blocks, sidesFit, parametersFit, threeFit, lfFits, passFits, lengthsBy, layoutFits, beforeWork, Passed}
-use Rattle.coeff_checks.specs.laws.Tests.{readFit, otherLengthsFit, groupPasses, two, three, four, truth, written-is, passes-is}
+use Rattle.coeff_checks.specs.Checks.{blocks, sidesFit, parametersFit, threeFit, lfFits, readFits, allLengthsFit, layoutFits, beforeWork, Passed}
+use Rattle.coeff_checks.specs.laws.Tests.{readLengthsFit, otherLengthsFit, groupPasses, two, three, four, truth, written-is, passes-is}
 
-pub record Sides (P : Pass) : Type 0 where
+pub record Sides (P : PassGroup) : Type 0 where
   pub someWide : 1 ≤ P .bw
   pub wide : P .bw ≤ 32
   pub someHigh : 1 ≤ P .bh
   pub high : P .bh ≤ 32
 
-pub sides-fit : (P : Pass) → sidesFit P ≡ true → Sides P
+pub sides-fit : (P : PassGroup) → sidesFit P ≡ true → Sides P
 unfolding inLimits
 sides-fit P e =
     let t = two (leb 1 (P .bw) && leb (P .bw) 32) (leb 1 (P .bh) && leb (P .bh) 32) (truth (sidesFit P) e) in
@@ -37,13 +37,13 @@ parameters-fit shift presets e =
     let t = two (leb shift 3) (leb presets 256) (truth (parametersFit shift presets) e) in
     (leb→le shift 3 (t .0), leb→le presets 256 (t .1))
 
-pub most-blocks : (P : Pass) → sidesFit P ≡ true → blocks P ≤ 1024
+pub most-blocks : (P : PassGroup) → sidesFit P ≡ true → blocks P ≤ 1024
 most-blocks P e = let s = sides-fit P e in mul-le-mul (s .high) (s .wide)
 
 pub few-clusters : (R : HfBlockContext) → fit R ≡ true → R .«num_block_clusters» ≤ 16
 few-clusters R e = is-fit R e .few
 
-module _ (P : Pass) (presets clusterMap log g0 g1 g2 : ℕ) where
+module _ (P : PassGroup) (presets clusterMap log g0 g1 g2 : ℕ) where
   pub record Lengths : Type 0 where
     pub kinds : length (P .kinds) ≡ blocks P
     pub hfMul : length (P .hfMul) ≡ blocks P
@@ -56,10 +56,10 @@ module _ (P : Pass) (presets clusterMap log g0 g1 g2 : ℕ) where
   equal : (a b c n : ℕ) → T (threeFit a b c n) → (a ≡ n) × (b ≡ n) × (c ≡ n)
   equal a b c n t = let g = three (eqb a n) (eqb b n) (eqb c n) t in (eqb→eq a n (g .0), eqb→eq b n (g .1), eqb→eq c n (g .2))
 
-  pub lengths-fit : lengthsBy P presets clusterMap log g0 g1 g2 ≡ true → Lengths
+  pub lengths-fit : allLengthsFit P presets clusterMap log g0 g1 g2 ≡ true → Lengths
   lengths-fit e =
       let n = blocks P in
-      let t = four (passFits P) (eqb clusterMap (495 * clustersOf P * presets)) (threeFit g0 g1 g2 (64 * n)) (leb (192 * n) log) (truth (lengthsBy P presets clusterMap log g0 g1 g2) e) in
+      let t = four (readFits P) (eqb clusterMap (495 * clustersOf P * presets)) (threeFit g0 g1 g2 (64 * n)) (leb (192 * n) log) (truth (allLengthsFit P presets clusterMap log g0 g1 g2) e) in
       let p = four (eqb (length (P .kinds)) n) (eqb (length (P .hfMul)) n) (lfFits P) (eqb (length (P .store)) (2 * PLACES)) (t .0) in
       record {
         kinds = eqb→eq (length (P .kinds)) n (p .0);
@@ -71,7 +71,7 @@ module _ (P : Pass) (presets clusterMap log g0 g1 g2 : ℕ) where
         room = leb→le (192 * n) log (t .3);
       }
 
-module _ (P : Pass) (presets shift clusterMap log g0 g1 g2 : ℕ) where
+module _ (P : PassGroup) (presets shift clusterMap log g0 g1 g2 : ℕ) where
   abbrev answer : Answer Unit
   answer = beforeWork P presets shift clusterMap log g0 g1 g2
 
@@ -94,21 +94,21 @@ module _ (P : Pass) (presets shift clusterMap log g0 g1 g2 : ℕ) where
       checks-12 c = rw (a, b, c)
 
       module _ (c : fit (P .contexts) ≡ true) where
-        pub checks-1 : lengthsBy P presets clusterMap log g0 g1 g2 ≡ false → answer ≡ refuses (refusals.saidAt 1 0 0)
+        pub checks-1 : allLengthsFit P presets clusterMap log g0 g1 g2 ≡ false → answer ≡ refuses (refusals.saidAt 1 0 0)
         unfolding beforeWork
         checks-1 d = rw (a, b, c, d)
 
         -- the lengths as the code compares them
         pub lengths-are : (first r : Bool)
-            → first ≡ readFit (length (P .kinds)) (length (P .hfMul)) (P .lfThere) (length (P .lf0)) (length (P .lf1)) (length (P .lf2)) (length (P .store)) (blocks P)
+            → first ≡ readLengthsFit (length (P .kinds)) (length (P .hfMul)) (P .lfThere) (length (P .lf0)) (length (P .lf1)) (length (P .lf2)) (length (P .store)) (blocks P)
             → r ≡ otherLengthsFit (clustersOf P) presets clusterMap g0 g1 g2 log (blocks P) first
-            → lengthsBy P presets clusterMap log g0 g1 g2 ≡ r
+            → allLengthsFit P presets clusterMap log g0 g1 g2 ≡ r
         lengths-are first r e f =
             sym (f
             ∙ written-is (clustersOf P) presets clusterMap g0 g1 g2 log (blocks P) first (few-clusters (P .contexts) c) (parameters-fit shift presets b .1) (most-blocks P a)
             ∙ rw e)
 
-        module _ (d : lengthsBy P presets clusterMap log g0 g1 g2 ≡ true) where
+        module _ (d : allLengthsFit P presets clusterMap log g0 g1 g2 ≡ true) where
           -- 18, once sides and lengths fit
           pub layout-is : groupPasses (P .bw) (P .bh) (P .kinds) (P .hfMul) ≡ layoutFits P
           layout-is = let l = lengths-fit P presets clusterMap log g0 g1 g2 d in passes-is (P .bw) (P .bh) (P .kinds) (P .hfMul) a (l .kinds) (l .hfMul)
@@ -133,7 +133,7 @@ module _ (P : Pass) (presets shift clusterMap log g0 g1 g2 : ℕ) where
       let a = past 2 (sidesFit P) _ e in
       let b = past 11 (parametersFit shift presets) _ (a .1) in
       let c = past 12 (fit (P .contexts)) _ (b .1) in
-      let d = past 1 (lengthsBy P presets clusterMap log g0 g1 g2) _ (c .1) in
+      let d = past 1 (allLengthsFit P presets clusterMap log g0 g1 g2) _ (c .1) in
       let f = past 18 (layoutFits P) _ (d .1) in
       let g = past 13 (placesFit (P .store)) _ (f .1) in
       record { sides = a .0; parameters = b .0; contexts = c .0; lengths = d .0; layout = f .0; places = g .0 }

@@ -21,8 +21,8 @@ use Rattle.coeff_checks.specs.Checks.{threeFit}
 abbrev pub lfLengthsFit : Bool → ℕ → ℕ → ℕ → ℕ → Bool
 lfLengthsFit there lf0 lf1 lf2 n = cond there (threeFit lf0 lf1 lf2 n) true
 
-abbrev pub readFit : (kinds hfMul : ℕ) (there : Bool) (lf0 lf1 lf2 store n : ℕ) → Bool
-readFit kinds hfMul there lf0 lf1 lf2 store n = eqb kinds n && eqb hfMul n && lfLengthsFit there lf0 lf1 lf2 n && eqb store (2 * PLACES)
+abbrev pub readLengthsFit : (kinds hfMul : ℕ) (there : Bool) (lf0 lf1 lf2 store n : ℕ) → Bool
+readLengthsFit kinds hfMul there lf0 lf1 lf2 store n = eqb kinds n && eqb hfMul n && lfLengthsFit there lf0 lf1 lf2 n && eqb store (2 * PLACES)
 
 -- within the limits that are tested before lengths
 abbrev pub otherLengthsFit : (clusters presets clusterMap g0 g1 g2 log n : ℕ) → Bool → Bool

@@ -14,7 +14,7 @@ use Rattle.lent_check.specs.declared.Group.{Group}
 use Rattle.coeff_walk.specs.declared.WalkEnd.{WalkEnd}
 use Rattle.coeff_walk.specs.declared.WalkEnd.the-variants.{Done, Stopped}
 use Rattle.coeff_walk.specs.Walk.{Walked, done, stopped}
-use Rattle.coeff_walk.specs.laws.Outcome.{isStopped, answerOf, logOf, gridLeft}
+use Rattle.coeff_walk.specs.laws.Outcome.{isStopped, answerOf, logOf, gridAfter}
 use Rattle.coeff_walk.specs.Item.{Item, newRow, countOver, countCluster, counted}
 use Rattle.coeff_walk.specs.declared.shape.Shape.{Shape}
 use Rattle.order_natural.specs.Places.{paired}
@@ -84,7 +84,7 @@ module _ (shift clusters : ℕ) (presetMap : List ℕ) (c : ℕ) (it : Item) (ro
           it = record {
             answer = got .answer ∙ ap answerOf q;
             logged = sym (got .logged ∙ ap logOf q);
-            cells = sym (got .cells ∙ ap (λ (x : Walked). set G c (gridLeft x)) q);
+            cells = sym (got .cells ∙ ap (λ (x : Walked). set G c (gridAfter x)) q);
           };
         }
 
@@ -109,7 +109,7 @@ module _ (shift clusters : ℕ) (presetMap : List ℕ) (c : ℕ) (it : Item) (ro
                 few = omega arith;
                 counts = rows-are;
                 logged = sym (got .logged ∙ ap logOf q);
-                cells = sym (got .cells ∙ ap (λ (x : Walked). set G c (gridLeft x)) q);
+                cells = sym (got .cells ∙ ap (λ (x : Walked). set G c (gridAfter x)) q);
               };
             }
 
@@ -133,8 +133,8 @@ module _ (p : Plan) (group : Group) (clusters : ℕ) (presetMap store symbols : 
   channel-asks = (
     below,
     record {
-      left = planned .left;
-      top = planned .top;
+      inX = planned .inX;
+      inY = planned .inY;
       exponent = planned .exponent;
       narrow = planned .narrow;
       context = planned .context n hn;

@@ -24,7 +24,7 @@ use Rattle.coeff_walk.specs.declared.WalkEnd.the-variants.{Done, Stopped}
 use Rattle.coeff_walk.specs.laws.Outcome.{isStopped, readBy}
 use Rattle.coeff_walk.specs.Item.{Item}
 use Rattle.coeff_group.specs.declared.plan.Plan.{Plan}
-use Rattle.coeff_group.specs.Pass.{Pass, varblocks, itemOf, channelItems}
+use Rattle.coeff_group.specs.PassGroup.{PassGroup, varblocks, itemOf, channelItems}
 use Rattle.coeff_group.specs.Group.{PerChannel, zeroRows, Reading, going, refused, readItems, readGroup}
 use Rattle.coeff_group.specs.laws.GroupLaws.{group-refused}
 use Rattle.dct_select.specs.laws.Exponents.{exponentOf, exponent-blocks, exponent-le}
@@ -52,7 +52,7 @@ pub record GroupShown (r : WalkEnd) (log : List ℕ) (G : PerChannel) (R : Readi
   pub cells : G ≡ gridsBy R
 
 -- what the checks before work leave
-pub record GroupReady (P : Pass) (clusters presetMap shift log : ℕ) : Type 0 where
+pub record GroupReady (P : PassGroup) (clusters presetMap shift log : ℕ) : Type 0 where
   pub narrow : P .bw ≤ 32
   pub below : P .bh ≤ 32
   pub layout : Layout (P .bw) (P .bh) (P .kinds) (P .hfMul)
@@ -64,7 +64,7 @@ pub record GroupReady (P : Pass) (clusters presetMap shift log : ℕ) : Type 0 w
   pub shifts : shift ≤ 3
   pub room : 192 * (P .bw * P .bh) ≤ log
 
-module _ (P : Pass) where
+module _ (P : PassGroup) where
   abbrev pub K : Cells
   K = blockAt (P .kinds) (P .bw)
 
@@ -84,22 +84,22 @@ module _ (P : Pass) where
       (P .lfThere) (P .lf0) (P .lf1) (P .lf2)
 
 -- the varblocks from block x of row y on, and from row y on
-abbrev pub rowsFrom : Pass → ℕ → List layout.Varblock
+abbrev pub rowsFrom : PassGroup → ℕ → List layout.Varblock
 rowsFrom P y = cornersFrom (K P) (M P) (P .bw) (P .bh - y) y
 
-abbrev pub rowFrom : Pass → ℕ → ℕ → List layout.Varblock
+abbrev pub rowFrom : PassGroup → ℕ → ℕ → List layout.Varblock
 rowFrom P x y = cornersRow (K P) (M P) (P .bw - x) x y (rowsFrom P (y + 1))
 
 -- the whole reading
-abbrev pub wholeOf : ℕ → ℕ → List ℕ → Pass → List ℕ → List ℕ → PerChannel → Reading
+abbrev pub wholeOf : ℕ → ℕ → List ℕ → PassGroup → List ℕ → List ℕ → PerChannel → Reading
 wholeOf shift clusters presetMap P symbols log G = readGroup shift clusters presetMap P (varblocks P) (going symbols 0 log G zeroRows 0)
 
 -- the symbols of a planned varblock at most
-few-is : (P : Pass) (x y at₀ : ℕ) (p : Plan) → p ≡ planAt P x y → K P x y - 2 < 27 → at₀ + 192 * 2 ^ (p .shape .exponent) ≡ at₀ + 192 * (wide (K P x y - 2) * high (K P x y - 2))
+few-is : (P : PassGroup) (x y at₀ : ℕ) (p : Plan) → p ≡ planAt P x y → K P x y - 2 < 27 → at₀ + 192 * 2 ^ (p .shape .exponent) ≡ at₀ + 192 * (wide (K P x y - 2) * high (K P x y - 2))
 few-is P x y at₀ p e h = rw (e, exponent-blocks (K P x y - 2) h)
 
 -- one corner
-module _ (P : Pass) (clusters presetMap shift log : ℕ) (r : GroupReady P clusters presetMap shift log) (x y : ℕ) (hx : x < P .bw) (hy : y < P .bh) (corner : 2 ≤ K P x y) where
+module _ (P : PassGroup) (clusters presetMap shift log : ℕ) (r : GroupReady P clusters presetMap shift log) (x y : ℕ) (hx : x < P .bw) (hy : y < P .bh) (corner : 2 ≤ K P x y) where
   abbrev t : ℕ
   t = K P x y - 2
 
@@ -135,8 +135,8 @@ module _ (P : Pass) (clusters presetMap shift log : ℕ) (r : GroupReady P clust
   plan-ready presetMap₀ e =
       let w = r .narrow in let h = r .below in
       record {
-        left = omega arith;
-        top = omega arith;
+        inX = omega arith;
+        inY = omega arith;
         some = wide-some t known;
         exponent = exponent-le t known;
         narrow = r .narrow;
@@ -156,13 +156,13 @@ module _ (P : Pass) (clusters presetMap shift log : ℕ) (r : GroupReady P clust
       context (suc (suc (suc n))) k = absurd (omega arith)
 
 -- what is still due: the varblocks vs, from where the reading stands, give the whole
-pub record Due (shift clusters : ℕ) (presetMap : List ℕ) (P : Pass) (symbols : List ℕ) (most : ℕ) (whole : Reading) (vs : List layout.Varblock) (at₀ : ℕ) (rows : PerChannel) (log : List ℕ) (G : PerChannel) : Type 0 where
+pub record Due (shift clusters : ℕ) (presetMap : List ℕ) (P : PassGroup) (symbols : List ℕ) (most : ℕ) (whole : Reading) (vs : List layout.Varblock) (at₀ : ℕ) (rows : PerChannel) (log : List ℕ) (G : PerChannel) : Type 0 where
   pub left : ℕ
   pub due : readGroup shift clusters presetMap P vs (going (drop at₀ symbols) at₀ log G rows left) ≡ whole
   pub three : length rows ≡ 3
   pub room : at₀ + 192 * area vs ≤ most
 
-module _ (shift clusters : ℕ) (presetMap : List ℕ) (P : Pass) (symbols : List ℕ) (most : ℕ) (whole : Reading) where
+module _ (shift clusters : ℕ) (presetMap : List ℕ) (P : PassGroup) (symbols : List ℕ) (most : ℕ) (whole : Reading) where
   abbrev Dues : List layout.Varblock → ℕ → PerChannel → List ℕ → PerChannel → Type 0
   Dues vs at₀ rows log G = Due shift clusters presetMap P symbols most whole vs at₀ rows log G
 
@@ -250,7 +250,7 @@ module _ (shift clusters : ℕ) (presetMap : List ℕ) (P : Pass) (symbols : Lis
         record { answer = ap walkOf f; logged = ap logBy f; cells = ap gridsBy f }
 
 -- a corner of the group, planned as p
-module _ (shift clusters : ℕ) (presetMap : List ℕ) (P : Pass) (symbols : List ℕ) (room : ℕ) (ready : GroupReady P clusters (length presetMap) shift room) (whole : Reading) (x y at₀ : ℕ) (rows : PerChannel) (log : List ℕ) (G : PerChannel)
+module _ (shift clusters : ℕ) (presetMap : List ℕ) (P : PassGroup) (symbols : List ℕ) (room : ℕ) (ready : GroupReady P clusters (length presetMap) shift room) (whole : Reading) (x y at₀ : ℕ) (rows : PerChannel) (log : List ℕ) (G : PerChannel)
     (hx : x < P .bw) (hy : y < P .bh) (corner : 2 ≤ K P x y) (d : Due shift clusters presetMap P symbols (192 * (P .bw * P .bh)) whole (rowFrom P x y) at₀ rows log G) (p : Plan) (ep : p ≡ planAt P x y) where
   here : Due shift clusters presetMap P symbols (192 * (P .bw * P .bh)) whole (cornerAt P x y ∷ rowFrom P (x + 1) y) at₀ rows log G
   here = due-corner shift clusters presetMap P symbols (192 * (P .bw * P .bh)) whole at₀ rows log G x y (rowsFrom P (y + 1)) hx corner d
@@ -290,7 +290,7 @@ module _ (shift clusters : ℕ) (presetMap : List ℕ) (P : Pass) (symbols : Lis
         rw q (due-step shift clusters presetMap P symbols (192 * (P .bw * P .bh)) whole at₀ rows log G x y (rowFrom P (x + 1) y) here (itemsBy p (groupAt P) (P .store)) its
         w rows₁ log₁ G₁ (at₀ + 192 * 2 ^ (p .shape .exponent)) few shown e three)
 
-pub due-start : (shift clusters : ℕ) (presetMap : List ℕ) (P : Pass) (symbols log : List ℕ) (G : PerChannel) → Layout (P .bw) (P .bh) (P .kinds) (P .hfMul)
+pub due-start : (shift clusters : ℕ) (presetMap : List ℕ) (P : PassGroup) (symbols log : List ℕ) (G : PerChannel) → Layout (P .bw) (P .bh) (P .kinds) (P .hfMul)
     → Due shift clusters presetMap P symbols (192 * (P .bw * P .bh)) (wholeOf shift clusters presetMap P symbols log G) (rowsFrom P 0) 0 (replicate 3 (replicate 32 0)) log G
 due-start shift clusters presetMap P symbols log G lay =
     let e : P .bh - 0 ≡ P .bh = omega arith in

@@ -13,7 +13,7 @@ use Rattle.refusal.specs.declared.Refusal.the-variants.{Length}
 use Rattle.order_sizes.specs.BlockSizes.{widthOf, heightOf}
 use Rattle.lent_check.specs.declared.Group.{Group}
 use Rattle.order_store.specs.declared.Stretch.{Stretch}
-use Rattle.order_store.specs.Store.{PLACES, from}
+use Rattle.order_store.specs.Store.{PLACES, firstOf}
 use Rattle.order_store.specs.LookedUp.{stretchFrom, stretchAt}
 use Rattle.coeff_walk.specs.declared.WalkEnd.the-variants.{Stopped}
 use Rattle.coeff_group.specs.declared.plan.Plan.{Plan}
@@ -58,7 +58,7 @@ unfolding stretchAt
 found numbers o m h = go (ltb o 13) refl (eqb numbers (2 * PLACES)) refl
   where
     go : (b : Bool) → ltb o 13 ≡ b → (d : Bool) → eqb numbers (2 * PLACES) ≡ d
-        → cond (b && (ltb 0 3 && d)) (stretchFrom (from (3 * o + 0)) (2 * (widthOf o * heightOf o))) (stretchFrom 0 0) .len ≡ m
+        → cond (b && (ltb 0 3 && d)) (stretchFrom (firstOf (3 * o + 0)) (2 * (widthOf o * heightOf o))) (stretchFrom 0 0) .len ≡ m
         → (o < 13) × (numbers ≡ 2 * PLACES) × (2 * (widthOf o * heightOf o) ≡ m)
     go true a true b e = (ltb-true o 13 a, eqb-true numbers (2 * PLACES) b, e)
     go true a false b e = absurd (omega arith)
@@ -66,8 +66,8 @@ found numbers o m h = go (ltb o 13) refl (eqb numbers (2 * PLACES)) refl
 
 -- the limits, each by itself
 pub record VarblockLimits (p : Plan) (group : Group) (clusters shift : ℕ) : Type 0 where
-  pub left : p .shape .x < 32
-  pub top : p .shape .y < 32
+  pub inX : p .shape .x < 32
+  pub inY : p .shape .y < 32
   pub some : 1 ≤ p .shape .wide
   pub exponent : p .shape .exponent ≤ 10
   pub narrow : group .bw ≤ 32
@@ -89,8 +89,8 @@ small-limits p group clusters shift e =
     let a = and-true _ _ (b .0) in
     let z = and-true _ _ (a .0) in
     record {
-      left = ltb-true (p .shape .x) 32 (z .0);
-      top = ltb-true (p .shape .y) 32 (z .1);
+      inX = ltb-true (p .shape .x) 32 (z .0);
+      inY = ltb-true (p .shape .y) 32 (z .1);
       some = leb-true 1 (p .shape .wide) (a .1);
       exponent = leb-true (p .shape .exponent) 10 (b .1);
       narrow = leb-true (group .bw) 32 (c .1);
@@ -115,8 +115,8 @@ module _ (p : Plan) (group : Group) (clusters : ℕ) (presetMap store : List ℕ
       let r = leb-true (192 * 2 ^ (p .shape .exponent)) (log - at) (k .1) in
       let s = found (length store) (p .order) (128 * 2 ^ (p .shape .exponent)) (let z = pow-pos (p .shape .exponent) in omega arith) (eqb-true (stretchAt (length store) (p .order) 0 .len) (128 * 2 ^ (p .shape .exponent)) (j .1)) in (
         record {
-          left = v .left;
-          top = v .top;
+          inX = v .inX;
+          inY = v .inY;
           some = v .some;
           exponent = v .exponent;
           narrow = v .narrow;
@@ -144,8 +144,8 @@ module _ (p : Plan) (group : Group) (clusters : ℕ) (presetMap store : List ℕ
       let l = lists-are store (r .whole) (p .order) (r .listed) (stretchAt (length store) (p .order) 0) refl in
       let n : stretchAt (length store) (p .order) 0 .len ≡ 128 * 2 ^ (p .shape .exponent) = ap (λ (s : Stretch). s .len) l ∙ sym (stretch-long store (r .whole) (p .order) 0 (r .listed) (omega arith)) ∙ r .long 0 (omega arith) in
       rw (
-        lt-ltb (p .shape .x) 32 (r .left),
-        lt-ltb (p .shape .y) 32 (r .top),
+        lt-ltb (p .shape .x) 32 (r .inX),
+        lt-ltb (p .shape .y) 32 (r .inY),
         le-leb 1 (p .shape .wide) (r .some),
         le-leb (p .shape .exponent) 10 (r .exponent),
         le-leb (group .bw) 32 (r .narrow),

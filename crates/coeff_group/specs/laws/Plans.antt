@@ -51,8 +51,8 @@ itemsBy p group store = itemBy p group store 0 1 ∷ itemBy p group store 1 0 �
 
 -- what the reading of a planned varblock requires, but for room in the log
 pub record Planned (p : Plan) (group : Group) (clusters : ℕ) (presetMap store : List ℕ) (shift : ℕ) : Type 0 where
-  pub left : p .shape .x < 32
-  pub top : p .shape .y < 32
+  pub inX : p .shape .x < 32
+  pub inY : p .shape .y < 32
   pub some : 1 ≤ p .shape .wide
   pub exponent : p .shape .exponent ≤ 10
   pub narrow : group .bw ≤ 32

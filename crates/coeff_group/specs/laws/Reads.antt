@@ -133,31 +133,31 @@ tells-on n k₁ left m k us ds us₁ dss (ends us′ rows left′) w t =
 tells-on n k₁ left m k us ds us₁ dss (stops why) w t =
     walks.stop-later (suc m) (length us₁) k (suc (length us)) (suc (m + k)) why (omega (arith, w .read)) (omega arith) t
 
-module _ (clusters : ℕ) (stretch : List ℕ) where
-  read-refused : (s : ℕ) (its : List Item) (why : ℕ → Refusal) (at : ℕ) (log : List ℕ) (G : PerChannel) → readItems s clusters stretch its (refused why at log G) ≡ refused why at log G
+module _ (clusters : ℕ) (presetMap : List ℕ) where
+  read-refused : (s : ℕ) (its : List Item) (why : ℕ → Refusal) (at : ℕ) (log : List ℕ) (G : PerChannel) → readItems s clusters presetMap its (refused why at log G) ≡ refused why at log G
   unfolding readItems readItem
   read-refused s [] why at log G = refl
   read-refused s (it ∷ its) why at log G = read-refused s its why at log G
 
   abbrev Claim : List Item → Type 0
   Claim its = (us : List ℕ) (rows : PerChannel) (left : ℕ)
-      → Reads its us left (λ s at log G. readItems s clusters stretch its (going us at log G rows left)) (λ vs s at log G. readItems s clusters stretch its (going (us ++ vs) at log G rows left))
+      → Reads its us left (λ s at log G. readItems s clusters presetMap its (going us at log G rows left)) (λ vs s at log G. readItems s clusters presetMap its (going (us ++ vs) at log G rows left))
 
   module _ (it : Item) (its : List Item) (ih : Claim its) (n : ℕ) (us : List ℕ) (rows : PerChannel) (left : ℕ) where
     abbrev c : ℕ
     c = it .channel
 
     abbrev k : ℕ
-    k = countCluster clusters stretch it (getD rows c [])
+    k = countCluster clusters presetMap it (getD rows c [])
 
     abbrev rows₁ : PerChannel
     rows₁ = set rows c (newRow it (getD rows c []) (n ∷ us))
 
     abbrev W : List ℕ → ℕ → ℕ → List ℕ → List ℕ → Walked
-    W vs s at log g = walk s (it .blocks) (coeffMapOf clusters stretch it) (it .cells) 0 (cond (leb n (4 * it .blocks)) 1 0) n vs at log g
+    W vs s at log g = walk s (it .blocks) (coeffMapOf clusters presetMap it) (it .cells) 0 (cond (leb n (4 * it .blocks)) 1 0) n vs at log g
 
     abbrev on : (b : Bool) → List ℕ → ℕ → ℕ → List ℕ → PerChannel → Reading
-    on b vs s at log G = readItems s clusters stretch its (after c G rows₁ left (cond b (W vs s (at + 1) (set log at k) (getD G c [])) (stopped Count (at + 1) (set log at k) (getD G c []))))
+    on b vs s at log G = readItems s clusters presetMap its (after c G rows₁ left (cond b (W vs s (at + 1) (set log at k) (getD G c [])) (stopped Count (at + 1) (set log at k) (getD G c []))))
 
     module _ (ks ds : List ℕ) (long : length ds ≡ length (it .cells)) where
       grids : ℕ → PerChannel → PerChannel
@@ -179,7 +179,7 @@ module _ (clusters : ℕ) (stretch : List ℕ) where
         end = stops why;
         is = λ s at log G.
             let z : at + 1 + length ks ≡ at + suc (length ks) = omega arith in
-            ap (λ (w : Walked). readItems s clusters stretch its (after c G rows₁ left w)) (is s (at + 1) (set log at k) (getD G c []))
+            ap (λ (w : Walked). readItems s clusters presetMap its (after c G rows₁ left w)) (is s (at + 1) (set log at k) (getD G c []))
             ∙ read-refused s its why (at + 1 + length ks) (sets (set log at k) (at + 1) ks) (set G c (gains s (getD G c []) (it .cells) ds))
             ∙ rw (z, add-one at) (ap (refused why (at + suc (length ks)) (sets (set log at k) (suc at) ks))
             (sym (adds-nones s its (set G c (gains s (getD G c []) (it .cells) ds))) ∙ cells-step s it its G ds (joined (nones its)) long));
@@ -196,10 +196,10 @@ module _ (clusters : ℕ) (stretch : List ℕ) where
             dss = ds ∷ q .dss;
             end = q .end;
             is = λ s at log G.
-                ap (λ (w : Walked). readItems s clusters stretch its (after c G rows₁ left w)) (is s (at + 1) (set log at k) (getD G c []))
+                ap (λ (w : Walked). readItems s clusters presetMap its (after c G rows₁ left w)) (is s (at + 1) (set log at k) (getD G c []))
                 ∙ q .is s (at + 1 + length ks) (sets (set log at k) (at + 1) ks) (set G c (gains s (getD G c []) (it .cells) ds)) ∙ both s at log G (q .end) (q .clusters) (joined (q .dss));
             further = λ h vs s at log G.
-                ap (λ (w : Walked). readItems s clusters stretch its (after c G rows₁ left w)) (further tt vs s (at + 1) (set log at k) (getD G c []))
+                ap (λ (w : Walked). readItems s clusters presetMap its (after c G rows₁ left w)) (further tt vs s (at + 1) (set log at k) (getD G c []))
                 ∙ q .further h vs s (at + 1 + length ks) (sets (set log at k) (at + 1) ks) (set G c (gains s (getD G c []) (it .cells) ds)) ∙ both s at log G (longer vs (q .end)) (q .clusters) (joined (q .dss));
             all = (long, q .all);
             few = omega (arith, length-append ks (q .clusters));
@@ -208,7 +208,7 @@ module _ (clusters : ℕ) (stretch : List ℕ) where
 
     by-count : (b : Bool) → Reads (it ∷ its) (n ∷ us) left (on b us) (λ vs. on b (us ++ vs))
     by-count true =
-        let r = run (it .blocks) (coeffMapOf clusters stretch it) (it .cells) 0 (cond (leb n (4 * it .blocks)) 1 0) n us in
+        let r = run (it .blocks) (coeffMapOf clusters presetMap it) (it .cells) 0 (cond (leb n (4 * it .blocks)) 1 0) n us in
         by-end (r .clusters) (r .ds) (r .all) (r .end) (r .is) (r .further) (r .few) (r .tells)
     by-count false =
         refused-here (it ∷ its) (n ∷ us) left (k ∷ []) Count _ _
@@ -243,7 +243,7 @@ module _ (clusters : ℕ) (stretch : List ℕ) where
     pub at′ : ℕ
     pub log′ : List ℕ
     pub rows′ : PerChannel
-    pub is : readItems s clusters stretch its (going (sent dss) at log G rows left) ≡ going [] at′ log′ (adds s G (readCells its) (joined dss)) rows′ left
+    pub is : readItems s clusters presetMap its (going (sent dss) at log G rows left) ≡ going [] at′ log′ (adds s G (readCells its) (joined dss)) rows′ left
 
   pub read-sent : (its : List Item) (dss : List (List ℕ)) → Long its dss → Sized its → (s at : ℕ) (log : List ℕ) (G rows : PerChannel) (left : ℕ) → Sent its dss s at log G rows left
   unfolding readItems readItem counted sent
@@ -254,8 +254,8 @@ module _ (clusters : ℕ) (stretch : List ℕ) where
       let c = it .channel in
       let n = nonZeros ds in
       let a = l .0 in let b = z it (here refl) in
-      let w = walk-sent s (it .blocks) (coeffMapOf clusters stretch it) (it .cells) ds 0 (cond (leb n (4 * it .blocks)) 1 0) n (sent dss) (at + 1)
-      (set log at (countCluster clusters stretch it (getD rows c []))) (getD G c []) a refl (omega arith) (few-le n (4 * it .blocks)) in
+      let w = walk-sent s (it .blocks) (coeffMapOf clusters presetMap it) (it .cells) ds 0 (cond (leb n (4 * it .blocks)) 1 0) n (sent dss) (at + 1)
+      (set log at (countCluster clusters presetMap it (getD rows c []))) (getD G c []) a refl (omega arith) (few-le n (4 * it .blocks)) in
       let H = set G c (gains s (getD G c []) (it .cells) ds) in
       let r = read-sent its dss (l .1) (λ t i. z t (there i)) s (w .at′) (w .log′) H (set rows c (newRow it (getD rows c []) (n ∷ []))) left in
       let e : left + 0 ≡ left = omega arith in

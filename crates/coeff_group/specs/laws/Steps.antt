@@ -7,7 +7,7 @@ use Rattle.refusal.specs.declared.Refusal.{Refusal}
 use Rattle.coeff_walk.specs.declared.WalkEnd.{WalkEnd}
 use Rattle.coeff_walk.specs.declared.WalkEnd.the-variants.{Done, Stopped}
 use Rattle.coeff_walk.specs.Walk.{Walked}
-use Rattle.coeff_walk.specs.laws.Outcome.{answerOf, logOf, gridLeft, WalkShown}
+use Rattle.coeff_walk.specs.laws.Outcome.{answerOf, logOf, gridAfter, WalkShown}
 use Rattle.laws.specs.Lists.{fillFrom}
 use Rattle.coeff_group.specs.Group.{PerChannel, Reading, going, refused}
 
@@ -15,7 +15,7 @@ use Rattle.coeff_group.specs.Group.{PerChannel, Reading, going, refused}
 pub record InGrid (c : ℕ) (G : PerChannel) (r : WalkEnd) (log : List ℕ) (G′ : PerChannel) (walked : List ℕ → Walked) : Type 0 where
   pub answer : r ≡ answerOf (walked (getD G c []))
   pub logged : log ≡ logOf (walked (getD G c []))
-  pub cells : G′ ≡ set G c (gridLeft (walked (getD G c [])))
+  pub cells : G′ ≡ set G c (gridAfter (walked (getD G c [])))
 
 -- row c with v from x on, n times
 abbrev pub rowBy : PerChannel → ℕ → ℕ → ℕ → ℕ → PerChannel

@@ -18,7 +18,7 @@ use Rattle.order_natural.specs.Places.{paired}
 use Rattle.order_natural.specs.laws.Flat.{length-paired}
 use Rattle.coeff_walk.specs.laws.PlaceLaws.{length-places}
 use Rattle.coeff_walk.specs.Item.{Item}
-use Rattle.coeff_group.specs.Pass.{Pass, varblocks, blocksOf, cellsIn, itemOf, channelItems, itemsOf}
+use Rattle.coeff_group.specs.PassGroup.{PassGroup, varblocks, blocksOf, cellsIn, itemOf, channelItems, itemsOf}
 use Rattle.dct_select.specs.laws.Sides.{order-lt}
 use Rattle.coeff_group.specs.laws.Stored.{stretch-long}
 
@@ -34,7 +34,7 @@ symbols-both (x ∷ xs) ys = omega (arith, symbols-both xs ys)
 pub some-blocks : (v : Varblock) → v .type < 27 → 1 ≤ blocksOf v
 some-blocks v h = mul-pos (wide-some (v .type) h) (high-some (v .type) h)
 
-module _ (P : Pass) (whole : length (P .store) ≡ 2 * PLACES) where
+module _ (P : PassGroup) (whole : length (P .store) ≡ 2 * PLACES) where
   pub places-many : (v : Varblock) → v .type < 27 → (c : ℕ) → c < 3 → length (cellsIn P v c) ≡ 63 * blocksOf v
   places-many v h c hc =
       let t = v .type in

@@ -6,12 +6,12 @@ use native.Mathlib.Nat.{mul-le-mul}
 use native.Mathlib.Omega.{arith}
 use lib.ListN.{length, take, drop, length-drop}
 use lib.Seq.{length-take-le}
-use Rattle.coeff_group.specs.Pass.{Pass}
+use Rattle.coeff_group.specs.PassGroup.{PassGroup}
 use Rattle.coeff_group.specs.laws.Due.{GroupReady}
 use Rattle.coeff_group.specs.Work.{clustersOf}
 
 -- what the work asks for
-pub record WorkReady (P : Pass) (clusterMap shift log n : ℕ) : Type 0 where
+pub record WorkReady (P : PassGroup) (clusterMap shift log n : ℕ) : Type 0 where
   pub clusters : clustersOf P ≤ 16
   pub part : 495 * clustersOf P * n + 495 * clustersOf P ≤ clusterMap
   pub number : n < 256

@@ -16,11 +16,11 @@ abbrev to-start : tie.Else1 → tie.Start
 to-start c = c .before .before .before .before .before .before .before
 
 -- What is lent fits.
-fitting : (c : tie.Else1) → lentFits (to-start c .args .spot) (length (to-start c .args .list .now)) (to-start c .args .start) (length (to-start c .args .coeff-map .now)) (to-start c .args .shift) (length (to-start c .args .log .now)) ≡ true
+fitting : (c : tie.Else1) → lentFits (to-start c .args .spot) (length (to-start c .args .list .now)) (to-start c .args .at) (length (to-start c .args .coeff-map .now)) (to-start c .args .shift) (length (to-start c .args .log .now)) ≡ true
 fitting c = sym (c .before .lent-fits .ensures) ∙ not-false (c .before .lent-fits .result) (c .if1 .left)
 
 small : (c : tie.Else1) → to-start c .args .spot .exponent ≤ 10
-small c = let a = to-start c .args in fits-ready (a .spot) (a .list .now) (a .start) 0 0 (length (a .coeff-map .now)) (a .shift) (length (a .log .now)) (fitting c) (omega arith) (omega arith) .exponent
+small c = let a = to-start c .args in fits-ready (a .spot) (a .list .now) (a .at) 0 0 (length (a .coeff-map .now)) (a .shift) (length (a .log .now)) (fitting c) (omega arith) (omega arith) .exponent
 
 -- The count is small enough.
 below : (c : tie.Else2) → to-start (c .before .before) .args .count ≤ 63 * 2 ^ (to-start (c .before .before) .args .spot .exponent)
@@ -39,7 +39,7 @@ walk-places-requires : tie.Need-walk-places-requires
 unfolding NUM-NONZERO FREQ
 walk-places-requires c κs =
     let a = to-start (c .before .before .before .before .before .before .before) .args in
-    (refl, refl, fits-ready (a .spot) (a .list .now) (a .start) (a .count) (c .before .before .to-usize .result) (length (a .coeff-map .now)) (a .shift) (length (a .log .now)) (fitting (c .before .before .before .before .before .before .before)) (below (c .before .before .before .before .before)) (c .before .before .to-usize .ensures .1))
+    (refl, refl, fits-ready (a .spot) (a .list .now) (a .at) (a .count) (c .before .before .to-usize .result) (length (a .coeff-map .now)) (a .shift) (length (a .log .now)) (fitting (c .before .before .before .before .before .before .before)) (below (c .before .before .before .before .before)) (c .before .before .to-usize .ensures .1))
 
 returns-3 : tie.Need-returns-3
 returns-3 c =

@@ -28,13 +28,13 @@ pub part-entry : (blockContext clusters : ℕ) → blockContext < clusters → b
 part-entry blockContext clusters h = omega arith
 
 -- predictions by cases, as the code has them
-pub predicted-top : (row : List ℕ) (x y : ℕ) → y ≡ 0 → (x ≡ 0 → ⊥) → getD row (x - 1) 0 ≡ predicted row x y
-predicted-top row zero y e f = absurd (f refl)
-predicted-top row (suc x) y e f = let z : suc x - 1 ≡ x = omega arith in rw (e, z)
+pub predicted-y0 : (row : List ℕ) (x y : ℕ) → y ≡ 0 → (x ≡ 0 → ⊥) → getD row (x - 1) 0 ≡ predicted row x y
+predicted-y0 row zero y e f = absurd (f refl)
+predicted-y0 row (suc x) y e f = let z : suc x - 1 ≡ x = omega arith in rw (e, z)
 
-pub predicted-left : (row : List ℕ) (x y : ℕ) → (y ≡ 0 → ⊥) → x ≡ 0 → getD row 0 0 ≡ predicted row x y
-predicted-left row x zero e f = absurd (e refl)
-predicted-left row x (suc y) e f = rw f
+pub predicted-x0 : (row : List ℕ) (x y : ℕ) → (y ≡ 0 → ⊥) → x ≡ 0 → getD row 0 0 ≡ predicted row x y
+predicted-x0 row x zero e f = absurd (e refl)
+predicted-x0 row x (suc y) e f = rw f
 
 pub predicted-both : (row : List ℕ) (x y : ℕ) → (y ≡ 0 → ⊥) → (x ≡ 0 → ⊥) → (getD row x 0 + getD row (x - 1) 0 + 1) / 2 ≡ predicted row x y
 predicted-both row x zero e f = absurd (e refl)

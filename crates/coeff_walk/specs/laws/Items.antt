@@ -40,8 +40,8 @@ itemAt v bw blockContext list = record {
 -- what is lent for one channel fits: a varblock of at most 2^10 blocks in a group of at most 32 × 32, at most 16 clusters,
 -- a whole preset map, a whole list, and a log with room for a count and its coefficients
 pub record ItemReady (v : Shape) (bw blockContext clusters presetMap list at shift log : ℕ) : Type 0 where
-  pub left : v .x < 32
-  pub top : v .y < 32
+  pub inX : v .x < 32
+  pub inY : v .y < 32
   pub exponent : v .exponent ≤ 10
   pub narrow : bw ≤ 32
   pub context : blockContext < clusters
@@ -118,7 +118,7 @@ module _ (v : Shape) (bw blockContext clusters : ℕ) (presetMap list row symbol
         let o = rest-length in
         let p = ready .room in
         let q = pow-pos (v .exponent) in
-        let x = ready .left in let y = ready .top in let w = ready .narrow in
+        let x = ready .inX in let y = ready .inY in let w = ready .narrow in
         rw (
           le-leb (8 * bw) 256 (omega arith),
           le-leb (8 * v .x) 256 (omega arith),

@@ -23,28 +23,28 @@ spotSmall spot shift =
     && leb shift 3
 
 -- limits, a list of at most 63 places for each block (two numbers a place), the 458 entries of the coefficients, and a log with room for a symbol of each place
-unfoldable pub lentFits : Spot → (list start coeffMap shift log : ℕ) → Bool
-lentFits spot list start coeffMap shift log =
+unfoldable pub lentFits : Spot → (list at coeffMap shift log : ℕ) → Bool
+lentFits spot list at coeffMap shift log =
     spotSmall spot shift
-    && leb start log
+    && leb at log
     && (leb (list / 2) (63 * 2 ^ (spot .exponent))
     && eqb coeffMap 458
-    && leb (list / 2) (log - start))
+    && leb (list / 2) (log - at))
 
 -- the reading behind a count, `firstPrev` if it is at most four for each block; nothing is read where what is lent does not fit
-abbrev pub placesRead : Spot → (list symbols : List ℕ) (start count : ℕ) → Bool → (coeffMap : List ℕ) (shift : ℕ) (log g : List ℕ) → Walked
-placesRead spot list symbols start count firstPrev coeffMap shift log g =
-    cond (lentFits spot (length list) start (length coeffMap) shift (length log))
+abbrev pub placesRead : Spot → (list symbols : List ℕ) (at count : ℕ) → Bool → (coeffMap : List ℕ) (shift : ℕ) (log g : List ℕ) → Walked
+placesRead spot list symbols at count firstPrev coeffMap shift log g =
+    cond (lentFits spot (length list) at (length coeffMap) shift (length log))
     (cond (leb count (63 * 2 ^ (spot .exponent)))
-    (walk shift (2 ^ (spot .exponent)) coeffMap (spotCells spot list) 0 (cond firstPrev 1 0) count (drop start symbols) start log g)
-    (stopped Count start log g))
-    (stopped (λ n. Length) start log g)
+    (walk shift (2 ^ (spot .exponent)) coeffMap (spotCells spot list) 0 (cond firstPrev 1 0) count (drop at symbols) at log g)
+    (stopped Count at log g))
+    (stopped (λ n. Length) at log g)
 
 -- the limits, each by itself
 pub record SpotLimits (spot : Spot) (shift : ℕ) : Type 0 where
   pub width : spot .width ≤ 256
-  pub left : spot .x ≤ 256
-  pub top : spot .y ≤ 256
+  pub inX : spot .x ≤ 256
+  pub inY : spot .y ≤ 256
   pub exponent : spot .exponent ≤ 10
   pub shifts : shift ≤ 3
 
@@ -56,27 +56,27 @@ small-limits spot shift e =
     let a = and-true _ _ (b .0) in
     record {
       width = leb-true (spot .width) 256 (a .0);
-      left = leb-true (spot .x) 256 (a .1);
-      top = leb-true (spot .y) 256 (b .1);
+      inX = leb-true (spot .x) 256 (a .1);
+      inY = leb-true (spot .y) 256 (b .1);
       exponent = leb-true (spot .exponent) 10 (c .1);
       shifts = leb-true shift 3 (d .1);
     }
 
-pub fits-ready : (spot : Spot) (list : List ℕ) (start count firstPrev coeffMap shift log : ℕ) → lentFits spot (length list) start coeffMap shift log ≡ true
-    → count ≤ 63 * 2 ^ (spot .exponent) → firstPrev ≤ 1 → WalkReady spot list start count firstPrev coeffMap shift log
+pub fits-ready : (spot : Spot) (list : List ℕ) (at count firstPrev coeffMap shift log : ℕ) → lentFits spot (length list) at coeffMap shift log ≡ true
+    → count ≤ 63 * 2 ^ (spot .exponent) → firstPrev ≤ 1 → WalkReady spot list at count firstPrev coeffMap shift log
 unfolding lentFits
-fits-ready spot list start count firstPrev coeffMap shift log e c f =
+fits-ready spot list at count firstPrev coeffMap shift log e c f =
     let l = and-true _ _ e in
     let k = and-true _ _ (l .1) in
     let j = and-true _ _ (k .0) in
     let i = and-true _ _ (l .0) in
     let v = small-limits spot shift (i .0) in
-    let a = leb-true start log (i .1) in
-    let b = leb-true (length list / 2) (log - start) (k .1) in
+    let a = leb-true at log (i .1) in
+    let b = leb-true (length list / 2) (log - at) (k .1) in
     record {
       width = v .width;
-      left = v .left;
-      top = v .top;
+      inX = v .inX;
+      inY = v .inY;
       exponent = v .exponent;
       counted = c;
       flagged = f;

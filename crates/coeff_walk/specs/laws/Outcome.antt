@@ -40,31 +40,31 @@ abbrev pub logOf : Walked → List ℕ
 logOf (done us at log g left) = log
 logOf (stopped why at log g) = log
 
-abbrev pub gridLeft : Walked → List ℕ
-gridLeft (done us at log g left) = g
-gridLeft (stopped why at log g) = g
+abbrev pub gridAfter : Walked → List ℕ
+gridAfter (done us at log g left) = g
+gridAfter (stopped why at log g) = g
 
 abbrev pub spotCells : Spot → List ℕ → List ℕ
 spotCells spot list = cellsOf (spot .turn) (spot .width) (spot .x) (spot .y) (paired list)
 
 -- what the walk over a list's places requires
-pub record WalkReady (spot : Spot) (list : List ℕ) (start count firstPrev coeffMap shift log : ℕ) : Type 0 where
+pub record WalkReady (spot : Spot) (list : List ℕ) (at count firstPrev coeffMap shift log : ℕ) : Type 0 where
   pub width : spot .width ≤ 256
-  pub left : spot .x ≤ 256
-  pub top : spot .y ≤ 256
+  pub inX : spot .x ≤ 256
+  pub inY : spot .y ≤ 256
   pub exponent : spot .exponent ≤ 10
   pub counted : count ≤ 63 * 2 ^ (spot .exponent)
   pub flagged : firstPrev ≤ 1
   pub fits : length list / 2 ≤ 63 * 2 ^ (spot .exponent)
   pub entries : coeffMap ≡ 458
   pub shifts : shift ≤ 3
-  pub room : start + length list / 2 ≤ log
+  pub room : at + length list / 2 ≤ log
 
 -- what it hands back of the reading w
 pub record WalkShown (r : WalkEnd) (log grid : List ℕ) (w : Walked) : Type 0 where
   pub answer : r ≡ answerOf w
   pub logged : log ≡ logOf w
-  pub cells : grid ≡ gridLeft w
+  pub cells : grid ≡ gridAfter w
 
 less-of : (u n : ℕ) → less u n ≡ lessOf u (suc n)
 less-of zero n = refl
@@ -164,8 +164,8 @@ module _ (shift blocks : ℕ) (coeffMap places symbols : List ℕ) (k prev left 
     walk-more n = walk-turn h l c s ∙ rw (flag-one (getD symbols at 0) n, less-one (getD symbols at 0) left n)
 
 -- from what is left to do to what the whole gives
-pub ends : (w v x : Walked) → w ≡ x → w ≡ v → WalkShown (answerOf x) (logOf x) (gridLeft x) v
-ends w v x e i = record { answer = ap answerOf (sym e ∙ i); logged = ap logOf (sym e ∙ i); cells = ap gridLeft (sym e ∙ i) }
+pub ends : (w v x : Walked) → w ≡ x → w ≡ v → WalkShown (answerOf x) (logOf x) (gridAfter x) v
+ends w v x e i = record { answer = ap answerOf (sym e ∙ i); logged = ap logOf (sym e ∙ i); cells = ap gridAfter (sym e ∙ i) }
 
 -- a symbol that is 0, and one that is not
 pub gain-none : (u : ℕ) → u ≡ 0 → (shift : ℕ) (g : List ℕ) (p : ℕ) → gain shift g p u ≡ g

@@ -1,4 +1,4 @@
--- The walk that passes zeros in runs, as its loop uses it: where it stands, one turn, and how it ends.
+-- The walk that skips zeros in runs, as its loop uses it: where it stands, one turn, and how it ends.
 use mathlib.Core.Path.{_≡_, refl, sym, _∙_}
 use mathlib.Core.List.{List}
 use Prim.Native.Nat.{ℕ, _+_, _*_, _-_, _/_, _^_, _<_, _≤_}
@@ -14,56 +14,56 @@ use Rattle.coeff_walk.specs.laws.PlaceLaws.{places-count}
 use Rattle.coeff_walk.specs.laws.Runs.{Zeros, ZerosReady, entry-at, entries-lent, entries-room, context-fits}
 
 -- the walk stands at place k, below `stop`, up to which there are places and symbols; what is left to do gives the whole
-pub record Sparse (spot : Spot) (list symbols : List ℕ) (start : ℕ) (coeffMap : List ℕ) (shift : ℕ) (log₀ grid₀ : List ℕ) (whole : Walked) (stop : ℕ) (log grid : List ℕ) (left prev k : ℕ) : Type 0 where
+pub record Sparse (spot : Spot) (list symbols : List ℕ) (at : ℕ) (coeffMap : List ℕ) (shift : ℕ) (log₀ grid₀ : List ℕ) (whole : Walked) (stop : ℕ) (log grid : List ℕ) (left prev k : ℕ) : Type 0 where
   pub below : k ≤ stop
   pub due : left ≤ 32 * 2 ^ (spot .exponent)
   pub flagged : prev ≤ 1
   pub logLong : length log ≡ length log₀
   pub gridLong : length grid ≡ length grid₀
   pub places : stop ≤ length list / 2
-  pub lent : stop ≤ length symbols - start
-  pub last : stop < length list / 2 → stop ≡ length symbols - start
-  pub same : walk shift (2 ^ (spot .exponent)) coeffMap (drop k (spotCells spot list)) k prev left (drop (start + k) symbols) (start + k) log grid ≡ whole
+  pub lent : stop ≤ length symbols - at
+  pub last : stop < length list / 2 → stop ≡ length symbols - at
+  pub same : walk shift (2 ^ (spot .exponent)) coeffMap (drop k (spotCells spot list)) k prev left (drop (at + k) symbols) (at + k) log grid ≡ whole
 
 -- what one turn needs
-pub record Turn (spot : Spot) (list symbols : List ℕ) (start coeffMap log left prev k : ℕ) : Type 0 where
+pub record Turn (spot : Spot) (list symbols : List ℕ) (at coeffMap log left prev k : ℕ) : Type 0 where
   pub due : 1 ≤ left
   pub counted : left - 1 < 32 * 2 ^ (spot .exponent)
   pub counts : left - 1 < 63 * 2 ^ (spot .exponent)
   pub placed : k < length list / 2
   pub place : k < length (spotCells spot list)
   pub few : k < 63 * 2 ^ (spot .exponent)
-  pub symbol : start + k < length symbols
-  pub room : start + k < log
+  pub symbol : at + k < length symbols
+  pub room : at + k < log
   pub context : coeffContext (2 ^ (spot .exponent)) (left - 1) k prev < 458
   pub entry : 2 * getD NUM-NONZERO ((left - 1) / 2 ^ (spot .exponent)) 0 ≤ coeffMap
 
-module _ {spot : Spot} {list symbols : List ℕ} {start : ℕ} {coeffMap : List ℕ} {shift : ℕ} {log₀ grid₀ : List ℕ} where
-  pub sparse-start : {count firstPrev : ℕ} → WalkReady spot list start count firstPrev (length coeffMap) shift (length log₀) → count ≤ 32 * 2 ^ (spot .exponent)
-      → (stop : ℕ) → stop ≤ length list / 2 → stop ≤ length symbols - start → (stop < length list / 2 → stop ≡ length symbols - start)
-      → Sparse spot list symbols start coeffMap shift log₀ grid₀ (walk shift (2 ^ (spot .exponent)) coeffMap (spotCells spot list) 0 firstPrev count (drop start symbols) start log₀ grid₀) stop log₀ grid₀ count firstPrev 0
+module _ {spot : Spot} {list symbols : List ℕ} {at : ℕ} {coeffMap : List ℕ} {shift : ℕ} {log₀ grid₀ : List ℕ} where
+  pub sparse-start : {count firstPrev : ℕ} → WalkReady spot list at count firstPrev (length coeffMap) shift (length log₀) → count ≤ 32 * 2 ^ (spot .exponent)
+      → (stop : ℕ) → stop ≤ length list / 2 → stop ≤ length symbols - at → (stop < length list / 2 → stop ≡ length symbols - at)
+      → Sparse spot list symbols at coeffMap shift log₀ grid₀ (walk shift (2 ^ (spot .exponent)) coeffMap (spotCells spot list) 0 firstPrev count (drop at symbols) at log₀ grid₀) stop log₀ grid₀ count firstPrev 0
   sparse-start r d stop p q l =
-      let z : start + 0 ≡ start = omega arith in
+      let z : at + 0 ≡ at = omega arith in
       record { below = omega arith; due = d; flagged = r .flagged; logLong = refl; gridLong = refl; places = p; lent = q; last = l; same = rw z }
 
-  module _ {whole : Walked} {stop : ℕ} {log grid : List ℕ} {left prev k : ℕ} (s : Sparse spot list symbols start coeffMap shift log₀ grid₀ whole stop log grid left prev k) where
-    pub sparse-used : left ≡ 0 → WalkShown (Done (start + k)) log grid whole
-    sparse-used e = ends _ _ _ (walk-used shift (2 ^ (spot .exponent)) coeffMap (spotCells spot list) symbols k prev left (start + k) log grid e) (s .same)
+  module _ {whole : Walked} {stop : ℕ} {log grid : List ℕ} {left prev k : ℕ} (s : Sparse spot list symbols at coeffMap shift log₀ grid₀ whole stop log grid left prev k) where
+    pub sparse-used : left ≡ 0 → WalkShown (Done (at + k)) log grid whole
+    sparse-used e = ends _ _ _ (walk-used shift (2 ^ (spot .exponent)) coeffMap (spotCells spot list) symbols k prev left (at + k) log grid e) (s .same)
 
-    pub sparse-done : length list / 2 ≤ k → WalkShown (Done (start + k)) log grid whole
+    pub sparse-done : length list / 2 ≤ k → WalkShown (Done (at + k)) log grid whole
     sparse-done h =
-        ends _ _ _ (walk-done shift (2 ^ (spot .exponent)) coeffMap (spotCells spot list) symbols k prev left (start + k) log grid (omega (arith, h, places-count (spot .turn) (spot .width) (spot .x) (spot .y) list))) (s .same)
+        ends _ _ _ (walk-done shift (2 ^ (spot .exponent)) coeffMap (spotCells spot list) symbols k prev left (at + k) log grid (omega (arith, h, places-count (spot .turn) (spot .width) (spot .x) (spot .y) list))) (s .same)
 
-    module _ {count firstPrev : ℕ} (r : WalkReady spot list start count firstPrev (length coeffMap) shift (length log₀)) where
-      pub sparse-ends : stop ≤ k → k < length list / 2 → (left ≡ 0 → ⊥) → WalkShown (Stopped (SymbolsEnd (start + k))) log grid whole
+    module _ {count firstPrev : ℕ} (r : WalkReady spot list at count firstPrev (length coeffMap) shift (length log₀)) where
+      pub sparse-ends : stop ≤ k → k < length list / 2 → (left ≡ 0 → ⊥) → WalkShown (Stopped (SymbolsEnd (at + k))) log grid whole
       sparse-ends e h n =
           let b = s .below in
           let d = s .due in
           let f = r .fits in
           let l = s .last (omega (arith, h, b)) in
-          ends _ _ _ (walk-15 shift (2 ^ (spot .exponent)) coeffMap (spotCells spot list) symbols k prev left (start + k) log grid (omega (arith, h, places-count (spot .turn) (spot .width) (spot .x) (spot .y) list)) (omega (arith, n)) (context-fits (spot .exponent) (left - 1) k prev (omega (arith, d, n)) (omega (arith, h, f)) (s .flagged)) (omega (arith, l, e))) (s .same)
+          ends _ _ _ (walk-15 shift (2 ^ (spot .exponent)) coeffMap (spotCells spot list) symbols k prev left (at + k) log grid (omega (arith, h, places-count (spot .turn) (spot .width) (spot .x) (spot .y) list)) (omega (arith, n)) (context-fits (spot .exponent) (left - 1) k prev (omega (arith, d, n)) (omega (arith, h, f)) (s .flagged)) (omega (arith, l, e))) (s .same)
 
-      pub turn : k < stop → (left ≡ 0 → ⊥) → Turn spot list symbols start (length coeffMap) (length log) left prev k
+      pub turn : k < stop → (left ≡ 0 → ⊥) → Turn spot list symbols at (length coeffMap) (length log) left prev k
       turn h n =
           let d = s .due in
           let p = s .places in
@@ -84,50 +84,50 @@ module _ {spot : Spot} {list symbols : List ℕ} {start : ℕ} {coeffMap : List 
             entry = omega (arith, entry-at (spot .exponent) (left - 1) b, r .entries);
           }
 
-      module _ (t : Turn spot list symbols start (length coeffMap) (length log) left prev k) {context : ℕ} (e : context ≡ coeffContext (2 ^ (spot .exponent)) (left - 1) k prev) where
+      module _ (t : Turn spot list symbols at (length coeffMap) (length log) left prev k) {context : ℕ} (e : context ≡ coeffContext (2 ^ (spot .exponent)) (left - 1) k prev) where
         -- the zeros behind a zero
         pub zeros-ready : {x : ℕ} → x ≡ 2 * getD NUM-NONZERO ((left - 1) / 2 ^ (spot .exponent)) 0 → k < stop
-            → ZerosReady (spot .exponent) (length symbols) start (k + 1) stop (length (take (length coeffMap - x) (drop x coeffMap))) (length (set log (start + k) (getD coeffMap context 0)))
+            → ZerosReady (spot .exponent) (length symbols) at (k + 1) stop (length (take (length coeffMap - x) (drop x coeffMap))) (length (set log (at + k) (getD coeffMap context 0)))
         zeros-ready {x} i h =
             record {
               small = r .exponent;
               begins = omega (arith, h);
               places = omega (arith, s .places, r .fits);
               lent = omega (arith, h, s .lent);
-              room = omega (arith, s .places, r .room, s .logLong, length-set log (start + k) (getD coeffMap context 0));
+              room = omega (arith, s .places, r .room, s .logLong, length-set log (at + k) (getD coeffMap context 0));
               enough = entries-room (spot .exponent) coeffMap left x i (t .counted) (r .entries);
             }
 
-        pub zero-again : {x next : ℕ} {log′ : List ℕ} → x ≡ 2 * getD NUM-NONZERO ((left - 1) / 2 ^ (spot .exponent)) 0 → getD symbols (start + k) 0 ≡ 0
-            → Zeros (spot .exponent) (take (length coeffMap - x) (drop x coeffMap)) symbols start (k + 1) stop (set log (start + k) (getD coeffMap context 0)) next log′
-            → Sparse spot list symbols start coeffMap shift log₀ grid₀ whole stop log′ grid left 0 next
+        pub zero-again : {x next : ℕ} {log′ : List ℕ} → x ≡ 2 * getD NUM-NONZERO ((left - 1) / 2 ^ (spot .exponent)) 0 → getD symbols (at + k) 0 ≡ 0
+            → Zeros (spot .exponent) (take (length coeffMap - x) (drop x coeffMap)) symbols at (k + 1) stop (set log (at + k) (getD coeffMap context 0)) next log′
+            → Sparse spot list symbols at coeffMap shift log₀ grid₀ whole stop log′ grid left 0 next
         zero-again {x} {next} {log′} i u z =
-            let a : start + (k + 1) ≡ start + k + 1 = omega arith in
+            let a : at + (k + 1) ≡ at + k + 1 = omega arith in
             record {
               below = z .upper;
               due = s .due;
               flagged = omega arith;
-              logLong = z .long ∙ length-set log (start + k) (getD coeffMap context 0) ∙ s .logLong;
+              logLong = z .long ∙ length-set log (at + k) (getD coeffMap context 0) ∙ s .logLong;
               gridLong = s .gridLong;
               places = s .places;
               lent = s .lent;
               last = s .last;
-              same = rw (a, e) at (z .passed shift coeffMap (spotCells spot list) left grid (t .due) (s .due) (entries-lent (spot .exponent) coeffMap left x i) (omega (arith, s .places, places-count (spot .turn) (spot .width) (spot .x) (spot .y) list)))
-                  ∙ sym (walk-zero shift (2 ^ (spot .exponent)) coeffMap (spotCells spot list) symbols k prev left (start + k) log grid (t .place) (t .due) (t .context) (t .symbol) u) ∙ s .same;
+              same = rw (a, e) at (z .skipped shift coeffMap (spotCells spot list) left grid (t .due) (s .due) (entries-lent (spot .exponent) coeffMap left x i) (omega (arith, s .places, places-count (spot .turn) (spot .width) (spot .x) (spot .y) list)))
+                  ∙ sym (walk-zero shift (2 ^ (spot .exponent)) coeffMap (spotCells spot list) symbols k prev left (at + k) log grid (t .place) (t .due) (t .context) (t .symbol) u) ∙ s .same;
             }
 
-        pub more-again : {grid′ : List ℕ} → k < stop → (getD symbols (start + k) 0 ≡ 0 → ⊥) → grid′ ≡ gain shift grid (getD (spotCells spot list) k 0) (getD symbols (start + k) 0)
-            → Sparse spot list symbols start coeffMap shift log₀ grid₀ whole stop (set log (start + k) (getD coeffMap context 0)) grid′ (left - 1) 1 (k + 1)
+        pub more-again : {grid′ : List ℕ} → k < stop → (getD symbols (at + k) 0 ≡ 0 → ⊥) → grid′ ≡ gain shift grid (getD (spotCells spot list) k 0) (getD symbols (at + k) 0)
+            → Sparse spot list symbols at coeffMap shift log₀ grid₀ whole stop (set log (at + k) (getD coeffMap context 0)) grid′ (left - 1) 1 (k + 1)
         more-again {grid′} h u g =
-            let a : start + (k + 1) ≡ start + k + 1 = omega arith in
+            let a : at + (k + 1) ≡ at + k + 1 = omega arith in
             record {
               below = omega (arith, h);
               due = omega (arith, t .counted);
               flagged = omega arith;
-              logLong = length-set log (start + k) (getD coeffMap context 0) ∙ s .logLong;
-              gridLong = rw g (length-gain shift grid (getD (spotCells spot list) k 0) (getD symbols (start + k) 0) ∙ s .gridLong);
+              logLong = length-set log (at + k) (getD coeffMap context 0) ∙ s .logLong;
+              gridLong = rw g (length-gain shift grid (getD (spotCells spot list) k 0) (getD symbols (at + k) 0) ∙ s .gridLong);
               places = s .places;
               lent = s .lent;
               last = s .last;
-              same = rw (a, e, g) (sym (walk-more shift (2 ^ (spot .exponent)) coeffMap (spotCells spot list) symbols k prev left (start + k) log grid (t .place) (t .due) (t .context) (t .symbol) u) ∙ s .same);
+              same = rw (a, e, g) (sym (walk-more shift (2 ^ (spot .exponent)) coeffMap (spotCells spot list) symbols k prev left (at + k) log grid (t .place) (t .due) (t .context) (t .symbol) u) ∙ s .same);
             }

@@ -12,7 +12,7 @@ use Rattle.context_call.proofs.by_lists.Statement.{statement}
 use Rattle.context_call.proofs.by_lists.Tie as tie
 
 -- Stages: from one to an earlier one.
-abbrev to-read-list3 : tie.After-lf1 → tie.After-read-list3
+abbrev to-read-list3 : tie.After-lf-thresholds1 → tie.After-read-list3
 to-read-list3 c = c .before .before .before .before .before .before
 
 bytes : (c : tie.After-read-list) → Bytes (c .before .before .before .args .bytes .now)

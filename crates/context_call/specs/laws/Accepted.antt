@@ -22,11 +22,11 @@ use Rattle.context_call.specs.laws.CallLaws.{judged-passed}
 
 -- four lists that keep to the limits of a record
 record Kept (l : Lists) : Type 0 where
-  few0 : length (l .lf0) ≤ 15
-  few1 : length (l .lf1) ≤ 15
-  few2 : length (l .lf2) ≤ 15
-  few3 : length (l .qf) ≤ 15
-  values : T (every qfFit (l .qf))
+  few0 : length (l .lfThresholds0) ≤ 15
+  few1 : length (l .lfThresholds1) ≤ 15
+  few2 : length (l .lfThresholds2) ≤ 15
+  few3 : length (l .qfThresholds) ≤ 15
+  values : T (every qfFit (l .qfThresholds))
 
 -- at most 15 values, each of which passes
 abbrev Few : (ℕ → Bool) → List ℕ → Type 0
@@ -58,12 +58,12 @@ stored-fit : (count : ℕ) (map : List ℕ) (l : Lists) → Kept l → bsizeOf (
     → 1 ≤ count → count ≤ 16 → bytesBelow count map ≡ true → fit (contextsOf count l map) ≡ true
 unfolding contextsOf
 stored-fit count map l k size e some few below =
-    let used : take (length (l .qf)) (pad 15 (l .qf)) ≡ l .qf = take-append-seam (l .qf) (replicate (15 - length (l .qf)) 0) in
+    let used : take (length (l .qfThresholds)) (pad 15 (l .qfThresholds)) ≡ l .qfThresholds = take-append-seam (l .qfThresholds) (replicate (15 - length (l .qfThresholds)) 0) in
     let bytes : take (39 * bsizeOf (lengthsOf l)) (pad 2496 map) ≡ map =
     ap (λ (n : ℕ). take n (pad 2496 map)) (sym e) ∙ take-append-seam map (replicate (2496 - length map) 0)
     in
-    fit-last count (lengthsOf l) (pad 15 (l .qf)) (pad 2496 map) (k .few0) (k .few1) (k .few2) (k .few3) size some few
-    (ap (every qfFit) used ∙ true-of (every qfFit (l .qf)) (k .values))
+    fit-last count (lengthsOf l) (pad 15 (l .qfThresholds)) (pad 2496 map) (k .few0) (k .few1) (k .few2) (k .few3) size some few
+    (ap (every qfFit) used ∙ true-of (every qfFit (l .qfThresholds)) (k .values))
     ∙ ap (bytesBelow count) bytes
     ∙ below
 

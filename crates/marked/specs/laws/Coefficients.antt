@@ -25,9 +25,9 @@ use Rattle.coeff_walk.specs.Item.{counted}
 use Rattle.refusal.specs.Answer.{gives, refuses}
 use Rattle.coeff_group.specs.Group.{Reading, going, readItem, readItems, zeroRows}
 use Rattle.coeff_group.specs.laws.GroupLaws.{group-items}
-use Rattle.coeff_group.specs.Pass.{Pass, varblocks, itemOf, itemsOf}
+use Rattle.coeff_group.specs.PassGroup.{PassGroup, varblocks, itemOf, itemsOf}
 use Rattle.coeff_checks.specs.Checks.{layoutFits, sidesFit}
-use Rattle.coeff_call.specs.Call.{Outcome, leaves, lengthsFit, presetMap, reading, outcomeOf, refuse, presetBits, call, Passed}
+use Rattle.coeff_call.specs.Call.{Outcome, leaves, allLengthsFit, presetMap, reading, outcomeOf, refuse, presetBits, call, Passed}
 use Rattle.coeff_call.specs.laws.CallLaws.{checks-pass, call-preset, call-reads}
 use Rattle.coeff_call.specs.declared.CoeffAnswer.the-variants.{Accepted}
 use Rattle.one_to_one.specs.Plain.{store, plain}
@@ -36,11 +36,11 @@ use Rattle.one_to_one.specs.laws.Plain.{store-long, store-fits, order-0, order-
 use Rattle.marked.specs.Coefficients.{Room, dct16, dct8, gains}
 
 -- one Dct8, default contexts, natural orders
-abbrev block : Pass
+abbrev block : PassGroup
 block = plain 1 1 (2 ∷ []) (1 ∷ [])
 
 -- one type 4 on 2 × 2 blocks, default contexts, natural orders, one preset
-abbrev square : Pass
+abbrev square : PassGroup
 square = plain 2 2 (6 ∷ 1 ∷ 1 ∷ 1 ∷ []) (1 ∷ 0 ∷ 0 ∷ 0 ∷ [])
 
 -- The checks before work.
@@ -62,7 +62,7 @@ defaults-fit = refl
 
 module _ (presets : ℕ) (few : presets ≤ 256) (map bytes symbols log g0 g1 g2 : List ℕ) (long : length map ≡ 7425 * presets) (room : 192 ≤ length log)
     (l0 : length g0 ≡ 64) (l1 : length g1 ≡ 64) (l2 : length g2 ≡ 64) where
-  dct8-lengths : lengthsFit (dct8 presets map bytes symbols log g0 g1 g2) ≡ true
+  dct8-lengths : allLengthsFit (dct8 presets map bytes symbols log g0 g1 g2) ≡ true
   unfolding contextsOf
   dct8-lengths =
       rw (
@@ -123,7 +123,7 @@ whole : (w : ℕ) (map : List ℕ) → length map ≡ w → take w (drop (w * 0)
 whole w map e = let z : w * 0 ≡ 0 = omega arith in rw z (take-all w map (omega arith))
 
 module _ (map log g0 g1 g2 : List ℕ) (room : Room 1 4 map log g0 g1 g2) where
-  dct16-lengths : (symbols : List ℕ) → lengthsFit (dct16 map symbols log g0 g1 g2) ≡ true
+  dct16-lengths : (symbols : List ℕ) → allLengthsFit (dct16 map symbols log g0 g1 g2) ≡ true
   unfolding contextsOf
   dct16-lengths symbols =
       rw (

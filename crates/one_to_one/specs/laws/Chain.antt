@@ -22,29 +22,29 @@ use Rattle.coeff_group.specs.Sequence.{theSequence}
 
 module _ (L : Lent) (given : Given L) where
   -- a group that an accepted cut call wrote is one that 18 lets pass, 1 to 32 blocks each way
-  passes : checkOf 32 (L .pass .bw) (L .pass .bh) (L .pass .kinds) (L .pass .hfMul) ≡ gives tt
+  passes : checkOf 32 (L .passGroup .bw) (L .passGroup .bh) (L .passGroup .kinds) (L .passGroup .hfMul) ≡ gives tt
   passes =
       let l = layoutOf (given .inputs) (given .kinds) (given .hfMul) (given .sigma) in
       let c = cut-checks (bwOf (given .inputs)) (bhOf (given .inputs)) (l .kinds) (l .hfMul) (given .index) (given .outKinds) (given .outHfMul)
-      (groupOf (L .pass .bw) (L .pass .bh)) (ap (λ o. o .answer) (given .cutting)) in
+      (groupOf (L .passGroup .bw) (L .passGroup .bh)) (ap (λ o. o .answer) (given .cutting)) in
       rw (given .cutting) at c
 
-  sides-in : Sided 32 (L .pass .bw) (L .pass .bh)
-  sides-in = checked 32 (L .pass .bw) (L .pass .bh) (L .pass .kinds) (L .pass .hfMul) passes .0
+  sides-in : Sided 32 (L .passGroup .bw) (L .passGroup .bh)
+  sides-in = checked 32 (L .passGroup .bw) (L .passGroup .bh) (L .passGroup .kinds) (L .passGroup .hfMul) passes .0
 
   pub fixed-by-calls : Fixed L
   fixed-by-calls = record {
-    sides = limits-in 32 (L .pass .bw) (L .pass .bh) sides-in;
-    layout = checked 32 (L .pass .bw) (L .pass .bh) (L .pass .kinds) (L .pass .hfMul) passes .1;
+    sides = limits-in 32 (L .passGroup .bw) (L .passGroup .bh) sides-in;
+    layout = checked 32 (L .passGroup .bw) (L .passGroup .bh) (L .passGroup .kinds) (L .passGroup .hfMul) passes .1;
     contexts = rw (given .record-is) (accepted-fit (given .contextBytes) (given .areBytes) (given .clusters) (given .contextMap) (given .bitsRead) (given .contexts));
     orders = given .wrote;
     rest = given .rest;
   }
 
   -- one sequence and only one, from the calls' answers
-  pub one-sequence-by-calls : (W : PerChannel) → Filling L W → Words (theSequence (L .pass) (L .grids) W) × ((s : List ℕ) → Words s → Fills L s W ↔ (s ≡ theSequence (L .pass) (L .grids) W))
+  pub one-sequence-by-calls : (W : PerChannel) → Filling L W → Words (theSequence (L .passGroup) (L .grids) W) × ((s : List ℕ) → Words s → Fills L s W ↔ (s ≡ theSequence (L .passGroup) (L .grids) W))
   one-sequence-by-calls W filling = one-sequence L fixed-by-calls W filling
 
   -- and every other sequence fails
-  pub every-other-by-calls : (W : PerChannel) → Filling L W → (s : List ℕ) → Words s → Fails L s W ↔ (s ≡ theSequence (L .pass) (L .grids) W → ⊥)
+  pub every-other-by-calls : (W : PerChannel) → Filling L W → (s : List ℕ) → Words s → Fails L s W ↔ (s ≡ theSequence (L .passGroup) (L .grids) W → ⊥)
   every-other-by-calls W filling = every-other L fixed-by-calls W filling

@@ -28,7 +28,7 @@ use Rattle.coeff_walk.specs.Walk.{walk, coeffContext, FREQ, NUM-NONZERO}
 use Rattle.coeff_walk.specs.Places.{cellsOf}
 use Rattle.coeff_walk.specs.Item.{counted}
 use Rattle.coeff_group.specs.Group.{PerChannel, readItem, readItems}
-use Rattle.coeff_group.specs.Pass.{itemOf, itemsOf}
+use Rattle.coeff_group.specs.PassGroup.{itemOf, itemsOf}
 use Rattle.one_to_one.specs.Filling.{isLow, wanted}
 use Rattle.coeff_group.specs.Sequence.{inCell, sent, theSequence}
 use Rattle.coeff_walk.specs.Sent.{nonZeros, upTo}

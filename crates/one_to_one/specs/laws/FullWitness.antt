@@ -24,7 +24,7 @@ use Rattle.order_call.specs.Call.{Wrote}
 use Rattle.context_record.specs.Record.{bsizeOf}
 use Rattle.context_thresholds.specs.Thresholds.{lfValue, qfValue, readValues, readList, readLists}
 use Rattle.context_call.specs.Call as context
-use Rattle.coeff_call.specs.Call.{lengthsFit, presetBits}
+use Rattle.coeff_call.specs.Call.{allLengthsFit, presetBits}
 use Rattle.refusal.specs.Answer.{gives}
 use Rattle.lent_check.specs.Group.{groupOf}
 use Rattle.lent_cut.specs.Calls.{outcome, cutOf}
@@ -81,7 +81,7 @@ cut-accepted : cutOf (bwOf columns) (bhOf columns) kinds hfMul 0 four four ≡ o
 unfolding cut-computes
 cut-accepted = cut-done (bwOf columns) (bhOf columns) kinds hfMul 0 four four refl
 
-lengths-fit : lengthsFit full ≡ true
+lengths-fit : allLengthsFit full ≡ true
 unfolding context.contextsOf
 lengths-fit = rw (eq-eqb (length store) (2 * PLACES) store-long)
 
@@ -146,7 +146,7 @@ lists-0 (suc (suc (suc c))) l = absurd (omega arith)
 order-4 : (c : ℕ) → c < 3 → stretch store 4 c ≡ flat (natural 16 8)
 order-4 c l = list-of 4 c (omega arith) l ∙ ap flat (lists-0 c l)
 
-pub sequence-is : theSequence (full .pass) (full .grids) changed ≡ 1 ∷ 6 ∷ 0 ∷ 1 ∷ 0 ∷ 14 ∷ 1 ∷ 0 ∷ 0 ∷ 3 ∷ 0 ∷ 0 ∷ 0 ∷ 1 ∷ 0 ∷ 2 ∷ 0 ∷ []
+pub sequence-is : theSequence (full .passGroup) (full .grids) changed ≡ 1 ∷ 6 ∷ 0 ∷ 1 ∷ 0 ∷ 14 ∷ 1 ∷ 0 ∷ 0 ∷ 3 ∷ 0 ∷ 0 ∷ 0 ∷ 1 ∷ 0 ∷ 2 ∷ 0 ∷ []
 unfolding sequence-computes
 sequence-is =
     rw (

@@ -27,7 +27,7 @@ use Rattle.order_call.specs.laws.Wrote.{listOf, wrote-order, wrote-stretch}
 use Rattle.coeff_walk.specs.laws.PlaceLaws.{length-places}
 use Rattle.coeff_walk.specs.Item.{Item}
 use Rattle.coeff_group.specs.Group.{PerChannel}
-use Rattle.coeff_group.specs.Pass.{Pass, varblocks, blocksOf, cellsIn, itemOf, itemsOf}
+use Rattle.coeff_group.specs.PassGroup.{PassGroup, varblocks, blocksOf, cellsIn, itemOf, itemsOf}
 use Rattle.dct_select.specs.laws.Sides.{order-lt}
 use Rattle.one_to_one.specs.Filling.{gridLength, ReadAt, LaidOut, Sized, Low, LowKept}
 use Rattle.coeff_group.specs.laws.Cells.{Distinct, distinct-both, distinct-map, Fit, In}
@@ -35,11 +35,11 @@ use Rattle.one_to_one.specs.laws.Spread.{Spread, spread-of, place-in, in
 use Rattle.coeff_group.specs.Sequence.{inCell, GridCell, readCells}
 
 -- each of the 39 stretches is an order of its size
-abbrev pub Ordered : Pass → Type 0
+abbrev pub Ordered : PassGroup → Type 0
 Ordered P = (k c : ℕ) → k < 13 → c < 3 → Order (widthOf k) (heightOf k) (paired (stretch (P .store) k c))
 
 -- so it is in a store that an accepted order call wrote
-pub wrote-ordered : (P : Pass) → Wrote (P .store) → Ordered P
+pub wrote-ordered : (P : PassGroup) → Wrote (P .store) → Ordered P
 wrote-ordered P w k c h l =
     let l₀ = listOf (P .store) w k c in
     rw (wrote-stretch (P .store) w k c h l, paired-flat l₀) (wrote-order (P .store) w k c h l)
@@ -65,7 +65,7 @@ unfolding readCells
 cells-in (t ∷ its) it p (here e) i = rw e (Memᴰ·append-left (readCells its) (Memᴰ·map (λ (q : ℕ). (t .channel, q)) (rw e at i)))
 cells-in (t ∷ its) it p (there j) i = Memᴰ·append-right (map (λ (q : ℕ). (t .channel, q)) (t .cells)) (cells-in its it p j i)
 
-module _ (P : Pass) where
+module _ (P : PassGroup) where
   -- what holds of each varblock's channels holds of the items
   pub each-item : (Q : Item → Type 0) (vs : List Varblock) → ((v : Varblock) → Among v vs → (n c : ℕ) → n < 3 → c < 3 → Q (itemOf P v n c)) → (it : Item) → In it (itemsOf P vs) → Q it
   unfolding itemsOf
@@ -94,7 +94,7 @@ module _ (P : Pass) where
   unfolding itemOf
   holds vs v c p i h k = let r = item-in vs v i c h in cells-in (itemsOf P vs) (itemOf P v (r .0) c) p (r .1) k
 
-module _ (P : Pass) (lay : LaidOut P) (ord : Ordered P) where
+module _ (P : PassGroup) (lay : LaidOut P) (ord : Ordered P) where
   abbrev K : ℕ → ℕ → ℕ
   K = blockAt (P .kinds) (P .bw)
 

@@ -9,7 +9,7 @@ use lib.ListN.{length, getD, set, length-set}
 use lib.Seq.{sets, set-out, getD-set-same, getD-set-other}
 use Rattle.layout.specs.laws.Theorems.{layout-iff}
 use Rattle.coeff_group.specs.Group.{PerChannel}
-use Rattle.coeff_group.specs.Pass.{Pass, varblocks, itemsOf}
+use Rattle.coeff_group.specs.PassGroup.{PassGroup, varblocks, itemsOf}
 use Rattle.coeff_call.specs.Call.{Lent, Outcome, outcomeOf, call}
 use Rattle.coeff_call.specs.laws.CallLaws.{lengths-fit}
 use Rattle.one_to_one.specs.Filling.{gridLength, put, ReadAt, LaidOut, Low, LowKept, Fixed, Filling}
@@ -22,11 +22,11 @@ use Rattle.coeff_group.specs.Sequence.{inCell, readCells}
 
 -- Whatever is lent, with orders as an accepted order call wrote them: no call, accepted or refused and of whatever shift, changes a
 -- low-frequency cell.
-module _ (L : Lent) (orders : Wrote (L .pass .store)) where
-  by-way : Way L → LowKept (L .pass) (L .grids) (call L .grids)
+module _ (L : Lent) (orders : Wrote (L .passGroup .store)) where
+  by-way : Way L → LowKept (L .passGroup) (L .grids) (call L .grids)
   by-way (before why t n e) c p hc l = ap (λ (o : Outcome). inCell (o .grids) c p) (e (L .symbols) (L .log) refl)
   by-way (work passed preset e) c p hc l =
-      let P = L .pass in
+      let P = L .passGroup in
       let k = lengths-fit L (passed .lengths) in
       let lay : LaidOut P = layout-iff (P .bw) (P .bh) (P .kinds) (P .hfMul) (k .kinds) (k .hfMul) .0 (passed .layout) in
       let d = did L preset in
@@ -34,26 +34,26 @@ module _ (L : Lent) (orders : Wrote (L .pass .store)) where
       ap (λ (o : Outcome). inCell (o .grids) c p) (e (L .symbols) (L .log) refl ∙ ap outcomeOf (d .is (L .log)) ∙ outcome-by (d .end) (length (d .clusters)) (sets (L .log) 0 (d .clusters)) G)
       ∙ adds-off (L .shift) (L .grids) (readCells (itemsOf P (varblocks P))) (joined (d .dss)) (c, p) (low-not-held P lay (wrote-ordered P orders) c p l)
 
-  pub low-kept : LowKept (L .pass) (L .grids) (call L .grids)
+  pub low-kept : LowKept (L .passGroup) (L .grids) (call L .grids)
   low-kept = by-way (way L)
 
 module _ (L : Lent) (fixed : Fixed L) where
-  abbrev P : Pass
-  P = L .pass
+  abbrev P : PassGroup
+  P = L .passGroup
 
   -- each cell of the group is low-frequency or a place, and never both
-  pub low-or-place : (c p : ℕ) → c < 3 → p < gridLength (L .pass) → (Low (L .pass) p × (ReadAt (L .pass) c p → ⊥)) ⊎ (ReadAt (L .pass) c p × (Low (L .pass) p → ⊥))
+  pub low-or-place : (c p : ℕ) → c < 3 → p < gridLength (L .passGroup) → (Low (L .passGroup) p × (ReadAt (L .passGroup) c p → ⊥)) ⊎ (ReadAt (L .passGroup) c p × (Low (L .passGroup) p → ⊥))
   low-or-place c p hc h = go (low-or-held P (fixed .layout) ordered c p hc h)
     where
       ordered : Ordered P
       ordered = wrote-ordered P (fixed .orders)
 
-      go : Low P p ⊎ ReadAt (L .pass) c p → (Low P p × (ReadAt (L .pass) c p → ⊥)) ⊎ (ReadAt (L .pass) c p × (Low P p → ⊥))
+      go : Low P p ⊎ ReadAt (L .passGroup) c p → (Low P p × (ReadAt (L .passGroup) c p → ⊥)) ⊎ (ReadAt (L .passGroup) c p × (Low P p → ⊥))
       go (inl l) = inl (l, low-not-held P (fixed .layout) ordered c p l)
       go (inr i) = inr (i, λ (l : Low P p). low-not-held P (fixed .layout) ordered c p l i)
 
   -- any 32-bit number may be asked for in any cell that is not low-frequency
-  pub others-free : (W : PerChannel) → Filling L W → (c p v : ℕ) → (Low (L .pass) p → ⊥) → v < 2 ^ 32 → Filling L (put W c p v)
+  pub others-free : (W : PerChannel) → Filling L W → (c p v : ℕ) → (Low (L .passGroup) p → ⊥) → v < 2 ^ 32 → Filling L (put W c p v)
   others-free W f c p v n h = go (decLt c (length W))
     where
       g : List ℕ

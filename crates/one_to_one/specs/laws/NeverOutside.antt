@@ -27,7 +27,7 @@ use Rattle.order_places.specs.Places.{Inside}
 use Rattle.order_places.specs.laws.Places.{fits-at}
 use Rattle.coeff_walk.specs.Item.{Item}
 use Rattle.coeff_group.specs.Group.{PerChannel, Reading, going, readItem, readItems, zeroRows}
-use Rattle.coeff_group.specs.Pass.{Pass, varblocks, blocksOf, blockEntryOf, cellsIn, itemOf, channelItems, itemsOf}
+use Rattle.coeff_group.specs.PassGroup.{PassGroup, varblocks, blocksOf, blockEntryOf, cellsIn, itemOf, channelItems, itemsOf}
 use Rattle.coeff_group.specs.Work.{clustersOf}
 use Rattle.dct_select.specs.laws.Sides.{order-lt}
 use Rattle.coeff_group.specs.laws.Stored.{stretch-long}
@@ -58,7 +58,7 @@ pair-inside w h zero (x ∷ y ∷ r) e f q (there i) = absurd (omega arith)
 pair-inside w h (suc n) (x ∷ y ∷ r) e f q (there i) =
     pair-inside w h n r (omega arith) (λ k b. let v : 2 * suc k ≡ suc (suc (2 * k)) = omega arith in let c : suc (suc (2 * k)) + 1 ≡ suc (suc (2 * k + 1)) = omega arith in rw (v, c) at (f (suc k) (omega arith))) q i
 
-module _ (P : Pass) (lay : LaidOut P) (narrow : P .bw ≤ 32) (contexts : fit (P .contexts) ≡ true) (whole : length (P .store) ≡ 2 * PLACES) (places : placesFit (P .store) ≡ true) where
+module _ (P : PassGroup) (lay : LaidOut P) (narrow : P .bw ≤ 32) (contexts : fit (P .contexts) ≡ true) (whole : length (P .store) ≡ 2 * PLACES) (places : placesFit (P .store) ≡ true) where
   module _ (v : Varblock) (i : Among v (varblocks P)) (c : ℕ) (hc : c < 3) where
     -- each place of any store that passes 13 is a cell of the grid
     cell-inside : (p : ℕ) → In p (cellsIn P v c) → p < 64 * blocks P
@@ -92,7 +92,7 @@ module _ (P : Pass) (lay : LaidOut P) (narrow : P .bw ≤ 32) (contexts : fit (P
   all-sound = each-item P (Sound 32 (64 * blocks P) (clustersOf P)) (varblocks P) (λ v i n c hn hc. sound v i c hc n hn)
 
 -- Entries of the map of block contexts: the lists as far as they are used are no longer than the record says.
-entry-inside : (P : Pass) (v : Varblock) → orderOf (v .type) < 13 → (n : ℕ) → n < 3 → blockEntryOf P v n < 39 * bsizeOf (P .contexts .lengths)
+entry-inside : (P : PassGroup) (v : Varblock) → orderOf (v .type) < 13 → (n : ℕ) → n < 3 → blockEntryOf P v n < 39 * bsizeOf (P .contexts .lengths)
 entry-inside P v o n h =
     let a = block-entry-lt (inUse (P .contexts)) n (orderOf (v .type)) (v .hfMul) (P .lfThere) (blockAt (P .lf0) (P .bw) (v .x) (v .y)) (blockAt (P .lf1) (P .bw) (v .x) (v .y)) (blockAt (P .lf2) (P .bw) (v .x) (v .y)) h o in
     omega (arith, in-use-size-le (P .contexts))
@@ -105,7 +105,7 @@ module _ (shift clusters : ℕ) (presetMap₀ : List ℕ) where
   parts [] ys r h = (tt, h)
   parts (x ∷ xs) ys r h = let k = parts xs ys (readItem shift clusters presetMap₀ x r) (h .1) in ((h .0, k .0), k .1)
 
-  by-group : (P : Pass) (vs : List Varblock) (r : Reading) → ((v : Varblock) → Among v vs → VarblockInside P v)
+  by-group : (P : PassGroup) (vs : List Varblock) (r : Reading) → ((v : Varblock) → Among v vs → VarblockInside P v)
       → ReadInside shift clusters presetMap₀ (itemsOf P vs) r → GroupInside shift clusters presetMap₀ P vs r
   unfolding itemsOf
   by-group P [] r f h = tt
@@ -126,8 +126,8 @@ some-there (a ∷ b ∷ []) n e h = absurd (omega arith)
 some-there (a ∷ b ∷ c ∷ G) n e h = omega arith
 
 module _ (L : Lent) (passed : Passed L) (preset : ℕ) (below : preset < L .presets) where
-  abbrev P : Pass
-  P = L .pass
+  abbrev P : PassGroup
+  P = L .passGroup
 
   lay : LaidOut P
   lay = let k = lengths-fit L (passed .lengths) in layout-iff (P .bw) (P .bh) (P .kinds) (P .hfMul) (k .kinds) (k .hfMul) .0 (passed .layout)

@@ -27,7 +27,7 @@ pub record Filled (r : Reading) (s : List ℕ) (W : PerChannel) : Type 0 where
   pub grids : outcomeOf r .grids ≡ W
 
 -- what is held fixed, and a filling: each cell is read at, or kept
-pub record Group (its : List Item) (G W : PerChannel) : Type 0 where
+pub record Fillable (its : List Item) (G W : PerChannel) : Type 0 where
   pub few : (it : Item) → In it its → length (it .cells) < 2 ^ 32
   pub sized : Sized its
   pub distinct : Distinct (readCells its)
@@ -97,17 +97,17 @@ none : (l : List ℕ) → length l ≡ 0 → l ≡ []
 none [] e = refl
 none (x ∷ l) e = absurd (omega arith)
 
-module _ (clusters : ℕ) (presetMap : List ℕ) (its : List Item) (G W : PerChannel) (group : Group its G W) (log : List ℕ) (rows : PerChannel) where
+module _ (clusters : ℕ) (presetMap : List ℕ) (its : List Item) (G W : PerChannel) (fillable : Fillable its G W) (log : List ℕ) (rows : PerChannel) where
   abbrev dss : List (List ℕ)
   dss = map (changes G W) its
 
   reached : adds 0 G (readCells its) (joined dss) ≡ W
   reached =
       let a = adds-shape 0 G (readCells its) (joined dss) in
-      same-shape (adds 0 G (readCells its) (joined dss)) W (record { count = a .count ∙ sym (group .shape .count); sizes = λ c. a .sizes c ∙ sym (group .shape .sizes c) }) (λ c p. go c p (group .kept c p))
+      same-shape (adds 0 G (readCells its) (joined dss)) W (record { count = a .count ∙ sym (fillable .shape .count); sizes = λ c. a .sizes c ∙ sym (fillable .shape .sizes c) }) (λ c p. go c p (fillable .kept c p))
     where
       go : (c p : ℕ) → In (c, p) (readCells its) ⊎ ((In (c, p) (readCells its) → ⊥) × (inCell W c p ≡ inCell G c p)) → inCell (adds 0 G (readCells its) (joined dss)) c p ≡ inCell W c p
-      go c p (inl i) = rw (changes-joined G W its) (symbols-turn G W (readCells its) (group .distinct) (group .fit) (λ x j. group .wanted (x .0) (x .1)) (c, p) i)
+      go c p (inl i) = rw (changes-joined G W its) (symbols-turn G W (readCells its) (fillable .distinct) (fillable .fit) (λ x j. fillable .wanted (x .0) (x .1)) (c, p) i)
       go c p (inr n) = adds-off 0 G (readCells its) (joined dss) (c, p) (n .0) ∙ sym (n .1)
 
   -- a reading to the last symbol reads as many as there are
@@ -125,7 +125,7 @@ module _ (clusters : ℕ) (presetMap : List ℕ) (its : List Item) (G W : PerCha
 
   pub exists : Filled (reading clusters presetMap its (sent dss) log G rows) (sent dss) W
   exists =
-      let r = run.read-sent clusters presetMap its dss (changes-long G W its) (group .sized) 0 0 log G rows 0 in
+      let r = run.read-sent clusters presetMap its dss (changes-long G W its) (fillable .sized) 0 0 log G rows 0 in
       record {
         accepted = ap (λ (x : Reading). outcomeOf x .answer) (r .is) ∙ ap gives (to-last (sent dss) (r .at′) (r .log′) (adds 0 G (readCells its) (joined dss)) (r .rows′) 0 (r .is));
         usedUp = ap leftOf (r .is);
@@ -143,7 +143,7 @@ module _ (clusters : ℕ) (presetMap : List ℕ) (its : List Item) (G W : PerCha
           let g : adds 0 G (readCells its) (joined ess) ≡ W = sym (ap (λ (x : Reading). outcomeOf x .grids) e) ∙ f .grids in
           let d : ess ≡ dss =
           joined-only its ess dss long (changes-long G W its)
-          (only-symbols G (readCells its) (joined ess) (group .distinct) (group .fit) (t .words h) (long-joined its ess long)
+          (only-symbols G (readCells its) (joined ess) (fillable .distinct) (fillable .fit) (t .words h) (long-joined its ess long)
           ∙ ap (λ (X : PerChannel). map (change G X) (readCells its)) g ∙ sym (changes-joined G W its)) in
           t .used (sym (ap leftOf e) ∙ f .usedUp) ∙ rw (none us (omega (arith, t .read)), d) (append-nil (sent dss))
       go k l ess (run.stops why) long e t =

@@ -15,7 +15,7 @@ use Rattle.coeff_walk.specs.Item.{Item}
 use Rattle.refusal.specs.Answer.{Answer, gives, refuses}
 use Rattle.coeff_group.specs.Group.{PerChannel, Reading, going, leftOf, zeroRows}
 use Rattle.coeff_group.specs.laws.GroupLaws.{group-items}
-use Rattle.coeff_group.specs.Pass.{Pass, varblocks, itemsOf}
+use Rattle.coeff_group.specs.PassGroup.{PassGroup, varblocks, itemsOf}
 use Rattle.coeff_group.specs.Work.{clustersOf}
 use Rattle.coeff_checks.specs.Checks.{parametersFit}
 use Rattle.coeff_call.specs.Call.{Lent, Outcome, presetMap, reading, outcomeOf, leftoverAt, leftover, call}
@@ -26,7 +26,7 @@ use Rattle.one_to_one.specs.laws.Items.{wrote-ordered, Ordered, item-siz
 use Rattle.one_to_one.specs.laws.OneToOne as over
 use Rattle.one_to_one.specs.laws.SymbolsRead.{never-more}
 
-pub shapes : (P : Pass) (G W : PerChannel) → Sized P G → Sized P W → Shape W G
+pub shapes : (P : PassGroup) (G W : PerChannel) → Sized P G → Sized P W → Shape W G
 shapes P G W g w = record { count = w .three ∙ sym (g .three); sizes = λ (c : ℕ). at c (decLt c 3) }
   where
     at : (c : ℕ) → Dec (c < 3) → length (getD W c []) ≡ length (getD G c [])
@@ -37,13 +37,13 @@ shapes P G W g w = record { count = w .three ∙ sym (g .three); sizes = λ (c :
         rw (List·getD-eq-default W [] {n = c} (omega arith), List·getD-eq-default G [] {n = c} (omega arith))
 
 module _ (L : Lent) (fixed : Fixed L) where
-  abbrev P : Pass
-  P = L .pass
+  abbrev P : PassGroup
+  P = L .passGroup
 
   abbrev items : List Item
-  items = itemsOf (L .pass) (varblocks (L .pass))
+  items = itemsOf (L .passGroup) (varblocks (L .passGroup))
 
-  pub start-sized : Sized (L .pass) (L .grids)
+  pub start-sized : Sized (L .passGroup) (L .grids)
   start-sized = record {
     three = fixed .rest .three;
     cells = λ c h. grids-fit L (fixed .rest .lengths) c h ∙ sym (mul-mul-mul-comm 8 (P .bh) 8 (P .bw));
@@ -65,8 +65,8 @@ module _ (L : Lent) (fixed : Fixed L) where
       parameters shift presets a b = rw (le-leb shift 3 a, le-leb presets 256 b)
 
   module _ (W : PerChannel) (filling : Filling L W) where
-    pub group : over.Group items (L .grids) W
-    group = record {
+    pub fillable : over.Fillable items (L .grids) W
+    fillable = record {
       few = λ it i. let z = item-size P (fixed .layout) ordered it i in let a = z .0 in let b = z .1 in omega arith;
       sized = λ it i. item-size P (fixed .layout) ordered it i .1;
       distinct = cells-apart P (fixed .layout) ordered;

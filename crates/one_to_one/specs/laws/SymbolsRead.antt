@@ -12,7 +12,7 @@ use Rattle.refusal.specs.Said.{said}
 use Rattle.refusal.specs.Said as refusals
 use Rattle.layout.specs.laws.Theorems.{layout-iff}
 use Rattle.refusal.specs.Answer.{Answer, refuses}
-use Rattle.coeff_group.specs.Pass.{varblocks, itemsOf}
+use Rattle.coeff_group.specs.PassGroup.{varblocks, itemsOf}
 use Rattle.coeff_checks.specs.Checks.{blocks}
 use Rattle.coeff_call.specs.Call.{Lent, Outcome, reading, outcomeOf, refuse, call, Passed}
 use Rattle.coeff_call.specs.laws.CallLaws.{lengths-fit}
@@ -28,7 +28,7 @@ use Rattle.coeff_group.specs.Sequence.{readCells}
 pub record Tied (L : Lent) : Type 0 where
   pub clusters : List ℕ
   pub each : length clusters ≡ symbolsRead (call L .answer)
-  pub most : length clusters ≤ 192 * blocks (L .pass)
+  pub most : length clusters ≤ 192 * blocks (L .passGroup)
   pub there : length clusters ≤ length (L .symbols)
   pub room : length clusters ≤ length (L .log)
   pub none : (n : ℕ) → call L .answer ≡ refuses (refusals.saidAt 15 n 0) → n ≡ length (L .symbols)
@@ -83,7 +83,7 @@ last-by (stops why) us k dss (tooManyZeros w h) n e =
 
 by-reading : (L : Lent) → Passed L → (preset : ℕ) → ((symbols log : List ℕ) → length log ≡ length (L .log) → call (relent L symbols log) ≡ outcomeOf (reading (relent L symbols log) preset)) → Tied L
 by-reading L passed preset e =
-    let P = L .pass in
+    let P = L .passGroup in
     let l = lengths-fit L (passed .lengths) in
     let d = did L preset in
     let ks = d .clusters in
@@ -117,7 +117,7 @@ module _ (L : Lent) where
   tied = by-way (way L)
 
   -- the number of symbols read is never above 192 × blocks
-  pub never-above : symbolsRead (call L .answer) ≤ 192 * blocks (L .pass)
+  pub never-above : symbolsRead (call L .answer) ≤ 192 * blocks (L .passGroup)
   never-above = let t = tied in let e = t .each in let m = t .most in omega arith
 
   -- nor above the symbols that there are

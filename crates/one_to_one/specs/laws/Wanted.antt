@@ -14,7 +14,7 @@ use Rattle.layout.specs.laws.Grid.{grid-length, grid-at, Cell, cell-at}
 use Rattle.layout.specs.Varblocks.{Varblock}
 use Rattle.layout.specs.Listed.{Among, first, later}
 use Rattle.coeff_group.specs.Group.{PerChannel}
-use Rattle.coeff_group.specs.Pass.{Pass, varblocks}
+use Rattle.coeff_group.specs.PassGroup.{PassGroup, varblocks}
 use Rattle.coeff_call.specs.Call.{Lent}
 use Rattle.one_to_one.specs.Filling.{gridLength, Low, LowKept, lowIn, lowInSome, isLow, Sized, Fixed, Filling, asked, gridWanted, wanted, Fills, Fails}
 use Rattle.coeff_group.specs.laws.Cells.{same-shape}
@@ -74,7 +74,7 @@ module _ (x y : ℕ) where
   some-in (u ∷ vs) v (first e) h = or-either (lowIn x y u) (lowInSome x y vs) (inl (one-in u (rw (← e) at h)))
   some-in (u ∷ vs) v (later i) h = or-either (lowIn x y u) (lowInSome x y vs) (inr (some-in vs v i h))
 
-module _ (P : Pass) (p : ℕ) where
+module _ (P : PassGroup) (p : ℕ) where
   pub is-low : isLow P p ≡ true → Low P p
   unfolding isLow
   is-low e =
@@ -88,8 +88,8 @@ module _ (P : Pass) (p : ℕ) where
 
 -- The grids wanted.
 module _ (L : Lent) (f : ℕ → ℕ → ℕ) where
-  abbrev P : Pass
-  P = L .pass
+  abbrev P : PassGroup
+  P = L .passGroup
 
   grid-long : (c : ℕ) → length (gridWanted L f c) ≡ gridLength P
   grid-long c = grid-length (λ (x y : ℕ). asked L f c (y * (8 * P .bw) + x)) (8 * P .bw) (8 * P .bh)
@@ -115,39 +115,39 @@ module _ (L : Lent) (f : ℕ → ℕ → ℕ) where
   cell-is c p hc h = rw (channel-is c hc) (grid-cell c p h)
 
 module _ (L : Lent) (fixed : Fixed L) (f : ℕ → ℕ → ℕ) (words : (c p : ℕ) → f c p < 2 ^ 32) where
-  sized : Sized (L .pass) (wanted L f)
+  sized : Sized (L .passGroup) (wanted L f)
   sized = record { three = three L f; cells = λ c h. ap length (channel-is L f c h) ∙ grid-long L f c }
 
-  outside : (W : PerChannel) → Sized (L .pass) W → (c p : ℕ) → c < 3 → (p < gridLength (L .pass) → ⊥) → inCell W c p ≡ 0
-  outside W s c p h n = let a : length (getD W c []) ≡ gridLength (L .pass) = s .cells c h in List·getD-eq-default (getD W c []) 0 (omega arith)
+  outside : (W : PerChannel) → Sized (L .passGroup) W → (c p : ℕ) → c < 3 → (p < gridLength (L .passGroup) → ⊥) → inCell W c p ≡ 0
+  outside W s c p h n = let a : length (getD W c []) ≡ gridLength (L .passGroup) = s .cells c h in List·getD-eq-default (getD W c []) 0 (omega arith)
 
   no-channel : (W : PerChannel) → length W ≡ 3 → (c p : ℕ) → (c < 3 → ⊥) → inCell W c p ≡ 0
   no-channel W e c p n = rw (List·getD-eq-default W [] {n = c} (omega arith))
 
   -- each cell that is not low-frequency holds what is asked for
-  pub wanted-there : (c p : ℕ) → c < 3 → p < gridLength (L .pass) → (Low (L .pass) p → ⊥) → inCell (wanted L f) c p ≡ f c p
-  wanted-there c p hc h n = cell-is L f c p hc h ∙ go (isLow (L .pass) p) refl
+  pub wanted-there : (c p : ℕ) → c < 3 → p < gridLength (L .passGroup) → (Low (L .passGroup) p → ⊥) → inCell (wanted L f) c p ≡ f c p
+  wanted-there c p hc h n = cell-is L f c p hc h ∙ go (isLow (L .passGroup) p) refl
     where
-      go : (b : Bool) → isLow (L .pass) p ≡ b → asked L f c p ≡ f c p
-      go true e = absurd (n (is-low (L .pass) p e))
+      go : (b : Bool) → isLow (L .passGroup) p ≡ b → asked L f c p ≡ f c p
+      go true e = absurd (n (is-low (L .passGroup) p e))
       go false e = rw e
 
-  low : LowKept (L .pass) (L .grids) (wanted L f)
-  low c p hc l = go (decLt p (gridLength (L .pass)))
+  low : LowKept (L .passGroup) (L .grids) (wanted L f)
+  low c p hc l = go (decLt p (gridLength (L .passGroup)))
     where
-      go : Dec (p < gridLength (L .pass)) → inCell (wanted L f) c p ≡ inCell (L .grids) c p
-      go (yes h) = cell-is L f c p hc h ∙ rw (low-is (L .pass) p l)
+      go : Dec (p < gridLength (L .passGroup)) → inCell (wanted L f) c p ≡ inCell (L .grids) c p
+      go (yes h) = cell-is L f c p hc h ∙ rw (low-is (L .passGroup) p l)
       go (no n) = outside (wanted L f) sized c p hc n ∙ sym (outside (L .grids) (start-sized L fixed) c p hc n)
 
   small : (c p : ℕ) → inCell (wanted L f) c p < 2 ^ 32
-  small c p = go (decLt c 3) (decLt p (gridLength (L .pass)))
+  small c p = go (decLt c 3) (decLt p (gridLength (L .passGroup)))
     where
-      by : (b : Bool) → isLow (L .pass) p ≡ b → asked L f c p < 2 ^ 32
+      by : (b : Bool) → isLow (L .passGroup) p ≡ b → asked L f c p < 2 ^ 32
       by true e = rw e (fixed .rest .words c p)
       by false e = rw e (words c p)
 
-      go : Dec (c < 3) → Dec (p < gridLength (L .pass)) → inCell (wanted L f) c p < 2 ^ 32
-      go (yes a) (yes b) = rw (cell-is L f c p a b) (by (isLow (L .pass) p) refl)
+      go : Dec (c < 3) → Dec (p < gridLength (L .passGroup)) → inCell (wanted L f) c p < 2 ^ 32
+      go (yes a) (yes b) = rw (cell-is L f c p a b) (by (isLow (L .passGroup) p) refl)
       go (yes a) (no n) = rw (outside (wanted L f) sized c p a n) (omega arith)
       go (no n) b = rw (no-channel (wanted L f) (three L f) c p n) (omega arith)
 
@@ -156,25 +156,25 @@ module _ (L : Lent) (fixed : Fixed L) (f : ℕ → ℕ → ℕ) (words : (c p : 
   wanted-filling = record { sized = sized; words = small; low = low }
 
   -- and no other filling holds these numbers
-  pub wanted-only : (W : PerChannel) → Filling L W → ((c p : ℕ) → c < 3 → p < gridLength (L .pass) → (Low (L .pass) p → ⊥) → inCell W c p ≡ f c p) → W ≡ wanted L f
+  pub wanted-only : (W : PerChannel) → Filling L W → ((c p : ℕ) → c < 3 → p < gridLength (L .passGroup) → (Low (L .passGroup) p → ⊥) → inCell W c p ≡ f c p) → W ≡ wanted L f
   wanted-only W filling g =
-      same-shape W (wanted L f) (shapes (L .pass) (wanted L f) W sized (filling .sized)) (λ (c : ℕ). λ (p : ℕ). at-cell c p (decLt c 3) (decLt p (gridLength (L .pass))))
+      same-shape W (wanted L f) (shapes (L .passGroup) (wanted L f) W sized (filling .sized)) (λ (c : ℕ). λ (p : ℕ). at-cell c p (decLt c 3) (decLt p (gridLength (L .passGroup))))
     where
-      by : (c p : ℕ) → c < 3 → p < gridLength (L .pass) → (b : Bool) → isLow (L .pass) p ≡ b → inCell W c p ≡ inCell (wanted L f) c p
-      by c p a h true e = let l = is-low (L .pass) p e in filling .low c p a l ∙ sym (low c p a l)
+      by : (c p : ℕ) → c < 3 → p < gridLength (L .passGroup) → (b : Bool) → isLow (L .passGroup) p ≡ b → inCell W c p ≡ inCell (wanted L f) c p
+      by c p a h true e = let l = is-low (L .passGroup) p e in filling .low c p a l ∙ sym (low c p a l)
       by c p a h false e =
-          let n : Low (L .pass) p → ⊥ = λ l. let x : _≡_ {A = Bool} false true = sym e ∙ low-is (L .pass) p l in let z : _≡_ {A = ℕ} 0 1 = cc in omega arith in
+          let n : Low (L .passGroup) p → ⊥ = λ l. let x : _≡_ {A = Bool} false true = sym e ∙ low-is (L .passGroup) p l in let z : _≡_ {A = ℕ} 0 1 = cc in omega arith in
           g c p a h n ∙ sym (wanted-there c p a h n)
 
-      at-cell : (c p : ℕ) → Dec (c < 3) → Dec (p < gridLength (L .pass)) → inCell W c p ≡ inCell (wanted L f) c p
-      at-cell c p (yes a) (yes h) = by c p a h (isLow (L .pass) p) refl
+      at-cell : (c p : ℕ) → Dec (c < 3) → Dec (p < gridLength (L .passGroup)) → inCell W c p ≡ inCell (wanted L f) c p
+      at-cell c p (yes a) (yes h) = by c p a h (isLow (L .passGroup) p) refl
       at-cell c p (yes a) (no n) = outside W (filling .sized) c p a n ∙ sym (outside (wanted L f) sized c p a n)
       at-cell c p (no n) h = no-channel W (filling .sized .three) c p n ∙ sym (no-channel (wanted L f) (three L f) c p n)
 
   -- Demand 3: whatever 32-bit numbers the cells that are not low-frequency are to hold, these 32-bit symbols fill them so, and no others do.
-  pub one-sequence-for-any : Words (theSequence (L .pass) (L .grids) (wanted L f)) × ((s : List ℕ) → Words s → Fills L s (wanted L f) ↔ (s ≡ theSequence (L .pass) (L .grids) (wanted L f)))
+  pub one-sequence-for-any : Words (theSequence (L .passGroup) (L .grids) (wanted L f)) × ((s : List ℕ) → Words s → Fills L s (wanted L f) ↔ (s ≡ theSequence (L .passGroup) (L .grids) (wanted L f)))
   one-sequence-for-any = one-sequence L fixed (wanted L f) wanted-filling
 
   -- every other sequence fails, and that one does not
-  pub every-other-for-any : (s : List ℕ) → Words s → Fails L s (wanted L f) ↔ (s ≡ theSequence (L .pass) (L .grids) (wanted L f) → ⊥)
+  pub every-other-for-any : (s : List ℕ) → Words s → Fails L s (wanted L f) ↔ (s ≡ theSequence (L .passGroup) (L .grids) (wanted L f) → ⊥)
   every-other-for-any = every-other L fixed (wanted L f) wanted-filling

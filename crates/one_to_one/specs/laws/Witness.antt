@@ -17,8 +17,8 @@ use Rattle.layout.specs.laws.Theorems.{layout-check}
 use Rattle.refusal.specs.Answer.{gives}
 use Rattle.coeff_group.specs.Group.{PerChannel, Reading, going, leftOf, readItems, zeroRows}
 use Rattle.coeff_group.specs.laws.GroupLaws.{group-items}
-use Rattle.coeff_group.specs.Pass.{varblocks, itemsOf}
-use Rattle.coeff_call.specs.Call.{Lent, Outcome, lengthsFit, presetBits, presetMap, reading, outcomeOf, leftoverAt, leftover, call}
+use Rattle.coeff_group.specs.PassGroup.{varblocks, itemsOf}
+use Rattle.coeff_call.specs.Call.{Lent, Outcome, allLengthsFit, presetBits, presetMap, reading, outcomeOf, leftoverAt, leftover, call}
 use Rattle.coeff_call.specs.laws.CallLaws.{checks-pass, call-reads}
 use Rattle.order_call.specs.laws.Wrote.{wrote-fits}
 use Rattle.lent_check.specs.Group.{groupOf}
@@ -44,7 +44,7 @@ layout-accepted : layoutOf columns (0 ∷ []) (0 ∷ []) (0 ∷ []) ≡ record {
 unfolding layout-computes
 layout-accepted = refl
 
-lengths-fit : lengthsFit one ≡ true
+lengths-fit : allLengthsFit one ≡ true
 unfolding contextsOf
 lengths-fit = rw (eq-eqb (length store) (2 * PLACES) store-long)
 
@@ -104,7 +104,7 @@ pub filling : Filling one wanted
 filling = subst (Filling one) wanted-is (wanted-filling one fixed (inCell wanted) (cells-below wanted tt))
 
 -- its symbols: 2 cells change in channel 1, none in channels 0 and 2
-pub sequence-is : theSequence (one .pass) (one .grids) wanted ≡ 2 ∷ 3 ∷ 0 ∷ 4 ∷ 0 ∷ 0 ∷ []
+pub sequence-is : theSequence (one .passGroup) (one .grids) wanted ≡ 2 ∷ 3 ∷ 0 ∷ 4 ∷ 0 ∷ 0 ∷ []
 unfolding sequence-computes
 sequence-is = rw (order-0 0 (omega arith), order-0 1 (omega arith), order-0 2 (omega arith))
 
@@ -116,7 +116,7 @@ filled = let o = one-sequence one fixed wanted filling in o .1 (2 ∷ 3 ∷ 0 �
 -- reading the group's items, whatever the stretch
 module _ (presetMap : List ℕ) where
   abbrev end : Reading
-  end = readItems 0 15 presetMap (itemsOf (one .pass) (varblocks (one .pass))) (going leaving 0 (one .log) (one .grids) zeroRows 0)
+  end = readItems 0 15 presetMap (itemsOf (one .passGroup) (varblocks (one .passGroup))) (going leaving 0 (one .log) (one .grids) zeroRows 0)
 
   end-is : (leftOf end ≡ 1) × (outcomeOf end .answer ≡ gives 66)
   unfolding reading-computes
@@ -127,12 +127,12 @@ L = withSymbols one leaving
 
 by-items : reading L 0 ≡ end (presetMap L 0)
 unfolding reading contextsOf
-by-items = group-items 0 15 (presetMap L 0) (one .pass) (varblocks (one .pass)) (going leaving 0 (one .log) (one .grids) zeroRows 0)
+by-items = group-items 0 15 (presetMap L 0) (one .passGroup) (varblocks (one .passGroup)) (going leaving 0 (one .log) (one .grids) zeroRows 0)
 
 -- all 66 symbols are read
 pub left-accepted : call (withSymbols one leaving) .answer ≡ gives 66
 left-accepted =
-    let P = one .pass in
+    let P = one .passGroup in
     ap (λ (o : Outcome). o .answer)
     (call-reads L (checks-pass L (record {
       sides = fixed .sides;

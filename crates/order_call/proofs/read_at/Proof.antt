@@ -8,8 +8,8 @@ use Rattle.order_call.proofs.read_at.Statement.{statement}
 use Rattle.order_call.proofs.read_at.Tie as tie
 
 -- where the list lies
-list : (c : tie.After-is-used) → let a = c .before .before .before .before .args in ListAt (a .used) (a .symbols .now) (a .store .now) (a .i) (a .at) (c .before .before .before .before .pre .0) (c .before .before .before .before .pre .2) (c .before .block-size .result) (c .before .block-size .ensures) (a .start) (c .before .before .before .before .pre .1)
-list c = let a = c .before .before .before .before .args in list-at (a .used) (a .symbols .now) (a .store .now) (a .i) (a .at) (c .before .before .before .before .pre .0) (c .before .before .before .before .pre .2) (c .before .block-size .result) (c .before .block-size .ensures) (a .start) (c .before .before .before .before .pre .1)
+list : (c : tie.After-is-used) → let a = c .before .before .before .before .args in ListAt (a .used) (a .symbols .now) (a .store .now) (a .i) (a .at) (c .before .before .before .before .pre .0) (c .before .before .before .before .pre .2) (c .before .block-size .result) (c .before .block-size .ensures) (a .first) (c .before .before .before .before .pre .1)
+list c = let a = c .before .before .before .before .args in list-at (a .used) (a .symbols .now) (a .store .now) (a .i) (a .at) (c .before .before .before .before .pre .0) (c .before .before .before .before .pre .2) (c .before .block-size .result) (c .before .block-size .ensures) (a .first) (c .before .before .before .before .pre .1)
 
 mul-next : tie.Need-mul-next
 mul-next c = omega (arith, list c .room, c .before .before .before .before .pre .0 .size)
@@ -35,8 +35,8 @@ returns c =
     let t = c .before .before .before .before .before .block-size in
     let u = c .before .before .before .before .is-used in
     let r = c .before .before .read-list in
-    let e = a .start + 2 * (t .result .width * t .result .height) in
-    after-list (a .used) (a .symbols .now) (a .store .now) (a .i) (a .at) (c .before .before .before .before .before .before .before .before .pre .0) (c .before .before .before .before .before .before .before .before .pre .2) (t .result) (t .ensures) (a .start) (c .before .before .before .before .before .before .before .before .pre .1) (u .result) (r .result) (r .last .0) (putMid (a .start) (e - a .start) (a .store .now) (r .last .0)) (u .ensures) (r .ensures) refl
+    let e = a .first + 2 * (t .result .width * t .result .height) in
+    after-list (a .used) (a .symbols .now) (a .store .now) (a .i) (a .at) (c .before .before .before .before .before .before .before .before .pre .0) (c .before .before .before .before .before .before .before .before .pre .2) (t .result) (t .ensures) (a .first) (c .before .before .before .before .before .before .before .before .pre .1) (u .result) (r .result) (r .last .0) (putMid (a .first) (e - a .first) (a .store .now) (r .last .0)) (u .ensures) (r .ensures) refl
 
 pub read-at-spec : {M : Type 1} → statement M
 read-at-spec =

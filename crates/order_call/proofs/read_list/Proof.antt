@@ -6,23 +6,23 @@ use Rattle.order_call.proofs.read_list.Statement.{statement}
 use Rattle.order_call.proofs.read_list.Tie as tie
 
 returns : tie.Need-returns
-returns c = let a = c .before .before .before .args in list-unused (a .width) (a .height) (a .symbols .now) (a .start) (a .used) (a .list .now) (not-true (a .used) (c .if1 .taken)) (c .before .before .before .pre .4)
+returns c = let a = c .before .before .before .args in list-unused (a .width) (a .height) (a .symbols .now) (a .at) (a .used) (a .list .now) (not-true (a .used) (c .if1 .taken)) (c .before .before .before .pre .4)
 
 returns-2 : tie.Need-returns-2
-returns-2 c = let a = c .before .before .before .before .args in list-short (a .width) (a .height) (a .symbols .now) (a .start) (a .used) (a .list .now) (not-false (a .used) (c .before .if1 .left)) (omega arith)
+returns-2 c = let a = c .before .before .before .before .args in list-short (a .width) (a .height) (a .symbols .now) (a .at) (a .used) (a .list .now) (not-false (a .used) (c .before .if1 .left)) (omega arith)
 
 returns-3 : tie.Need-returns-3
 returns-3 c =
     let a = c .before .before .before .before .before .before .before .args in
     let w = c .before .to-usize in
-    list-large (a .width) (a .height) (a .symbols .now) (a .start) (a .used) (not-false (a .used) (c .before .before .before .before .if1 .left)) (omega arith) (w .result) (w .ensures) (a .list .now) (omega arith)
+    list-large (a .width) (a .height) (a .symbols .now) (a .at) (a .used) (not-false (a .used) (c .before .before .before .before .if1 .left)) (omega arith) (w .result) (w .ensures) (a .list .now) (omega arith)
 
 returns-4 : tie.Need-returns-4
 returns-4 c =
     let a = c .before .before .before .before .before .before .before .before .before .before .before .args in
     let w = c .before .before .before .before .before .to-usize in
     let r = c .before .before .read-digits in
-    list-digits (a .width) (a .height) (a .symbols .now) (a .start) (a .used) (not-false (a .used) (c .before .before .before .before .before .before .before .before .if1 .left)) (omega arith) (w .result) (w .ensures) (r .result) (r .last .0) (omega arith) (r .ensures)
+    list-digits (a .width) (a .height) (a .symbols .now) (a .at) (a .used) (not-false (a .used) (c .before .before .before .before .before .before .before .before .if1 .left)) (omega arith) (w .result) (w .ensures) (r .result) (r .last .0) (omega arith) (r .ensures)
 
 pub read-list-spec : {M : Type 1} → statement M
 read-list-spec =

@@ -3,20 +3,20 @@ use native.Mathlib.Omega.{arith}
 use mathlib.Core.Path.{_≡_, _∙_, sym}
 use Prim.Native.Nat.{_-_}
 use lib.ListN.{length}
-use Rattle.order_store.specs.Store.{from}
-use Rattle.order_store.specs.laws.Offsets.{from-start}
+use Rattle.order_store.specs.Store.{firstOf}
+use Rattle.order_store.specs.laws.Offsets.{first-start}
 use Rattle.order_call.specs.laws.Progress.{Progress, progress-start, progress-end, after-read, after-refused}
 use Rattle.order_call.proofs.read_lists.Statement.{statement}
 use Rattle.order_call.proofs.read_lists.Tie as tie
 
 abbrev Inv-loop : tie.InvT-loop
-Inv-loop store₀ used symbols start₀ at₀ i₀ store start at i = Progress used symbols store i at × (start ≡ from i)
+Inv-loop store₀ used symbols first₀ at₀ i₀ store first at i = Progress used symbols store i at × (first ≡ firstOf i)
 
 abbrev μ-loop : tie.MeasureT-loop
-μ-loop store₀ used symbols start₀ at₀ i₀ store start at i = 39 - i
+μ-loop store₀ used symbols first₀ at₀ i₀ store first at i = 39 - i
 
 loop-holds : tie.Need-loop-holds Inv-loop μ-loop
-loop-holds c = let a = c .before .before .args in (progress-start (a .used) (a .symbols .now) (a .store .now) (c .before .before .pre .1), sym from-start)
+loop-holds c = let a = c .before .before .args in (progress-start (a .used) (a .symbols .now) (a .store .now) (c .before .before .pre .1), sym first-start)
 
 returns : tie.Need-returns Inv-loop μ-loop
 returns c =

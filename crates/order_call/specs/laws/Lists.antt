@@ -140,30 +140,30 @@ module _ (width height : ℕ) (z : Size width height) (narrow : width ≤ 256) (
         let p : m ≡ flat (ordered (0, 0) (width * height / 64) (natural width height) (take many us)) = em ∙ rw (el, many-by) (natural-permuted (take many us) a'') in
         rw (digits-all n (width * height - width * height / 64) us at (omega (arith, there')) a', e) (refl, p)
 
--- the ways out of a list that its length, at symbol start, decides
-module _ (width height : ℕ) (symbols : List ℕ) (start : ℕ) (used : Bool) where
+-- the ways out of a list that its length, the symbol behind `at`, decides
+module _ (width height : ℕ) (symbols : List ℕ) (at : ℕ) (used : Bool) where
   abbrev wholeList : FromSymbols (List Place)
-  wholeList = entryList used width height (drop start symbols) start
+  wholeList = entryList used width height (drop at symbols) at
 
-  pub list-unused : (m : List ℕ) → used ≡ false → m ≡ flat (natural width height) → Listed wholeList (answer.Accepted start) m
+  pub list-unused : (m : List ℕ) → used ≡ false → m ≡ flat (natural width height) → Listed wholeList (answer.Accepted at) m
   list-unused m u e = rw u (refl, e)
 
-  pub list-short : (m : List ℕ) → used ≡ true → length symbols ≤ start → Listed wholeList (answer.Refused (refusal.SymbolsEnd start)) m
+  pub list-short : (m : List ℕ) → used ≡ true → length symbols ≤ at → Listed wholeList (answer.Refused (refusal.SymbolsEnd at)) m
   unfolding oneList
   list-short m u h = rw (u, drop-of-length-le symbols h) refl
 
-  module _ (u : used ≡ true) (h : start < length symbols) (n : ℕ) (en : n ≡ getD symbols start 0) where
-    pub list-large : (m : List ℕ) → width * height - width * height / 64 < n → Listed wholeList (answer.Refused (refusal.Order (start + 1))) m
+  module _ (u : used ≡ true) (h : at < length symbols) (n : ℕ) (en : n ≡ getD symbols at 0) where
+    pub list-large : (m : List ℕ) → width * height - width * height / 64 < n → Listed wholeList (answer.Refused (refusal.Order (at + 1))) m
     unfolding oneList
     list-large m b =
-        let b' : width * height - width * height / 64 < getD symbols start 0 = rw en at b in
-        rw (u, drop-cons symbols start 0 h, lt-leb (getD symbols start 0) (width * height - width * height / 64) b') refl
+        let b' : width * height - width * height / 64 < getD symbols at 0 = rw en at b in
+        rw (u, drop-cons symbols at 0 h, lt-leb (getD symbols at 0) (width * height - width * height / 64) b') refl
 
-    by-digits : n ≤ width * height - width * height / 64 → entryList true width height (drop start symbols) start ≡ byDigits width height n (drop (start + 1) symbols) (start + 1)
+    by-digits : n ≤ width * height - width * height / 64 → entryList true width height (drop at symbols) at ≡ byDigits width height n (drop (at + 1) symbols) (at + 1)
     unfolding oneList
     by-digits b =
-        let b' : getD symbols start 0 ≤ width * height - width * height / 64 = rw en at b in
-        rw (drop-cons symbols start 0 h, le-leb (getD symbols start 0) (width * height - width * height / 64) b', en, add-one start)
+        let b' : getD symbols at 0 ≤ width * height - width * height / 64 = rw en at b in
+        rw (drop-cons symbols at 0 h, le-leb (getD symbols at 0) (width * height - width * height / 64) b', en, add-one at)
 
-    pub list-digits : (r : OrdersAnswer) (m : List ℕ) → n ≤ width * height - width * height / 64 → Listed (byDigits width height n (drop (start + 1) symbols) (start + 1)) r m → Listed wholeList r m
+    pub list-digits : (r : OrdersAnswer) (m : List ℕ) → n ≤ width * height - width * height / 64 → Listed (byDigits width height n (drop (at + 1) symbols) (at + 1)) r m → Listed wholeList r m
     list-digits r m b l = rw (u, by-digits b) l

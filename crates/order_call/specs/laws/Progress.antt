@@ -18,8 +18,8 @@ use Rattle.order_natural.specs.laws.Sizes.{size-of}
 use Rattle.order_natural.specs.laws.Turns.{flat-length, natural-numbers}
 use Rattle.order_natural.specs.laws.Listing.{listing-length}
 use Rattle.order_natural.specs.laws.Filling.{Sided, sided}
-use Rattle.order_store.specs.Store.{stored, PLACES, from}
-use Rattle.order_store.specs.laws.Offsets.{from-start, from-step, from-most, from-end, sizes-13, third, places-by}
+use Rattle.order_store.specs.Store.{stored, PLACES, firstOf}
+use Rattle.order_store.specs.laws.Offsets.{first-start, first-step, first-most, first-end, sizes-13, third, places-by}
 use Rattle.order_naturals.specs.Naturals.{naturals}
 use Rattle.order_naturals.specs.laws.Naturals.{whole-long}
 use Rattle.order_call.specs.declared.OrdersAnswer.{OrdersAnswer}
@@ -108,8 +108,8 @@ pub record Progress (used : ℕ) (symbols store : List ℕ) (i at : ℕ) : Type 
   pub fewer : i ≤ 39
   pub within : at ≤ length symbols
   pub size : length store ≡ 787968
-  pub behind : take (from i) store ≡ stored done
-  pub ahead : drop (from i) store ≡ stored (drop i (naturals BLOCK-SIZES))
+  pub behind : take (firstOf i) store ≡ stored done
+  pub ahead : drop (firstOf i) store ≡ stored (drop i (naturals BLOCK-SIZES))
   pub due : onward (drop i (plan used 0 BLOCK-SIZES)) done (drop at symbols) at ≡ orders used symbols
 
 pub progress-start : (used : ℕ) (symbols store : List ℕ) → store ≡ stored (naturals BLOCK-SIZES) → Progress used symbols store 0 0
@@ -119,8 +119,8 @@ progress-start used symbols store e =
       fewer = omega arith;
       within = omega arith;
       size = ap length e ∙ whole-long;
-      behind = rw from-start;
-      ahead = rw from-start e;
+      behind = rw first-start;
+      ahead = rw first-start e;
       due = onward-start used symbols;
     }
 
@@ -154,11 +154,11 @@ refused-of (Refused w) why f o = let e : why ≡ w = cc in rw e
 
 -- behind list i, which ends at place e of the store
 abbrev pub AfterList : ℕ → List ℕ → List ℕ → ℕ → ℕ → OrdersAnswer → Type 0
-AfterList used symbols store i e (answer.Accepted n) = Progress used symbols store (i + 1) n × (e ≡ from (i + 1))
+AfterList used symbols store i e (answer.Accepted n) = Progress used symbols store (i + 1) n × (e ≡ firstOf (i + 1))
 AfterList used symbols store i e (answer.Refused why) = orders used symbols ≡ Refused why
 
 module _ (used : ℕ) (symbols store : List ℕ) (i e : ℕ) where
-  pub after-read : (t : OrdersAnswer) → AfterList used symbols store i e t → isRefused t ≡ false → Progress used symbols store (i + 1) (countOf t) × (e ≡ from (i + 1))
+  pub after-read : (t : OrdersAnswer) → AfterList used symbols store i e t → isRefused t ≡ false → Progress used symbols store (i + 1) (countOf t) × (e ≡ firstOf (i + 1))
   after-read (answer.Accepted n) a r = a
   after-read (answer.Refused why) a r = absurd (let z : _≡_ {A = ℕ} 0 1 = cc in omega arith)
 
@@ -168,24 +168,24 @@ module _ (used : ℕ) (symbols store : List ℕ) (i e : ℕ) where
   after-refused (answer.Refused why) zeros n a r z m = let m' : n ≡ 2 * PLACES = m ∙ sym places-by in rw (a, z, m')
 
 -- a list in the code's numbers
-module _ (used : ℕ) (symbols store : List ℕ) (i at : ℕ) (p : Progress used symbols store i at) (h : i < 39) (s : OrderSize) (e : s ≡ blockSize (i / 3)) (start : ℕ) (b : start ≡ from i) where
+module _ (used : ℕ) (symbols store : List ℕ) (i at : ℕ) (p : Progress used symbols store i at) (h : i < 39) (s : OrderSize) (e : s ≡ blockSize (i / 3)) (first : ℕ) (b : first ≡ firstOf i) where
   pub record ListAt : Type 0 where
-    pub next : start + 2 * (s .width * s .height) ≡ from (i + 1)
-    pub room : start + 2 * (s .width * s .height) ≤ 787968
+    pub next : first + 2 * (s .width * s .height) ≡ firstOf (i + 1)
+    pub room : first + 2 * (s .width * s .height) ≤ 787968
     pub sides : Sided (i / 3) s
-    pub part : take (start + 2 * (s .width * s .height) - start) (drop start store) ≡ flat (natural (s .width) (s .height))
+    pub part : take (first + 2 * (s .width * s .height) - first) (drop first store) ≡ flat (natural (s .width) (s .height))
 
   pub list-at : ListAt
   list-at =
       let w = widthOf (i / 3) in
       let v = heightOf (i / 3) in
-      let n : start + 2 * (s .width * s .height) ≡ from (i + 1) = rw (e, b) (sym (from-step i h)) in
-      let z : start + 2 * (w * v) - start ≡ 2 * (w * v) = omega arith in
-      let q : take (2 * (w * v)) (drop (from i) store) ≡ flat (natural w v) =
+      let n : first + 2 * (s .width * s .height) ≡ firstOf (i + 1) = rw (e, b) (sym (first-step i h)) in
+      let z : first + 2 * (w * v) - first ≡ 2 * (w * v) = omega arith in
+      let q : take (2 * (w * v)) (drop (firstOf i) store) ≡ flat (natural w v) =
       ap (take (2 * (w * v))) (p .ahead ∙ ap stored (natural-at i h)) ∙ take-at (flat (natural w v)) (stored (drop (i + 1) (naturals BLOCK-SIZES))) (2 * (w * v)) (natural-numbers w v (size-of (i / 3) (omega arith))) in
       record {
         next = n;
-        room = omega (arith, from-most (i + 1) (omega arith));
+        room = omega (arith, first-most (i + 1) (omega arith));
         sides = sided (i / 3) s e (omega arith);
         part = rw (e, z, b) q;
       }
@@ -205,7 +205,7 @@ module _ (used : ℕ) (symbols store : List ℕ) (i at : ℕ) (p : Progress used
       (refused-of (listOf used symbols i at) why part o')
 
   progress-turn : (n : ℕ) (part next : List ℕ) → Reads (answer.Accepted n) part
-      → next ≡ take start store ++ (part ++ drop (start + 2 * (s .width * s .height) - start) (drop start store)) → Progress used symbols next (i + 1) n
+      → next ≡ take first store ++ (part ++ drop (first + 2 * (s .width * s .height) - first) (drop first store)) → Progress used symbols next (i + 1) n
   unfolding widthOf heightOf
   progress-turn n part next o w =
       let k = i / 3 in
@@ -219,15 +219,15 @@ module _ (used : ℕ) (symbols store : List ℕ) (i at : ℕ) (p : Progress used
       let ls = length-drop at symbols in
       let y : at + (n - at) ≡ n = omega (arith, rest .0) in
       let v : vs ≡ drop n symbols = rest .2 ∙ drop-drop (n - at) at symbols ∙ ap (λ (j : ℕ). drop j symbols) y in
-      let s₁ = from-step i h in
-      let m₁ = from-most i (p .fewer) in
-      let m₂ = from-most (i + 1) (omega arith) in
-      let z : start + m - start ≡ m = omega arith in
-      let a = take (from i) store in
-      let d = drop m (drop (from i) store) in
+      let s₁ = first-step i h in
+      let m₁ = first-most i (p .fewer) in
+      let m₂ = first-most (i + 1) (omega arith) in
+      let z : first + m - first ≡ m = omega arith in
+      let a = take (firstOf i) store in
+      let d = drop m (drop (firstOf i) store) in
       let w' : next ≡ (a ++ part) ++ d = w ∙ rw (e, z, b) (sym (append-assoc a part d)) in
-      let la : length a ≡ from i = length-take-le (from i) store (omega (arith, p .size)) in
-      let lb : length (a ++ part) ≡ from (i + 1) = length-append a part ∙ omega arith in
+      let la : length a ≡ firstOf i = length-take-le (firstOf i) store (omega (arith, p .size)) in
+      let lb : length (a ++ part) ≡ firstOf (i + 1) = length-append a part ∙ omega arith in
       let nl : length (flat (natural (widthOf k) (heightOf k))) ≡ m = natural-numbers (widthOf k) (heightOf k) (size-of k (omega arith)) in
       let q : d ≡ stored (drop (i + 1) (naturals BLOCK-SIZES)) =
       ap (drop m) (p .ahead ∙ ap stored (natural-at i h)) ∙ drop-at (flat (natural (widthOf k) (heightOf k))) (stored (drop (i + 1) (naturals BLOCK-SIZES))) m nl in
@@ -235,16 +235,16 @@ module _ (used : ℕ) (symbols store : List ℕ) (i at : ℕ) (p : Progress used
         done = p .done ++ (l ∷ []);
         fewer = omega arith;
         within = omega (arith, rest .1, p .within);
-        size = ap length w' ∙ length-append (a ++ part) d ∙ omega (arith, length-drop m (drop (from i) store), length-drop (from i) store, p .size);
-        behind = ap (take (from (i + 1))) w' ∙ take-at (a ++ part) d (from (i + 1)) lb
+        size = ap length w' ∙ length-append (a ++ part) d ∙ omega (arith, length-drop m (drop (firstOf i) store), length-drop (firstOf i) store, p .size);
+        behind = ap (take (firstOf (i + 1))) w' ∙ take-at (a ++ part) d (firstOf (i + 1)) lb
             ∙ ap₂ (λ (x y : List ℕ). x ++ y) (p .behind) (f ∙ sym (append-nil (flat l))) ∙ sym (stored-append (p .done) (l ∷ []));
-        ahead = ap (drop (from (i + 1))) w' ∙ drop-at (a ++ part) d (from (i + 1)) lb ∙ q;
+        ahead = ap (drop (firstOf (i + 1))) w' ∙ drop-at (a ++ part) d (firstOf (i + 1)) lb ∙ q;
         due = rw (← v) (sym (onward-step (entry (isUsed used k) (getD BLOCK-SIZES k (0, 0))) (drop (i + 1) (plan used 0 BLOCK-SIZES)) (p .done) us at l vs n g) ∙ due-now);
       }
 
   -- list i is read, or refused
   pub after-list : (u : Bool) (t : OrdersAnswer) (part next : List ℕ) → u ≡ isUsed used (i / 3) → Listed (entryList u (s .width) (s .height) (drop at symbols) at) t part
-      → next ≡ take start store ++ (part ++ drop (start + 2 * (s .width * s .height) - start) (drop start store)) → AfterList used symbols next i (start + 2 * (s .width * s .height)) t
+      → next ≡ take first store ++ (part ++ drop (first + 2 * (s .width * s .height) - first) (drop first store)) → AfterList used symbols next i (first + 2 * (s .width * s .height)) t
   after-list u (answer.Accepted n) part next eu o w = (progress-turn n part next (rw eu at o) w, list-at .next)
   after-list u (answer.Refused why) part next eu o w = progress-stop why part (rw eu at o)
 
@@ -253,5 +253,5 @@ progress-end used symbols store i at p h =
     let j : i ≡ 39 = omega (arith, p .fewer) in
     let z : drop i (plan used 0 BLOCK-SIZES) ≡ [] = let k : length (plan used 0 BLOCK-SIZES) ≤ i = omega (arith, plan-length used 0 BLOCK-SIZES, sizes-13) in drop-of-length-le (plan used 0 BLOCK-SIZES) k in
     let e : orders used symbols ≡ Given (p .done) (drop at symbols) at = sym (p .due) ∙ rw z (onward-end (p .done) (drop at symbols) at) in
-    let s : store ≡ stored (p .done) = sym (take-all (from 39) store (omega (arith, p .size, from-end))) ∙ ap (λ (k : ℕ). take (from k) store) (sym j) ∙ p .behind in
+    let s : store ≡ stored (p .done) = sym (take-all (firstOf 39) store (omega (arith, p .size, first-end))) ∙ ap (λ (k : ℕ). take (firstOf k) store) (sym j) ∙ p .behind in
     rw (e, ← s)

@@ -14,7 +14,7 @@ use Rattle.order_sizes.specs.BlockSizes.{BLOCK-SIZES, widthOf, heightOf}
 use Rattle.order_store.specs.laws.Offsets.{store-places}
 use Rattle.order_call.specs.Orders.{Given, plan, orders}
 use Rattle.order_natural.specs.laws.Turns.{flat-length}
-use Rattle.order_store.specs.Store.{stored, thrice, area, before, PLACES, stretch, insideAll, listsFit, placesFit}
+use Rattle.order_store.specs.Store.{stored, thrice, placesIn, before, PLACES, stretch, insideAll, listsFit, placesFit}
 use Rattle.order_natural.specs.laws.Listing.{listing-length, listing-inside}
 use Rattle.order_call.specs.laws.Read.{Each}
 use Rattle.order_call.specs.laws.Accepted.{orders-accepted}
@@ -26,7 +26,7 @@ Laid [] (l ∷ ls) = ⊥
 Laid (s ∷ ss) [] = ⊥
 Laid (s ∷ ss) (l ∷ ls) = Order (s .0) (s .1) l × Laid ss ls
 
-laid-flat : (s : Place) (l : List Place) → Order (s .0) (s .1) l → length (flat l) ≡ 2 * area s
+laid-flat : (s : Place) (l : List Place) → Order (s .0) (s .1) l → length (flat l) ≡ 2 * placesIn s
 laid-flat s l o = omega (arith, flat-length l, listing-length (s .0) (s .1) l (o .cells))
 
 laid-drop : (ss : List Place) (ls : List (List Place)) (i : ℕ) → Laid ss ls → i ≤ length ls → drop (2 * before ss i) (stored ls) ≡ stored (drop i ls)
@@ -36,7 +36,7 @@ laid-drop [] (l ∷ ls) i h k = absurd h
 laid-drop (s ∷ ss) [] i h k = absurd h
 laid-drop (s ∷ ss) (l ∷ ls) zero h k = refl
 laid-drop (s ∷ ss) (l ∷ ls) (suc i) h k =
-    let e : 2 * (area s + before ss i) ≡ length (flat l) + 2 * before ss i = omega (arith, laid-flat s l (h .0)) in
+    let e : 2 * (placesIn s + before ss i) ≡ length (flat l) + 2 * before ss i = omega (arith, laid-flat s l (h .0)) in
     rw e (drop-append-add (flat l) (stored ls) (2 * before ss i) ∙ laid-drop ss ls i (h .1) (le-of-suc-le-suc k))
 
 laid-length : (ss : List Place) (ls : List (List Place)) → Laid ss ls → length (stored ls) ≡ 2 * before ss (length ss)
@@ -57,7 +57,7 @@ laid-fits [] (l ∷ ls) h = absurd h
 laid-fits (s ∷ ss) [] h = absurd h
 laid-fits (s ∷ ss) (l ∷ ls) h =
     let n = laid-flat s l (h .0) in
-    rw (take-at (flat l) (stored ls) (2 * area s) n, drop-at (flat l) (stored ls) (2 * area s) n, inside-flat (s .0) (s .1) l (listing-inside (s .0) (s .1) l (h .0 .cells))) (laid-fits ss ls (h .1))
+    rw (take-at (flat l) (stored ls) (2 * placesIn s) n, drop-at (flat l) (stored ls) (2 * placesIn s) n, inside-flat (s .0) (s .1) l (listing-inside (s .0) (s .1) l (h .0 .cells))) (laid-fits ss ls (h .1))
 
 each-laid : (used k : ℕ) (ss : List Place) (ls : List (List Place)) → Each (plan used k ss) ls → Laid (thrice ss) ls
 each-laid used k [] [] h = tt

@@ -11,7 +11,7 @@ use Rattle.order_sizes.specs.laws.BlockSizes.{blockSize}
 use Rattle.order_natural.specs.Places.{flat}
 use Rattle.order_natural.specs.Natural.{natural}
 use Rattle.order_natural.specs.Order.{Size}
-use Rattle.order_natural.specs.laws.Sizes.{size-of, width-most, area-most}
+use Rattle.order_natural.specs.laws.Sizes.{size-of, width-most, places-most}
 use lib.Dec.{ltb, eqb}
 
 -- one of the 13 orders, and a list of just as many places
@@ -31,7 +31,7 @@ pub record Sided (order : ℕ) (s : OrderSize) : Type 0 where
 
 pub sided : (order : ℕ) (s : OrderSize) → s ≡ blockSize order → order < 13 → Sided order s
 sided order s e h =
-    record { width = rw e; height = rw e; size = rw e (size-of order h); narrow = rw e (width-most order h); small = rw e (area-most order h) }
+    record { width = rw e; height = rw e; size = rw e (size-of order h); narrow = rw e (width-most order h); small = rw e (places-most order h) }
 
 module _ (list : List ℕ) (order : ℕ) where
   pub no-order : 13 ≤ order → (false ≡ roomFor list order) × (list ≡ filled list order)

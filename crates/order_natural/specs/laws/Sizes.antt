@@ -48,9 +48,9 @@ pub width-most : (k : ℕ) → k < 13 → widthOf k ≤ 256
 unfolding widthOf
 width-most k h = let s = getD BLOCK-SIZES k (0, 0) in leb→le (s .0) 256 (and-l (leb (s .0) 256) (leb (s .0 * s .1) 65536) (small-at k h))
 
-pub area-most : (k : ℕ) → k < 13 → widthOf k * heightOf k ≤ 65536
+pub places-most : (k : ℕ) → k < 13 → widthOf k * heightOf k ≤ 65536
 unfolding widthOf heightOf
-area-most k h = let s = getD BLOCK-SIZES k (0, 0) in leb→le (s .0 * s .1) 65536 (and-r (leb (s .0) 256) (leb (s .0 * s .1) 65536) (small-at k h))
+places-most k h = let s = getD BLOCK-SIZES k (0, 0) in leb→le (s .0 * s .1) 65536 (and-r (leb (s .0) 256) (leb (s .0 * s .1) 65536) (small-at k h))
 
 -- the numbers of a size: s = width / height, k = height / 8, w = width / 8
 module _ (width height : ℕ) (z : Size width height) where

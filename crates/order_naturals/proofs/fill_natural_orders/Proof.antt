@@ -2,8 +2,8 @@ use Rattle.order_naturals.specs.Naturals.{naturals}
 use Rattle.order_naturals.specs.laws.Naturals.{part-length, fromOrder, order-start, order-at, order-laid, all-written, none-written}
 use borrow.Rule.Slice.PartMut.{putMid}
 use mathlib.Core.Path.{refl, _≡_, _∙_, sym}
-use Rattle.order_store.specs.Store.{from, stored}
-use Rattle.order_store.specs.laws.Offsets.{from-start}
+use Rattle.order_store.specs.Store.{firstOf, stored}
+use Rattle.order_store.specs.laws.Offsets.{first-start}
 use Rattle.order_sizes.specs.BlockSizes.{BLOCK-SIZES}
 use lib.Seq.{sets}
 use borrow.Author.Needs.{needs}
@@ -14,46 +14,46 @@ use Rattle.order_naturals.proofs.fill_natural_orders.Statement.{stateme
 use Rattle.order_naturals.proofs.fill_natural_orders.Tie as tie
 
 abbrev Inv-loop : tie.InvT-loop
-Inv-loop store₀ start₀ k₀ store start k =
+Inv-loop store₀ first₀ k₀ store first k =
     (k ≤ 13)
     × (length store ≡ 787968)
     × (length store₀ ≡ 787968)
-    × (start ≡ from (3 * k))
-    × (sets store start (fromOrder k) ≡ sets store₀ 0 (stored (naturals BLOCK-SIZES)))
+    × (first ≡ firstOf (3 * k))
+    × (sets store first (fromOrder k) ≡ sets store₀ 0 (stored (naturals BLOCK-SIZES)))
 
 abbrev μ-loop : tie.MeasureT-loop
-μ-loop store₀ start₀ k₀ store start k = 13 - k
+μ-loop store₀ first₀ k₀ store first k = 13 - k
 
 returns : tie.Need-returns Inv-loop μ-loop
 returns c = none-written (c .before .before .args .store .now) (c .if1 .taken)
 
 loop-holds : tie.Need-loop-holds Inv-loop μ-loop
-loop-holds c = (omega arith, c .if1 .left, c .if1 .left, sym from-start, rw order-start)
+loop-holds c = (omega arith, c .if1 .left, c .if1 .left, sym first-start, rw order-start)
 
 -- the three lists of an order end inside the store
-room : (c : tie.After-block-size Inv-loop μ-loop) → let s = c .block-size .result in (c .before .before .loop .start + 3 * (2 * (s .width * s .height)) ≤ 787968) × (length (c .before .before .loop .store) ≡ 787968)
-room c = let l = c .before .before .loop in (order-at (l .k) (omega arith) (c .block-size .result) (c .block-size .ensures) (l .start) (l .inv .3) .room, l .inv .1)
+room : (c : tie.After-block-size Inv-loop μ-loop) → let s = c .block-size .result in (c .before .before .loop .first + 3 * (2 * (s .width * s .height)) ≤ 787968) × (length (c .before .before .loop .store) ≡ 787968)
+room c = let l = c .before .before .loop in (order-at (l .k) (omega arith) (c .block-size .result) (c .block-size .ensures) (l .first) (l .inv .3) .room, l .inv .1)
 
 fill-order-requires : tie.Need-fill-order-requires Inv-loop μ-loop
 fill-order-requires c κs =
     let l = c .before .before .before .loop in
     let t = c .before .block-size in
-    let o = order-at (l .k) (omega arith) (t .result) (t .ensures) (l .start) (l .inv .3) in
-    (omega arith, o .size, part-length (l .store) (l .start) (3 * (2 * (t .result .width * t .result .height))) (omega (arith, o .room, l .inv .1)))
+    let o = order-at (l .k) (omega arith) (t .result) (t .ensures) (l .first) (l .inv .3) in
+    (omega arith, o .size, part-length (l .store) (l .first) (3 * (2 * (t .result .width * t .result .height))) (omega (arith, o .room, l .inv .1)))
 
 loop-again : tie.Need-loop-again Inv-loop μ-loop
 loop-again c =
     let l = c .before .before .before .before .before .before .loop in
     let t = c .before .before .before .before .block-size in
-    let o = order-at (l .k) (omega arith) (t .result) (t .ensures) (l .start) (l .inv .3) in
+    let o = order-at (l .k) (omega arith) (t .result) (t .ensures) (l .first) (l .inv .3) in
     let f = c .before .before .fill-order in
-    let e = l .start + 3 * (2 * (t .result .width * t .result .height)) in
-    (omega arith, search needs, l .inv .2, o .next, order-laid (l .k) (omega arith) (t .result) (t .ensures) (l .start) (l .inv .3) (l .store) (putMid (l .start) (e - l .start) (l .store) (f .last .0)) (f .last .0) (l .inv .1) (f .ensures) refl ∙ l .inv .4)
+    let e = l .first + 3 * (2 * (t .result .width * t .result .height)) in
+    (omega arith, search needs, l .inv .2, o .next, order-laid (l .k) (omega arith) (t .result) (t .ensures) (l .first) (l .inv .3) (l .store) (putMid (l .first) (e - l .first) (l .store) (f .last .0)) (f .last .0) (l .inv .1) (f .ensures) refl ∙ l .inv .4)
 
 returns-2 : tie.Need-returns-2 Inv-loop μ-loop
 returns-2 c =
     let l = c .before .loop in
-    all-written (l .store) (c .before .before .before .before .args .store .now) (l .k) (l .start) (omega arith) (l .inv .2) (l .inv .4)
+    all-written (l .store) (c .before .before .before .before .args .store .now) (l .k) (l .first) (omega arith) (l .inv .2) (l .inv .4)
 
 pub fill-natural-orders-spec : {M : Type 1} → statement M
 fill-natural-orders-spec =

@@ -19,8 +19,8 @@ use Rattle.order_natural.specs.Natural.{natural}
 use Rattle.order_natural.specs.laws.Sizes.{right, of-right, all-right, size-of}
 use Rattle.order_natural.specs.laws.Turns.{natural-numbers, sets-all, laid}
 use Rattle.order_natural.specs.laws.Filling.{filled, room-for}
-use Rattle.order_store.specs.Store.{PLACES, stored, thrice, before, from}
-use Rattle.order_store.specs.laws.Offsets.{from-step, from-most, from-channel, sizes-13, store-places, places-by}
+use Rattle.order_store.specs.Store.{PLACES, stored, thrice, before, firstOf}
+use Rattle.order_store.specs.laws.Offsets.{first-step, first-most, first-channel, sizes-13, store-places, places-by}
 use Rattle.order_naturals.specs.Naturals.{naturals}
 
 unfoldable pub wholeStore : List ℕ → Bool
@@ -100,41 +100,41 @@ order-end : (k : ℕ) → 13 ≤ k → fromOrder k ≡ []
 unfolding fromOrder
 order-end k h = let n : length BLOCK-SIZES ≤ k = omega (arith, sizes-13) in rw (drop-of-length-le BLOCK-SIZES n)
 
-module _ (k : ℕ) (h : k < 13) (s : OrderSize) (e : s ≡ blockSize k) (start : ℕ) (b : start ≡ from (3 * k)) where
+module _ (k : ℕ) (h : k < 13) (s : OrderSize) (e : s ≡ blockSize k) (first : ℕ) (b : first ≡ firstOf (3 * k)) where
   pub record OrderAt : Type 0 where
-    pub next : start + 3 * (2 * (s .width * s .height)) ≡ from (3 * (k + 1))
-    pub room : start + 3 * (2 * (s .width * s .height)) ≤ 787968
+    pub next : first + 3 * (2 * (s .width * s .height)) ≡ firstOf (3 * (k + 1))
+    pub room : first + 3 * (2 * (s .width * s .height)) ≤ 787968
     pub size : 2 * (s .width * s .height) ≡ 2 * (widthOf k * heightOf k)
 
   pub order-at : OrderAt
   order-at =
       let a : s .width * s .height ≡ widthOf k * heightOf k = rw e in
       let d : (3 * k + 2) / 3 ≡ k = omega arith in
-      let f = rw d at (from-step (3 * k + 2) (omega arith)) in
-      let c = from-channel k 2 h (omega arith) in
+      let f = rw d at (first-step (3 * k + 2) (omega arith)) in
+      let c = first-channel k 2 h (omega arith) in
       let n : 3 * k + 2 + 1 ≡ 3 * (k + 1) = omega arith in
-      let f' : from (3 * (k + 1)) ≡ from (3 * k + 2) + 2 * (widthOf k * heightOf k) = rw n at f in
-      record { next = omega arith; room = omega (arith, from-most (3 * (k + 1)) (omega arith)); size = omega arith }
+      let f' : firstOf (3 * (k + 1)) ≡ firstOf (3 * k + 2) + 2 * (widthOf k * heightOf k) = rw n at f in
+      record { next = omega arith; room = omega (arith, first-most (3 * (k + 1)) (omega arith)); size = omega arith }
 
   -- the three lists lie in the store, the rest is still to come
   pub order-laid : (st st' : List ℕ) (part : List ℕ) → length st ≡ 787968 → part ≡ threeOf k
-      → st' ≡ take start st ++ (part ++ drop (start + 3 * (2 * (s .width * s .height)) - start) (drop start st))
-      → sets st' (start + 3 * (2 * (s .width * s .height))) (fromOrder (k + 1)) ≡ sets st start (fromOrder k)
+      → st' ≡ take first st ++ (part ++ drop (first + 3 * (2 * (s .width * s .height)) - first) (drop first st))
+      → sets st' (first + 3 * (2 * (s .width * s .height))) (fromOrder (k + 1)) ≡ sets st first (fromOrder k)
   order-laid st st' part n p w =
       let m = 3 * (2 * (s .width * s .height)) in
       let o = order-at in
       let lp : length part ≡ m = ap length p ∙ three-long k h ∙ omega (arith, o .size) in
-      let z : start + m - start ≡ m = omega arith in
-      let j : start + m ≡ start + length part = omega arith in
-      let v : st' ≡ sets st start part = w ∙ rw (z, drop-drop m start st, j) (grouped st part) ∙ sym (sets-eq part st start (omega (arith, o .room))) in
-      laid st st' start (start + m) part (fromOrder (k + 1)) (fromOrder k) (order-turn k h ∙ rw p) (omega arith) v
+      let z : first + m - first ≡ m = omega arith in
+      let j : first + m ≡ first + length part = omega arith in
+      let v : st' ≡ sets st first part = w ∙ rw (z, drop-drop m first st, j) (grouped st part) ∙ sym (sets-eq part st first (omega (arith, o .room))) in
+      laid st st' first (first + m) part (fromOrder (k + 1)) (fromOrder k) (order-turn k h ∙ rw p) (omega arith) v
     where
-      grouped : (st part : List ℕ) → take start st ++ (part ++ drop (start + length part) st) ≡ take start st ++ part ++ drop (start + length part) st
-      grouped st part = sym (append-assoc (take start st) part (drop (start + length part) st))
+      grouped : (st part : List ℕ) → take first st ++ (part ++ drop (first + length part) st) ≡ take first st ++ part ++ drop (first + length part) st
+      grouped st part = sym (append-assoc (take first st) part (drop (first + length part) st))
 
-pub all-written : (st st₀ : List ℕ) (k start : ℕ) → 13 ≤ k → length st₀ ≡ 787968 → sets st start (fromOrder k) ≡ sets st₀ 0 (stored (naturals BLOCK-SIZES)) → (true ≡ wholeStore st₀) × (st ≡ naturalStore st₀)
+pub all-written : (st st₀ : List ℕ) (k first : ℕ) → 13 ≤ k → length st₀ ≡ 787968 → sets st first (fromOrder k) ≡ sets st₀ 0 (stored (naturals BLOCK-SIZES)) → (true ≡ wholeStore st₀) × (st ≡ naturalStore st₀)
 unfolding wholeStore naturalStore
-all-written st st₀ k start h n e =
+all-written st st₀ k first h n e =
     let f : st ≡ stored (naturals BLOCK-SIZES) = rw (order-end k h) at e ∙ sets-all st₀ (stored (naturals BLOCK-SIZES)) (whole-long ∙ sym n) in
     (rw (eq-eqb (length st₀) (2 * PLACES) (n ∙ sym places-by)), rw (eq-eqb (length st₀) (2 * PLACES) (n ∙ sym places-by)) f)
 

@@ -10,8 +10,8 @@ use lib.Seq.{length-take-le}
 use borrow.Author.Tests.{lt-ltb, eq-eqb, eqb-true, eqb-false, ltb-true}
 use Rattle.order_sizes.specs.BlockSizes.{widthOf, heightOf}
 use Rattle.order_natural.specs.laws.Bools.{and-left, and-right}
-use Rattle.order_store.specs.Store.{PLACES, stretch, insideAll, placesFit, from}
-use Rattle.order_store.specs.laws.Offsets.{from-step, from-most, places-by}
+use Rattle.order_store.specs.Store.{PLACES, stretch, insideAll, placesFit, firstOf}
+use Rattle.order_store.specs.laws.Offsets.{first-step, first-most, places-by}
 use Rattle.order_places.specs.laws.Checking.{fitFrom, fit-start, fit-next, fit-end}
 use Rattle.order_places.specs.Places.{Inside}
 
@@ -35,17 +35,17 @@ of-inside w h n (x ∷ y ∷ r) e f =
     rw (lt-ltb x w (a .0), lt-ltb y h (a .1)) (of-inside w h (length r / 2) r (omega arith) (λ i b. let v : 2 * suc i ≡ suc (suc (2 * i)) = omega arith in let c : suc (suc (2 * i)) + 1 ≡ suc (suc (2 * i + 1)) = omega arith in rw (v, c) at (f (suc i) (omega arith))))
 
 -- the list of an order and a channel of a whole store
-pub stretch-whole : (store : List ℕ) (k c : ℕ) → length store ≡ 2 * PLACES → k < 13 → c < 3 → stretch store k c ≡ take (2 * (widthOf k * heightOf k)) (drop (from (3 * k + c)) store)
-unfolding stretch from
+pub stretch-whole : (store : List ℕ) (k c : ℕ) → length store ≡ 2 * PLACES → k < 13 → c < 3 → stretch store k c ≡ take (2 * (widthOf k * heightOf k)) (drop (firstOf (3 * k + c)) store)
+unfolding stretch firstOf
 stretch-whole store k c n h l = rw (lt-ltb k 13 h, lt-ltb c 3 l, eq-eqb (length store) (2 * PLACES) n)
 
 module _ (store : List ℕ) (n : length store ≡ 2 * PLACES) where
   -- list i of 39
   abbrev listAt : ℕ → List ℕ
-  listAt i = take (2 * (widthOf (i / 3) * heightOf (i / 3))) (drop (from i) store)
+  listAt i = take (2 * (widthOf (i / 3) * heightOf (i / 3))) (drop (firstOf i) store)
 
   list-long : (i : ℕ) → i < 39 → length (listAt i) ≡ 2 * (widthOf (i / 3) * heightOf (i / 3))
-  list-long i h = length-take-le (2 * (widthOf (i / 3) * heightOf (i / 3))) (drop (from i) store) (omega (arith, length-drop (from i) store, from-step i h, from-most (i + 1) (omega arith), places-by))
+  list-long i h = length-take-le (2 * (widthOf (i / 3) * heightOf (i / 3))) (drop (firstOf i) store) (omega (arith, length-drop (firstOf i) store, first-step i h, first-most (i + 1) (omega arith), places-by))
 
   -- each list that passes, from list i on
   passes : (j i : ℕ) → i + j ≡ 39 → fitFrom store i ≡ true → (m : ℕ) → i ≤ m → m < 39 → insideAll (widthOf (m / 3)) (heightOf (m / 3)) (listAt m) ≡ true
@@ -72,7 +72,7 @@ module _ (store : List ℕ) (n : length store ≡ 2 * PLACES) where
   fits-at t k c h l =
       let m = 3 * k + c in
       let p = passes 39 0 (omega arith) (fit-start store (n ∙ places-by) ∙ t) m (omega arith) (omega arith) in
-      rw (stretch-whole store k c n h l) (inside-of (widthOf k) (heightOf k) (widthOf k * heightOf k) (take (2 * (widthOf k * heightOf k)) (drop (from m) store)) (rw (third-of k c l) at (list-long m (omega arith))) (rw (third-of k c l) at p))
+      rw (stretch-whole store k c n h l) (inside-of (widthOf k) (heightOf k) (widthOf k * heightOf k) (take (2 * (widthOf k * heightOf k)) (drop (firstOf m) store)) (rw (third-of k c l) at (list-long m (omega arith))) (rw (third-of k c l) at p))
 
   pub at-fits : ((k c : ℕ) → k < 13 → c < 3 → Inside (widthOf k) (heightOf k) (widthOf k * heightOf k) (stretch store k c)) → placesFit store ≡ true
   at-fits f =

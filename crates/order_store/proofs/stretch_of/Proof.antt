@@ -17,7 +17,7 @@ mul-first : tie.Need-mul-first
 mul-first c =
     let a = c .before .before .before .before .before .args in
     let t = c .before .numbers-of in
-    let o = c .start-of in
+    let o = c .first-of in
     let s = spot (a .order) (a .channel) (omega arith) (omega arith) (t .result) (t .ensures) (o .result) (o .ensures) in
     omega (arith, s .room)
 
@@ -25,7 +25,7 @@ add-first : tie.Need-add-first
 add-first c =
     let a = c .before .before .before .before .before .args in
     let t = c .before .numbers-of in
-    let o = c .start-of in
+    let o = c .first-of in
     let s = spot (a .order) (a .channel) (omega arith) (omega arith) (t .result) (t .ensures) (o .result) (o .ensures) in
     omega (arith, s .room)
 
@@ -33,7 +33,7 @@ returns-4 : tie.Need-returns-4
 returns-4 c =
     let a = c .before .before .before .before .before .args in
     let t = c .before .numbers-of in
-    let o = c .start-of in
+    let o = c .first-of in
     found (a .order) (a .channel) (omega arith) (omega arith) (t .result) (t .ensures) (o .result) (o .ensures) (a .numbers) (c .before .before .if3 .left)
 
 pub stretch-of-spec : {M : Type 1} → statement M

@@ -8,10 +8,10 @@ use lib.Dec.{eqb, eqb→eq}
 use lib.ListN.{length, getD}
 use Rattle.laws.specs.laws.Tables.{each-at}
 use Rattle.order_sizes.specs.BlockSizes.{BLOCK-SIZES, widthOf, heightOf}
-use Rattle.order_store.specs.Store.{PLACES, thrice, area, before, from}
+use Rattle.order_store.specs.Store.{PLACES, thrice, placesIn, before, firstOf}
 
 -- order k, channel c begins behind c lists of its own size
-pub before-by : (ss : List (ℕ × ℕ)) (k c : ℕ) → k < length ss → c < 3 → before (thrice ss) (3 * k + c) ≡ 3 * before ss k + c * area (getD ss k (0, 0))
+pub before-by : (ss : List (ℕ × ℕ)) (k c : ℕ) → k < length ss → c < 3 → before (thrice ss) (3 * k + c) ≡ 3 * before ss k + c * placesIn (getD ss k (0, 0))
 before-by [] k c h l = absurd (not-suc-le-zero h)
 before-by (s ∷ ss) zero zero h l = omega arith
 before-by (s ∷ ss) zero (suc zero) h l = omega arith
@@ -32,7 +32,7 @@ thrice-at (s ∷ ss) (suc k) c h l =
     let i : 3 * suc k + c ≡ suc (suc (suc (3 * k + c))) = omega arith in
     rw i (thrice-at ss k c (le-of-suc-le-suc h) l)
 
-before-step : (ss : List (ℕ × ℕ)) (i : ℕ) → i < length ss → before ss (i + 1) ≡ before ss i + area (getD ss i (0, 0))
+before-step : (ss : List (ℕ × ℕ)) (i : ℕ) → i < length ss → before ss (i + 1) ≡ before ss i + placesIn (getD ss i (0, 0))
 before-step [] i h = absurd (not-suc-le-zero h)
 before-step (s ∷ []) zero h = omega arith
 before-step (s ∷ t ∷ ss) zero h = omega arith
@@ -70,29 +70,29 @@ third i = omega arith
 pub list-size : (i : ℕ) → i < 39 → getD (thrice BLOCK-SIZES) i (0, 0) ≡ getD BLOCK-SIZES (i / 3) (0, 0)
 list-size i h = ap (λ (j : ℕ). getD (thrice BLOCK-SIZES) j (0, 0)) (sym (third i)) ∙ thrice-at BLOCK-SIZES (i / 3) (i % 3) (omega (arith, sizes-13)) (omega arith)
 
-pub from-step : (i : ℕ) → i < 39 → from (i + 1) ≡ from i + 2 * (widthOf (i / 3) * heightOf (i / 3))
-unfolding from widthOf heightOf
-from-step i h = omega (arith, before-step (thrice BLOCK-SIZES) i (omega (arith, lists-39)), ap area (list-size i h))
+pub first-step : (i : ℕ) → i < 39 → firstOf (i + 1) ≡ firstOf i + 2 * (widthOf (i / 3) * heightOf (i / 3))
+unfolding firstOf widthOf heightOf
+first-step i h = omega (arith, before-step (thrice BLOCK-SIZES) i (omega (arith, lists-39)), ap placesIn (list-size i h))
 
-pub from-most : (i : ℕ) → i ≤ 39 → from i ≤ 787968
-unfolding from
-from-most i h = omega (arith, before-most (thrice BLOCK-SIZES) i (omega (arith, lists-39)), store-places, places-by)
+pub first-most : (i : ℕ) → i ≤ 39 → firstOf i ≤ 787968
+unfolding firstOf
+first-most i h = omega (arith, before-most (thrice BLOCK-SIZES) i (omega (arith, lists-39)), store-places, places-by)
 
-pub from-end : from 39 ≡ 787968
-unfolding from
-from-end = ap (λ (n : ℕ). 2 * before (thrice BLOCK-SIZES) n) (sym lists-39) ∙ omega (arith, store-places, places-by)
+pub first-end : firstOf 39 ≡ 787968
+unfolding firstOf
+first-end = ap (λ (n : ℕ). 2 * before (thrice BLOCK-SIZES) n) (sym lists-39) ∙ omega (arith, store-places, places-by)
 
-pub from-start : from 0 ≡ 0
-unfolding from BLOCK-SIZES
-from-start = refl
+pub first-start : firstOf 0 ≡ 0
+unfolding firstOf BLOCK-SIZES
+first-start = refl
 
 -- order k, channel c: the list 3 k + c
-pub from-channel : (k c : ℕ) → k < 13 → c < 3 → from (3 * k + c) ≡ from (3 * k) + c * (2 * (widthOf k * heightOf k))
-unfolding from widthOf heightOf
-from-channel k c h l =
+pub first-channel : (k c : ℕ) → k < 13 → c < 3 → firstOf (3 * k + c) ≡ firstOf (3 * k) + c * (2 * (widthOf k * heightOf k))
+unfolding firstOf widthOf heightOf
+first-channel k c h l =
     let z : 3 * k + 0 ≡ 3 * k = omega arith in
     let b = rw z at (before-by BLOCK-SIZES k 0 (omega (arith, sizes-13)) (omega arith)) in
-    let e : c * (2 * area (getD BLOCK-SIZES k (0, 0))) ≡ 2 * (c * area (getD BLOCK-SIZES k (0, 0))) = twice c (area (getD BLOCK-SIZES k (0, 0))) in
+    let e : c * (2 * placesIn (getD BLOCK-SIZES k (0, 0))) ≡ 2 * (c * placesIn (getD BLOCK-SIZES k (0, 0))) = twice c (placesIn (getD BLOCK-SIZES k (0, 0))) in
     omega (arith, before-by BLOCK-SIZES k c (omega (arith, sizes-13)) l)
   where
     twice : (c n : ℕ) → c * (2 * n) ≡ 2 * (c * n)
@@ -100,15 +100,15 @@ from-channel k c h l =
     twice (suc c) n = let r = twice c n in omega arith
 
 -- the first number of each order's lists, and the numbers of one of them, as the code has them
-abbrev pub STARTS : List ℕ
-STARTS = 0 ∷ 384 ∷ 768 ∷ 2304 ∷ 8448 ∷ 9216 ∷ 10752 ∷ 13824 ∷ 38400 ∷ 50688 ∷ 148992 ∷ 198144 ∷ 591360 ∷ []
+abbrev pub FIRSTS : List ℕ
+FIRSTS = 0 ∷ 384 ∷ 768 ∷ 2304 ∷ 8448 ∷ 9216 ∷ 10752 ∷ 13824 ∷ 38400 ∷ 50688 ∷ 148992 ∷ 198144 ∷ 591360 ∷ []
 
 abbrev pub COUNTS : List ℕ
 COUNTS = 128 ∷ 128 ∷ 512 ∷ 2048 ∷ 256 ∷ 512 ∷ 1024 ∷ 8192 ∷ 4096 ∷ 32768 ∷ 16384 ∷ 131072 ∷ 65536 ∷ []
 
-pub start-at : (o k : ℕ) → k < 13 → o ≡ k → getD STARTS k 0 ≡ from (3 * o)
-unfolding from BLOCK-SIZES
-start-at o k h e = rw e (eqb→eq (getD STARTS k 0) (from (3 * k)) (each-at (λ (k : ℕ). eqb (getD STARTS k 0) (from (3 * k))) 13 0 tt k (omega arith) (omega arith)))
+pub first-at : (o k : ℕ) → k < 13 → o ≡ k → getD FIRSTS k 0 ≡ firstOf (3 * o)
+unfolding firstOf BLOCK-SIZES
+first-at o k h e = rw e (eqb→eq (getD FIRSTS k 0) (firstOf (3 * k)) (each-at (λ (k : ℕ). eqb (getD FIRSTS k 0) (firstOf (3 * k))) 13 0 tt k (omega arith) (omega arith)))
 
 pub count-at : (o k : ℕ) → k < 13 → o ≡ k → getD COUNTS k 0 ≡ 2 * (widthOf o * heightOf o)
 unfolding BLOCK-SIZES widthOf heightOf

@@ -3,7 +3,7 @@ use mathlib.Core.List.{[], _∷_}
 use native.Mathlib.Nat.{mul-le-mul}
 use lib.Arith.{digits-lt}
 use Rattle.coeff_group.specs.Group.{Reading}
-use Rattle.coeff_group.specs.Pass.{Pass, passWith}
+use Rattle.coeff_group.specs.PassGroup.{PassGroup, passGroup}
 use Rattle.coeff_group.specs.laws.Due.{Due, rowFrom, rowsFrom, wholeOf, due-start, due-row, due-next, due-skip, due-end, corner-asks, corner-stop, corner-step}
 use borrow.Author.Needs.{needs}
 use native.Mathlib.Omega.{arith}
@@ -14,7 +14,7 @@ use Rattle.coeff_call.proofs.group.read_group.Tie as tie
 
 abbrev Inv-loop2 : tie.InvT-loop2
 Inv-loop2 group kinds hf-mul lf-there lf0 lf1 lf2 store preset-map shift symbols log₀ g0₀ g1₀ g2₀ contexts bw bh clusters lengths rows₀ at₀ y x₀ log g0 g1 g2 rows at x =
-    let P = passWith group kinds hf-mul contexts lf-there lf0 lf1 lf2 store in
+    let P = passGroup group kinds hf-mul contexts lf-there lf0 lf1 lf2 store in
     (length log ≡ length log₀)
     × (length g0 ≡ length g0₀)
     × (length g1 ≡ length g1₀)
@@ -28,7 +28,7 @@ abbrev μ-loop2 : tie.MeasureT-loop2
 
 abbrev Inv-loop : tie.InvT-loop
 Inv-loop group kinds hf-mul lf-there lf0 lf1 lf2 store preset-map shift symbols log₀ g0₀ g1₀ g2₀ contexts bw bh clusters lengths rows₀ at₀ y₀ log g0 g1 g2 rows at y =
-    let P = passWith group kinds hf-mul contexts lf-there lf0 lf1 lf2 store in
+    let P = passGroup group kinds hf-mul contexts lf-there lf0 lf1 lf2 store in
     (length log ≡ length log₀)
     × (length g0 ≡ length g0₀)
     × (length g1 ≡ length g1₀)
@@ -59,15 +59,15 @@ less : (x n : ℕ) → x < n → n - (x + 1) < n - x
 less x n h = omega arith
 
 -- the group, and its whole reading
-abbrev passAt : tie.Start Inv-loop2 μ-loop2 Inv-loop μ-loop → Pass
-passAt c =
+abbrev passGroupAt : tie.Start Inv-loop2 μ-loop2 Inv-loop μ-loop → PassGroup
+passGroupAt c =
     let a = c .args in
-    passWith (a .group) (a .kinds .now) (a .hf-mul .now) (a .t4) (a .lf-there) (a .lf0 .now) (a .lf1 .now) (a .lf2 .now) (a .store .now)
+    passGroup (a .group) (a .kinds .now) (a .hf-mul .now) (a .t4) (a .lf-there) (a .lf0 .now) (a .lf1 .now) (a .lf2 .now) (a .store .now)
 
 abbrev wholeAt : tie.Start Inv-loop2 μ-loop2 Inv-loop μ-loop → Reading
 wholeAt c =
     let a = c .args in
-    wholeOf (a .shift) (a .t4 .«num_block_clusters») (a .preset-map .now) (passAt c) (a .symbols .now) (a .log .now) (a .g0 .now ∷ a .g1 .now ∷ a .g2 .now ∷ [])
+    wholeOf (a .shift) (a .t4 .«num_block_clusters») (a .preset-map .now) (passGroupAt c) (a .symbols .now) (a .log .now) (a .g0 .now ∷ a .g1 .now ∷ a .g2 .now ∷ [])
 
 -- rows above, and blocks of a row before
 few : (y w x : ℕ) → y < 32 → w ≤ 32 → x < 32 → y * w + x < 1024
@@ -87,12 +87,12 @@ due : (c : tie.Else1 Inv-loop2 μ-loop2 Inv-loop μ-loop) →
     let s = startOf c in
     let a = s .args in
     let l = blockOf c .loop2 in
-    Due (a .shift) (a .t4 .«num_block_clusters») (a .preset-map .now) (passAt s) (a .symbols .now) (192 * (a .group .bw * a .group .bh)) (wholeAt s) (rowFrom (passAt s) (l .x) (rowOf c .loop .y)) (l .at) (l .rows) (l .log) (l .g0 ∷ l .g1 ∷ l .g2 ∷ [])
+    Due (a .shift) (a .t4 .«num_block_clusters») (a .preset-map .now) (passGroupAt s) (a .symbols .now) (192 * (a .group .bw * a .group .bh)) (wholeAt s) (rowFrom (passGroupAt s) (l .x) (rowOf c .loop .y)) (l .at) (l .rows) (l .log) (l .g0 ∷ l .g1 ∷ l .g2 ∷ [])
 due c =
     let s = startOf c in
     let a = s .args in
     let o = rowOf c .loop in
-    blockOf c .loop2 .inv .5 (wholeAt s) (due-row (a .shift) (a .t4 .«num_block_clusters») (a .preset-map .now) (passAt s) (a .symbols .now) (192 * (a .group .bw * a .group .bh)) (wholeAt s) (o .at) (o .rows) (o .log) (o .g0 ∷ o .g1 ∷ o .g2 ∷ []) (o .y) (c .before .before .before .before .loop-test .taken) (o .inv .5))
+    blockOf c .loop2 .inv .5 (wholeAt s) (due-row (a .shift) (a .t4 .«num_block_clusters») (a .preset-map .now) (passGroupAt s) (a .symbols .now) (192 * (a .group .bw * a .group .bh)) (wholeAt s) (o .at) (o .rows) (o .log) (o .g0 ∷ o .g1 ∷ o .g2 ∷ []) (o .y) (c .before .before .before .before .loop-test .taken) (o .inv .5))
 
 lengths : (c : tie.Else1 Inv-loop2 μ-loop2 Inv-loop μ-loop) →
     let a = startOf c .args in
@@ -111,7 +111,7 @@ loop-holds : tie.Need-loop-holds Inv-loop2 μ-loop2 Inv-loop μ-loop
 loop-holds c =
     let s = to-start (to-shared-slice-known7 c) in
     let a = s .args in
-    (refl, refl, refl, refl, omega arith, due-start (a .shift) (a .t4 .«num_block_clusters») (a .preset-map .now) (passAt s) (a .symbols .now) (a .log .now) (a .g0 .now ∷ a .g1 .now ∷ a .g2 .now ∷ []) (s .pre .layout))
+    (refl, refl, refl, refl, omega arith, due-start (a .shift) (a .t4 .«num_block_clusters») (a .preset-map .now) (passGroupAt s) (a .symbols .now) (a .log .now) (a .g0 .now ∷ a .g1 .now ∷ a .g2 .now ∷ []) (s .pre .layout))
 
 mul-i : tie.Need-mul-i Inv-loop2 μ-loop2 Inv-loop μ-loop
 mul-i c =
@@ -137,7 +137,7 @@ loop2-again c =
     let a = s .args in
     let o = c .before .before .before .before .before .loop in
     let l = c .before .before .before .loop2 in
-    (l .inv .0, l .inv .1, l .inv .2, l .inv .3, omega (arith, c .before .before .loop2-test .taken), λ W d. due-skip (a .shift) (a .t4 .«num_block_clusters») (a .preset-map .now) (passAt s) (a .symbols .now) (192 * (a .group .bw * a .group .bh)) W (l .at) (l .rows) (l .log) (l .g0 ∷ l .g1 ∷ l .g2 ∷ []) (l .x) (o .y) (rowsFrom (passAt s) (o .y + 1)) (c .before .before .loop2-test .taken) (c .if1 .taken) (l .inv .5 W d))
+    (l .inv .0, l .inv .1, l .inv .2, l .inv .3, omega (arith, c .before .before .loop2-test .taken), λ W d. due-skip (a .shift) (a .t4 .«num_block_clusters») (a .preset-map .now) (passGroupAt s) (a .symbols .now) (192 * (a .group .bw * a .group .bh)) W (l .at) (l .rows) (l .log) (l .g0 ∷ l .g1 ∷ l .g2 ∷ []) (l .x) (o .y) (rowsFrom (passGroupAt s) (o .y + 1)) (c .before .before .loop2-test .taken) (c .if1 .taken) (l .inv .5 W d))
 
 mul-plan-of : tie.Need-mul-plan-of Inv-loop2 μ-loop2 Inv-loop μ-loop
 mul-plan-of c = let k = inside c in omega (arith, few (rowOf c .loop .y) (startOf c .args .group .bw) (blockOf c .loop2 .x) (k .1) (startOf c .pre .narrow) (k .0))
@@ -156,7 +156,7 @@ read-varblock-requires c κs =
     let o = rowOf e .loop in
     let l = blockOf e .loop2 in
     let p = c .before .before .before .before .before .plan-of in
-    corner-asks (a .shift) (a .t4 .«num_block_clusters») (a .preset-map .now) (passAt s) (a .symbols .now) (length (a .log .now)) (s .pre) (wholeAt s) (l .x) (o .y) (l .at) (l .rows) (l .log) (l .g0 ∷ l .g1 ∷ l .g2 ∷ []) (e .before .before .loop2-test .taken) (e .before .before .before .before .loop-test .taken) (e .if1 .left) (due e) (p .result) (p .ensures) (lengths e .0)
+    corner-asks (a .shift) (a .t4 .«num_block_clusters») (a .preset-map .now) (passGroupAt s) (a .symbols .now) (length (a .log .now)) (s .pre) (wholeAt s) (l .x) (o .y) (l .at) (l .rows) (l .log) (l .g0 ∷ l .g1 ∷ l .g2 ∷ []) (e .before .before .loop2-test .taken) (e .before .before .before .before .loop-test .taken) (e .if1 .left) (due e) (p .result) (p .ensures) (lengths e .0)
 
 same-length : tie.Need-same-length Inv-loop2 μ-loop2 Inv-loop μ-loop
 same-length c = c .before .before .before .before .before .before .before .before .before .log .given ∙ lengths (corner (c .before .before)) .0
@@ -180,7 +180,7 @@ returns c =
     let p = to-plan-of (c .before .before .before .before .before .before .before .before .before) .plan-of in
     let w = c .before .before .before .before .before .before .before .before .before .before .read-varblock in
     let z = w .last .1 .1 .1 .1 .1 .1 .1 .1 in
-    corner-stop (a .shift) (a .t4 .«num_block_clusters») (a .preset-map .now) (passAt s) (a .symbols .now) (length (a .log .now)) (s .pre) (wholeAt s) (l .x) (o .y) (l .at) (l .rows) (l .log) (l .g0 ∷ l .g1 ∷ l .g2 ∷ []) (e .before .before .loop2-test .taken) (e .before .before .before .before .loop-test .taken) (e .if1 .left) (due e) (p .result) (p .ensures) (w .result) (z .0) (z .1 .0) (z .1 .1 .0 ∷ z .1 .1 .1 .0 ∷ z .1 .1 .1 .1 .0 ∷ []) (w .ensures .1) (sym (c .before .is-stopped .ensures) ∙ c .if2 .taken)
+    corner-stop (a .shift) (a .t4 .«num_block_clusters») (a .preset-map .now) (passGroupAt s) (a .symbols .now) (length (a .log .now)) (s .pre) (wholeAt s) (l .x) (o .y) (l .at) (l .rows) (l .log) (l .g0 ∷ l .g1 ∷ l .g2 ∷ []) (e .before .before .loop2-test .taken) (e .before .before .before .before .loop-test .taken) (e .if1 .left) (due e) (p .result) (p .ensures) (w .result) (z .0) (z .1 .0) (z .1 .1 .0 ∷ z .1 .1 .1 .0 ∷ z .1 .1 .1 .1 .0 ∷ []) (w .ensures .1) (sym (c .before .is-stopped .ensures) ∙ c .if2 .taken)
 
 add-x-2 : tie.Need-add-x-2 Inv-loop2 μ-loop2 Inv-loop μ-loop
 add-x-2 c = omega (arith, inside (corner (c .before .before .before)) .0)
@@ -203,7 +203,7 @@ loop2-again-2 c =
       c .before .before .before .before .before .before .g1 .given ∙ l .inv .2,
       c .before .before .before .before .g2 .given ∙ l .inv .3,
       omega (arith, e .before .before .loop2-test .taken),
-      λ W d. corner-step (a .shift) (a .t4 .«num_block_clusters») (a .preset-map .now) (passAt s) (a .symbols .now) (length (a .log .now)) (s .pre) W (l .x) (o .y) (l .at) (l .rows) (l .log) (l .g0 ∷ l .g1 ∷ l .g2 ∷ []) (e .before .before .loop2-test .taken) (e .before .before .before .before .loop-test .taken) (e .if1 .left) (l .inv .5 W d) (p .result) (p .ensures) (w .result) (z .0) (z .1 .0) (z .1 .1 .0 ∷ z .1 .1 .1 .0 ∷ z .1 .1 .1 .1 .0 ∷ []) (w .ensures .1) (sym (c .before .before .is-stopped .ensures) ∙ c .before .if2 .left) (w .ensures .0) (c .read-by .result) (c .read-by .ensures),
+      λ W d. corner-step (a .shift) (a .t4 .«num_block_clusters») (a .preset-map .now) (passGroupAt s) (a .symbols .now) (length (a .log .now)) (s .pre) W (l .x) (o .y) (l .at) (l .rows) (l .log) (l .g0 ∷ l .g1 ∷ l .g2 ∷ []) (e .before .before .loop2-test .taken) (e .before .before .before .before .loop-test .taken) (e .if1 .left) (l .inv .5 W d) (p .result) (p .ensures) (w .result) (z .0) (z .1 .0) (z .1 .1 .0 ∷ z .1 .1 .1 .0 ∷ z .1 .1 .1 .1 .0 ∷ []) (w .ensures .1) (sym (c .before .before .is-stopped .ensures) ∙ c .before .if2 .left) (w .ensures .0) (c .read-by .result) (c .read-by .ensures),
     )
 
 loop-less : tie.Need-loop-less Inv-loop2 μ-loop2 Inv-loop μ-loop
@@ -220,7 +220,7 @@ loop-again c =
       l .inv .2 ∙ o .inv .2,
       l .inv .3 ∙ o .inv .3,
       omega (arith, c .before .before .loop-test .taken),
-      due-next (a .shift) (a .t4 .«num_block_clusters») (a .preset-map .now) (passAt s) (a .symbols .now) (192 * (a .group .bw * a .group .bh)) (wholeAt s) (l .at) (l .rows) (l .log) (l .g0 ∷ l .g1 ∷ l .g2 ∷ []) (l .x) (o .y) (c .loop2-test .left) (l .inv .5 (wholeAt s) (due-row (a .shift) (a .t4 .«num_block_clusters») (a .preset-map .now) (passAt s) (a .symbols .now) (192 * (a .group .bw * a .group .bh)) (wholeAt s) (o .at) (o .rows) (o .log) (o .g0 ∷ o .g1 ∷ o .g2 ∷ []) (o .y) (c .before .before .loop-test .taken) (o .inv .5))),
+      due-next (a .shift) (a .t4 .«num_block_clusters») (a .preset-map .now) (passGroupAt s) (a .symbols .now) (192 * (a .group .bw * a .group .bh)) (wholeAt s) (l .at) (l .rows) (l .log) (l .g0 ∷ l .g1 ∷ l .g2 ∷ []) (l .x) (o .y) (c .loop2-test .left) (l .inv .5 (wholeAt s) (due-row (a .shift) (a .t4 .«num_block_clusters») (a .preset-map .now) (passGroupAt s) (a .symbols .now) (192 * (a .group .bw * a .group .bh)) (wholeAt s) (o .at) (o .rows) (o .log) (o .g0 ∷ o .g1 ∷ o .g2 ∷ []) (o .y) (c .before .before .loop-test .taken) (o .inv .5))),
     )
 
 returns-2 : tie.Need-returns-2 Inv-loop2 μ-loop2 Inv-loop μ-loop
@@ -228,7 +228,7 @@ returns-2 c =
     let s = to-start (to-shared-slice-known7 (c .before .before)) in
     let a = s .args in
     let o = c .before .loop in
-    due-end (a .shift) (a .t4 .«num_block_clusters») (a .preset-map .now) (passAt s) (a .symbols .now) (192 * (a .group .bw * a .group .bh)) (wholeAt s) (o .at) (o .rows) (o .log) (o .g0 ∷ o .g1 ∷ o .g2 ∷ []) (o .y) (c .loop-test .left) (o .inv .5)
+    due-end (a .shift) (a .t4 .«num_block_clusters») (a .preset-map .now) (passGroupAt s) (a .symbols .now) (192 * (a .group .bw * a .group .bh)) (wholeAt s) (o .at) (o .rows) (o .log) (o .g0 ∷ o .g1 ∷ o .g2 ∷ []) (o .y) (c .loop-test .left) (o .inv .5)
 
 pub read-group-spec : {M : Type 1} → statement M
 read-group-spec =

@@ -6,13 +6,13 @@ use Rattle.coeff_places.proofs.walk.skip_zeros.Statement.{statement}
 use Rattle.coeff_places.proofs.walk.skip_zeros.Tie as tie
 
 abbrev Inv-loop : tie.InvT-loop
-Inv-loop frequencies exponent symbols start from stop map log₀ k₀ log k = Zeros exponent map symbols start from stop log₀ k log
+Inv-loop frequencies exponent symbols at from stop map log₀ k₀ log k = Zeros exponent map symbols at from stop log₀ k log
 
 abbrev μ-loop : tie.MeasureT-loop
-μ-loop frequencies exponent symbols start from stop map log₀ k₀ log k = stop - k
+μ-loop frequencies exponent symbols at from stop map log₀ k₀ log k = stop - k
 
 loop-holds : tie.Need-loop-holds Inv-loop μ-loop
-loop-holds c = let a = c .before .before .before .args in zeros-start (a .exponent) (a .map-from .now) (a .symbols .now) (a .start) (a .from) (a .stop) (a .log .now) (c .before .before .before .pre .1 .begins)
+loop-holds c = let a = c .before .before .before .args in zeros-start (a .exponent) (a .map-from .now) (a .symbols .now) (a .at) (a .from) (a .stop) (a .log .now) (c .before .before .before .pre .1 .begins)
 
 frequency-at-requires : tie.Need-frequency-at-requires Inv-loop μ-loop
 frequency-at-requires c κs = (c .before .before .before .before .before .before .before .pre .0, c .before .before .before .before .before .before .before .pre .1 .small, omega (arith, c .before .before .before .before .before .before .before .pre .1 .places))
@@ -25,7 +25,7 @@ loop-again c =
     let a = c .before .before .before .before .before .before .before .before .before .args in
     let l = c .before .before .before .before .before .loop in
     let p = c .before .before .before .before .before .before .before .before .before .pre in
-    rw (c .before .frequency-at .ensures .0) (zeros-turn (a .exponent) (a .map-from .now) (a .symbols .now) (a .start) (a .from) (a .stop) (a .log .now) (l .k) (l .log) (omega arith) (p .1 .places) (p .1 .lent) (c .before .before .if1 .left) (l .inv))
+    rw (c .before .frequency-at .ensures .0) (zeros-turn (a .exponent) (a .map-from .now) (a .symbols .now) (a .at) (a .from) (a .stop) (a .log .now) (l .k) (l .log) (omega arith) (p .1 .places) (p .1 .lent) (c .before .before .if1 .left) (l .inv))
 
 pub skip-zeros-spec : {M : Type 1} → statement M
 skip-zeros-spec =

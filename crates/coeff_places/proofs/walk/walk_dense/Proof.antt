@@ -10,18 +10,18 @@ use Rattle.coeff_places.proofs.walk.walk_dense.Statement.{statement}
 use Rattle.coeff_places.proofs.walk.walk_dense.Tie as tie
 
 abbrev Inv-loop : tie.InvT-loop
-Inv-loop nonzeros frequencies list spot symbols start count first-prev coeff-map shift log₀ grid₀ at₀ left₀ prev₀ k₀ end log grid at left prev k =
-    (at ≡ start + k)
+Inv-loop nonzeros frequencies list spot symbols at count first-prev coeff-map shift log₀ grid₀ at₀ left₀ prev₀ k₀ end log grid at' left prev k =
+    (at' ≡ at + k)
     × (left ≤ 63 * 2 ^ (spot .exponent))
     × (prev ≤ 1)
     × (length log ≡ length log₀)
     × (length grid ≡ length grid₀)
     × (end ≡ length (spotCells spot list))
-    × (walk shift (2 ^ (spot .exponent)) coeff-map (drop k (spotCells spot list)) k prev left (drop at symbols) at log grid
+    × (walk shift (2 ^ (spot .exponent)) coeff-map (drop k (spotCells spot list)) k prev left (drop at' symbols) at' log grid
     ≡ walk shift (2 ^ (spot .exponent)) coeff-map (drop k₀ (spotCells spot list)) k₀ prev₀ left₀ (drop at₀ symbols) at₀ log₀ grid₀)
 
 abbrev μ-loop : tie.MeasureT-loop
-μ-loop nonzeros frequencies list spot symbols start count first-prev coeff-map shift log₀ grid₀ at₀ left₀ prev₀ k₀ end log grid at left prev k =
+μ-loop nonzeros frequencies list spot symbols at count first-prev coeff-map shift log₀ grid₀ at₀ left₀ prev₀ k₀ end log grid at' left prev k =
     end - k
 
 -- Stages: from one to an earlier one.
@@ -63,7 +63,7 @@ slice-write-log : tie.Need-slice-write-log Inv-loop μ-loop
 slice-write-log c = omega (arith, c .before .before .before .before .before .before .before .loop .inv .0, c .before .before .before .before .before .before .before .loop .inv .3, c .before .before .before .before .before .before .loop-test .taken, to-start (c .before .before .before .before .before .before) .pre .2 .room)
 
 gain-at-requires : tie.Need-gain-at-requires Inv-loop μ-loop
-gain-at-requires c κs = let r = to-start (c .before .before .before .before .before .before .before) .pre .2 in (c .before .before .before .before .before .before .before .loop-test .taken, r .width, r .left, r .top, r .shifts)
+gain-at-requires c κs = let r = to-start (c .before .before .before .before .before .before .before) .pre .2 in (c .before .before .before .before .before .before .before .loop-test .taken, r .width, r .inX, r .inY, r .shifts)
 
 sub-left : tie.Need-sub-left Inv-loop μ-loop
 sub-left c = omega (arith, c .flag-of .ensures .1, c .before .before .before .before .before .before .before .before .before .before .if1 .left)

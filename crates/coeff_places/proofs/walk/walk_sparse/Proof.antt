@@ -12,11 +12,11 @@ use Rattle.coeff_places.proofs.walk.walk_sparse.Statement.{statement}
 use Rattle.coeff_places.proofs.walk.walk_sparse.Tie as tie
 
 abbrev Inv-loop : tie.InvT-loop
-Inv-loop nonzeros frequencies list spot symbols start count first-prev coeff-map shift log₀ grid₀ left₀ prev₀ k₀ end stop log grid left prev k =
-    Sparse spot list symbols start coeff-map shift log₀ grid₀ (walk shift (2 ^ (spot .exponent)) coeff-map (spotCells spot list) 0 prev₀ left₀ (drop start symbols) start log₀ grid₀) stop log grid left prev k
+Inv-loop nonzeros frequencies list spot symbols at count first-prev coeff-map shift log₀ grid₀ left₀ prev₀ k₀ end stop log grid left prev k =
+    Sparse spot list symbols at coeff-map shift log₀ grid₀ (walk shift (2 ^ (spot .exponent)) coeff-map (spotCells spot list) 0 prev₀ left₀ (drop at symbols) at log₀ grid₀) stop log grid left prev k
 
 abbrev μ-loop : tie.MeasureT-loop
-μ-loop nonzeros frequencies list spot symbols start count first-prev coeff-map shift log₀ grid₀ left₀ prev₀ k₀ end stop log grid left prev k =
+μ-loop nonzeros frequencies list spot symbols at count first-prev coeff-map shift log₀ grid₀ left₀ prev₀ k₀ end stop log grid left prev k =
     stop - k
 
 -- Stages: from one to an earlier one.
@@ -24,17 +24,17 @@ abbrev to-start : tie.At-loop Inv-loop μ-loop → tie.Start Inv-loop μ-loop
 to-start c = c .before .before .before .before .before .before .before .before
 
 -- Places and symbols read are small numbers.
-position : (c : tie.At-loop Inv-loop μ-loop) → to-start c .args .start + c .loop .k < 2 ^ 63
+position : (c : tie.At-loop Inv-loop μ-loop) → to-start c .args .at + c .loop .k < 2 ^ 63
 position c = omega (arith, c .loop .inv .below, c .loop .inv .places, to-start c .pre .2 .room)
 
-at-fits : (c : tie.At-loop Inv-loop μ-loop) → Fits w64 (to-start c .args .start + c .loop .k)
+at-fits : (c : tie.At-loop Inv-loop μ-loop) → Fits w64 (to-start c .args .at + c .loop .k)
 at-fits c = omega (arith, position c)
 
 next-fits : (c : tie.At-loop Inv-loop μ-loop) → Fits w64 (c .loop .k + 1)
 next-fits c = omega (arith, position c)
 
 -- What one turn needs.
-turning : (c : tie.Else1 Inv-loop μ-loop) → Turn (to-start (c .before .before) .args .spot) (to-start (c .before .before) .args .list .now) (to-start (c .before .before) .args .symbols .now) (to-start (c .before .before) .args .start) (length (to-start (c .before .before) .args .coeff-map .now)) (length (c .before .before .loop .log)) (c .before .before .loop .left) (c .before .before .loop .prev) (c .before .before .loop .k)
+turning : (c : tie.Else1 Inv-loop μ-loop) → Turn (to-start (c .before .before) .args .spot) (to-start (c .before .before) .args .list .now) (to-start (c .before .before) .args .symbols .now) (to-start (c .before .before) .args .at) (length (to-start (c .before .before) .args .coeff-map .now)) (length (c .before .before .loop .log)) (c .before .before .loop .left) (c .before .before .loop .prev) (c .before .before .loop .k)
 turning c = turn (c .before .before .loop .inv) (to-start (c .before .before) .pre .2) (c .before .loop-test .taken) (c .if1 .left)
 
 -- The count's entry.
@@ -63,7 +63,7 @@ loop-again : tie.Need-loop-again Inv-loop μ-loop
 loop-again c = zero-again (c .before .before .before .before .before .before .before .before .before .before .before .before .loop .inv) (to-start (c .before .before .before .before .before .before .before .before .before .before .before .before) .pre .2) (turning (c .before .before .before .before .before .before .before .before .before .before)) (c .before .before .before .before .before .before .before .before .before .coeff-context .ensures) (entry (c .before .before .before .before .before)) (c .before .before .before .before .before .before .if2 .taken) (c .before .before .zeros-from .ensures)
 
 gain-at-requires : tie.Need-gain-at-requires Inv-loop μ-loop
-gain-at-requires c κs = let r = to-start (c .before .before .before .before .before .before .before) .pre .2 in (turning (c .before .before .before .before .before) .placed, r .width, r .left, r .top, r .shifts)
+gain-at-requires c κs = let r = to-start (c .before .before .before .before .before .before .before) .pre .2 in (turning (c .before .before .before .before .before) .placed, r .width, r .inX, r .inY, r .shifts)
 
 loop-again-2 : tie.Need-loop-again-2 Inv-loop μ-loop
 loop-again-2 c = more-again (c .before .before .before .before .before .before .before .before .before .before .loop .inv) (to-start (c .before .before .before .before .before .before .before .before .before .before) .pre .2) (turning (c .before .before .before .before .before .before .before .before)) (c .before .before .before .before .before .before .before .coeff-context .ensures) (c .before .before .before .before .before .before .before .before .before .loop-test .taken) (c .before .before .before .before .if2 .left) (c .before .before .gain-at .ensures)

@@ -22,7 +22,7 @@ returns : tie.Need-returns
 returns c = let a = c .before .before .before .before .before .before .args in ends _ _ _ (counted-15 (a .shift) (a .clusters) (a .preset-map .now) (itemAt (a .v) (a .bw) (a .block-context) (a .list .now)) (a .row .now) (a .symbols .now) (a .at) (a .log .now) (a .grid .now) (omega arith)) refl
 
 count-cluster-requires : tie.Need-count-cluster-requires
-count-cluster-requires c κs = let r = to-start (c .before .before) .pre in (r .left, r .context, r .few)
+count-cluster-requires c κs = let r = to-start (c .before .before) .pre in (r .inX, r .context, r .few)
 
 slice-write-log : tie.Need-slice-write-log
 slice-write-log c = let r = to-start (c .before .before .before) .pre .room in omega (arith, pow-pos (to-start (c .before .before .before) .args .v .exponent))
@@ -33,7 +33,7 @@ returns-2 c =
     rw (c .before .count-cluster .ensures) (ends _ _ _ (counted-none (a .shift) (a .clusters) (a .preset-map .now) (itemAt (a .v) (a .bw) (a .block-context) (a .list .now)) (a .row .now) (a .symbols .now) (a .at) (a .log .now) (a .grid .now) (omega arith) (sym (c .before .before .to-usize .ensures) ∙ c .if2 .taken)) refl)
 
 spot-of-requires : tie.Need-spot-of-requires
-spot-of-requires c κs = let r = to-start (c .before .before .before .before) .pre in (r .left, r .top, r .narrow)
+spot-of-requires c κs = let r = to-start (c .before .before .before .before) .pre in (r .inX, r .inY, r .narrow)
 
 mul-read-places : tie.Need-mul-read-places
 mul-read-places c = let p = to-start (c .before .before .before .before .before .before .before) .pre .exponent in omega (arith, shifted-left 2 (to-start (c .before .before .before .before .before .before .before) .args .v .exponent) (omega arith) p, power-le (to-start (c .before .before .before .before .before .before .before) .args .v .exponent) p)

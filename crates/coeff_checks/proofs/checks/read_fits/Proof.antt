@@ -2,8 +2,8 @@ use borrow.Author.Tests.{eq-eqb, ne-eqb, not-true, not-false}
 use Rattle.order_store.specs.Store.{PLACES}
 use borrow.Author.Needs.{needs}
 use mathlib.Core.Path.{_∙_, sym}
-use Rattle.coeff_checks.proofs.checks.pass_fits.Statement.{statement}
-use Rattle.coeff_checks.proofs.checks.pass_fits.Tie as tie
+use Rattle.coeff_checks.proofs.checks.read_fits.Statement.{statement}
+use Rattle.coeff_checks.proofs.checks.read_fits.Tie as tie
 
 returns : tie.Need-returns
 returns c =
@@ -28,5 +28,5 @@ returns-4 c =
     let f = sym (c .before .lf-fits .ensures) ∙ not-false (c .before .lf-fits .result) (c .if3 .left) in
     rw (eq-eqb (a .kinds) (a .n) (c .before .before .before .if1 .left), eq-eqb (a .hf-mul) (a .n) (c .before .before .if2 .left), f)
 
-pub pass-fits-spec : {M : Type 1} → statement M
-pass-fits-spec = tie.close (tie.spec returns returns-2 (λ c κs. search needs) returns-3 returns-4)
+pub read-fits-spec : {M : Type 1} → statement M
+read-fits-spec = tie.close (tie.spec returns returns-2 (λ c κs. search needs) returns-3 returns-4)

@@ -15,7 +15,7 @@ use Rattle.order_natural.specs.Places.{paired}
 use Rattle.coeff_walk.specs.Places.{cellsOf}
 use Rattle.coeff_walk.specs.Item.{Item}
 
-pub record Pass : Type 0 where
+pub record PassGroup : Type 0 where
   -- sides in blocks
   pub bw : ℕ
   pub bh : ℕ
@@ -31,9 +31,9 @@ pub record Pass : Type 0 where
   -- the store of the orders
   pub store : List ℕ
 
--- the pass of a lent group
-abbrev pub passWith : Group → (kinds hfMul : List ℕ) (contexts : HfBlockContext) (lfThere : Bool) (lf0 lf1 lf2 store : List ℕ) → Pass
-passWith group kinds hfMul contexts lfThere lf0 lf1 lf2 store = record {
+-- with the sides of a lent group
+abbrev pub passGroup : Group → (kinds hfMul : List ℕ) (contexts : HfBlockContext) (lfThere : Bool) (lf0 lf1 lf2 store : List ℕ) → PassGroup
+passGroup group kinds hfMul contexts lfThere lf0 lf1 lf2 store = record {
   bw = group .bw;
   bh = group .bh;
   kinds = kinds;
@@ -46,29 +46,29 @@ passWith group kinds hfMul contexts lfThere lf0 lf1 lf2 store = record {
   store = store;
 }
 
-abbrev pub varblocks : Pass → List Varblock
+abbrev pub varblocks : PassGroup → List Varblock
 varblocks P = varblocksOf (P .bw) (P .bh) (P .kinds) (P .hfMul)
 
 abbrev pub blocksOf : Varblock → ℕ
 blocksOf v = wide (v .type) * high (v .type)
 
 -- the entry of the map of block contexts for the n-th channel walked, and the block context there
-abbrev pub blockEntryOf : Pass → Varblock → ℕ → ℕ
+abbrev pub blockEntryOf : PassGroup → Varblock → ℕ → ℕ
 blockEntryOf P v n =
     blockEntry (inUse (P .contexts)) n (orderOf (v .type)) (v .hfMul) (P .lfThere)
     (blockAt (P .lf0) (P .bw) (v .x) (v .y)) (blockAt (P .lf1) (P .bw) (v .x) (v .y)) (blockAt (P .lf2) (P .bw) (v .x) (v .y))
 
-abbrev pub blockContextOf : Pass → Varblock → ℕ → ℕ
+abbrev pub blockContextOf : PassGroup → Varblock → ℕ → ℕ
 blockContextOf P v n = getD (P .contexts .«block_ctx_map») (blockEntryOf P v n) 0
 
 -- the cells that are read in channel c: those of its list's places, but for the first, which are the low-frequency cells
-abbrev pub cellsIn : Pass → Varblock → ℕ → List ℕ
+abbrev pub cellsIn : PassGroup → Varblock → ℕ → List ℕ
 cellsIn P v c =
     cellsOf (turns (v .type)) (8 * P .bw) (8 * v .x) (8 * v .y)
     (drop (blocksOf v) (paired (stretch (P .store) (orderOf (v .type)) c)))
 
 -- channel c, the n-th walked
-unfoldable pub itemOf : Pass → Varblock → ℕ → ℕ → Item
+unfoldable pub itemOf : PassGroup → Varblock → ℕ → ℕ → Item
 itemOf P v n c = record {
   channel = c;
   x = v .x;
@@ -80,9 +80,9 @@ itemOf P v n c = record {
 }
 
 -- channels 1, 0, 2
-abbrev pub channelItems : Pass → Varblock → List Item
+abbrev pub channelItems : PassGroup → Varblock → List Item
 channelItems P v = itemOf P v 0 1 ∷ itemOf P v 1 0 ∷ itemOf P v 2 2 ∷ []
 
-unfoldable pub itemsOf : Pass → List Varblock → List Item
+unfoldable pub itemsOf : PassGroup → List Varblock → List Item
 itemsOf P [] = []
 itemsOf P (v ∷ vs) = channelItems P v ++ itemsOf P vs
