@@ -1,6 +1,6 @@
 -- what is proved from the definitions
 pub mod Kinds
-pub mod Walk
+pub mod RowByRow
 pub mod Stretch
 pub mod Grid
 pub mod Order
@@ -18,7 +18,7 @@ pub mod Groups
 pub mod Listed
 pub mod Theorems
 pub mod Areas
-pub mod WalkSteps
+pub mod RowByRowSteps
 pub mod Loops
 pub mod Corners
 pub mod Rectangles

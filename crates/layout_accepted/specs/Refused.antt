@@ -9,7 +9,7 @@ use Rattle.refusal.specs.declared.Said.{Said}
 use Rattle.refusal.specs.Said as refusals
 use Rattle.layout.specs.Grid.{blockAt}
 use Rattle.layout.specs.Valid.{Cells, Covers, Fits, Owned}
-use Rattle.layout.specs.Walk.{Before}
+use Rattle.layout.specs.RowByRow.{Before}
 use Rattle.layout_sizes.specs.Blocks.{sizeFits}
 use Rattle.layout_placing.specs.Reading.{Job, Placed, Stopped, column}
 use Rattle.layout_call.specs.Call.{Inputs, jobOf, parametersFit, lengthsFit, layoutOf}

@@ -9,7 +9,7 @@ use Rattle.refusal.specs.declared.Said.{Said}
 use Rattle.refusal.specs.Said as refusals
 use Rattle.refusal.specs.Answer.{Answer, unless, answeredBy}
 use Rattle.dct_select.specs.Transforms.{wide, high}
-use Rattle.layout.specs.Walk.{rowByRow}
+use Rattle.layout.specs.RowByRow.{rowByRow}
 use Rattle.layout.specs.Grid.{blockAt}
 use Rattle.layout_filter.specs.declared.Filter.{Filter}
 use Rattle.layout_filter.specs.declared.ScaledFilter.{ScaledFilter}

@@ -13,7 +13,7 @@ ghost use lib.ListN.{length};
 ghost use Rattle.refusal.specs.laws.Answer.{checked};
 ghost use Rattle.layout_filter.specs.Limits.{paramsFit};
 ghost use Rattle.layout_filter.specs.laws.Finite.{ScaledBounded};
-ghost use Rattle.layout.specs.Walk.{rowByRow};
+ghost use Rattle.layout.specs.RowByRow.{rowByRow};
 ghost use Rattle.layout_placing.specs.Reading.{Going, visit as visitOf, reading as readingOf, jobWith, jobBy};
 ghost use Rattle.layout_reading.specs.laws.Outcome.{stateOf, stepped, toldBy, handed, checksOf, readOf};
 

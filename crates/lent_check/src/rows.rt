@@ -7,7 +7,7 @@ ghost use Prim.Native.Nat.{_+_, _-_, _*_, _≤_, _<_, max};
 ghost use lib.Dec.{ltb};
 ghost use lib.ListN.{length, getD};
 ghost use Rattle.layout.specs.Kinds.{wideOf, highOf};
-ghost use Rattle.layout.specs.Walk.{alongRow};
+ghost use Rattle.layout.specs.RowByRow.{alongRow};
 ghost use Rattle.layout.specs.Grid.{blockAt};
 ghost use Rattle.layout.specs.Check.{Fault, Until, fitting};
 ghost use Rattle.lent_sides.specs.laws.Sizes.{WIDES, HIGHS};

@@ -12,8 +12,8 @@ use lib.Seq.{getD-set-other}
 use borrow.Author.Tests.{le-leb, lt-leb}
 use Rattle.layout.specs.Kinds.{wideOf, highOf}
 use Rattle.layout.specs.laws.Kinds.{wide-sized, high-sized}
-use Rattle.layout.specs.Walk.{alongRow, rows, rowByRow}
-use Rattle.layout.specs.laws.Walk.{beside}
+use Rattle.layout.specs.RowByRow.{alongRow, rows, rowByRow}
+use Rattle.layout.specs.laws.RowByRow.{beside}
 use Rattle.laws.specs.laws.Cases.{eq-or-ne}
 use Rattle.layout.specs.laws.Stretch.{Place, left, inside, right, place}
 use Rattle.laws.specs.Lists.{fillFrom}
@@ -154,9 +154,9 @@ module _ (bw bh : ℕ) (K M : Cells) where
       let q : length u * bh ≡ bw * bh = rw (r .size) in
       omega arith
 
-  walked : Valid bw bh K M → rowByRow (add K) bw bh 0 ≡ bw * bh
+  added : Valid bw bh K M → rowByRow (add K) bw bh 0 ≡ bw * bh
   unfolding Grown
-  walked ok =
+  added ok =
       end (rowByRow (visit bw bh K M) bw bh (Until (replicate bw 0))) (rowByRow (add K) bw bh 0) (valid-check bw bh K M ok bw (omega arith))
       (beside (visit bw bh K M) (add K) bw bh Grown step turn (Until (replicate bw 0)) 0
       (record {
@@ -190,4 +190,4 @@ module _ (bw bh : ℕ) (K M : Cells) where
       omega arith
 
   pub area-valid : Valid bw bh K M → area (corners K M bw bh) ≡ bw * bh
-  area-valid ok = let e = rows-area bh 0 0 in let f = walked ok in omega arith
+  area-valid ok = let e = rows-area bh 0 0 in let f = added ok in omega arith

@@ -4,7 +4,7 @@ use mathlib.Core.Path.{_≡_, refl}
 use mathlib.Core.Bool.{false}
 use mathlib.Core.List.{[], _∷_}
 use Rattle.dct_select.specs.Transforms.{TRANSFORMS, wide, high}
-use Rattle.layout.specs.Walk.{alongRow, rows}
+use Rattle.layout.specs.RowByRow.{alongRow, rows}
 use Rattle.laws.specs.Lists.{fillFrom}
 use Rattle.layout.specs.Check.{clear, fitting, visitCell, checkRun, isLayout}
 use Rattle.layout.specs.Varblocks.{varblocksOf, area, cornersRow, cornersFrom}

@@ -10,12 +10,12 @@ use lib.ListN.{getD, replicate}
 use borrow.Author.Tests.{ltb-true, ltb-false, leb-true, eqb-true, lt-ltb, le-ltb, le-leb, lt-leb, eq-eqb, ne-eqb}
 use Rattle.layout.specs.Kinds.{wideOf, highOf}
 use Rattle.laws.specs.laws.Cases.{eq-or-ne, and-true}
-use Rattle.layout.specs.Walk.{rowByRow}
+use Rattle.layout.specs.RowByRow.{rowByRow}
 use Rattle.laws.specs.Lists.{fillFrom}
 use Rattle.layout.specs.Valid.{Cells, Fits}
 use Rattle.layout.specs.Check.{Covering, Fault, Until, clear, fitting, visitCell, visit}
 
--- the walk over a list of at least bw columns
+-- the check over a list of at least bw columns
 abbrev pub checkIn : ℕ → ℕ → ℕ → Cells → Cells → Covering
 checkIn room bw bh K M = rowByRow (visit bw bh K M) bw bh (Until (replicate room 0))
 

@@ -1,4 +1,4 @@
--- A layout that the check passes is valid: what is left of the walk, from the end back.
+-- A layout that the check passes is valid: what is left of the blocks, from the end back.
 use mathlib.Core.Path.{_≡_, refl, ap}
 use mathlib.Core.Bool.{true}
 use mathlib.Core.Logic.{_⊎_, inl, inr}
@@ -7,8 +7,8 @@ use Prim.Native.Nat.{ℕ, _+_, _≤_, _<_}
 use native.Mathlib.Omega.{arith}
 use lib.ListN.{length, getD, replicate, length-replicate, getD-replicate}
 use Rattle.layout.specs.Kinds.{wideOf, highOf}
-use Rattle.layout.specs.Walk.{rowByRow}
-use Rattle.layout.specs.laws.Walk.{backward}
+use Rattle.layout.specs.RowByRow.{rowByRow}
+use Rattle.layout.specs.laws.RowByRow.{backward}
 use Rattle.layout.specs.laws.Stretch.{Place, left, inside, right, place}
 use Rattle.laws.specs.Lists.{fillFrom}
 use Rattle.layout.specs.laws.Grid.{length-fill, fill-left, fill-in, fill-right}

@@ -6,8 +6,8 @@ use Prim.Native.Nat.{ℕ, _+_, _*_, _≤_, _<_}
 use native.Mathlib.Omega.{arith}
 use lib.ListN.{length, set, length-set}
 use Rattle.laws.specs.laws.Cases.{le-or-lt}
-use Rattle.layout.specs.Walk.{rowByRow, Before}
-use Rattle.layout.specs.laws.Walk.{forward}
+use Rattle.layout.specs.RowByRow.{rowByRow, Before}
+use Rattle.layout.specs.laws.RowByRow.{forward}
 use Rattle.layout.specs.Grid.{blockAt, gridOf}
 use Rattle.layout.specs.laws.Grid.{set-same, set-other, grid-is}
 use Rattle.layout.specs.laws.Order.{Here, last}

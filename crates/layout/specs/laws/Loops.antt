@@ -1,8 +1,8 @@
--- A walk as two nested loops go: what is left from a row, and from a cell, on.
+-- Row by row, as two nested loops go: what is left from a row, and from a cell, on.
 use mathlib.Core.Path.{_≡_, ap, sym, _∙_}
 use Prim.Native.Nat.{ℕ, _+_, _-_, _≤_, _<_}
-use Rattle.layout.specs.Walk.{alongRow, rows, rowByRow}
-use Rattle.layout.specs.laws.WalkSteps.{cells-step, cells-end, rows-step, rows-end, rows-start, cells-stuck, rows-stuck}
+use Rattle.layout.specs.RowByRow.{alongRow, rows, rowByRow}
+use Rattle.layout.specs.laws.RowByRowSteps.{cells-step, cells-end, rows-step, rows-end, rows-start, cells-stuck, rows-stuck}
 
 module _ {S : Type 0} (f : ℕ → ℕ → S → S) (w h : ℕ) where
   abbrev pub rowsLeft : ℕ → S → S

@@ -6,7 +6,7 @@ use native.Mathlib.Omega.{arith}
 use Rattle.laws.specs.laws.Cases.{eq-or-ne}
 use Rattle.layout.specs.laws.Kinds.{wide-sized, high-sized}
 use Rattle.layout.specs.Valid.{Cells, Covers}
-use Rattle.layout.specs.Walk.{Before}
+use Rattle.layout.specs.RowByRow.{Before}
 
 abbrev pub From : ℕ → ℕ → ℕ → ℕ → Type 0
 From x y a b = (y < b) ⊎ ((b ≡ y) × (x ≤ a))

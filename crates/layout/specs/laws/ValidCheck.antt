@@ -7,8 +7,8 @@ use Prim.Native.Nat.{ℕ, _+_, _≤_, _<_}
 use native.Mathlib.Omega.{arith}
 use lib.ListN.{length, getD, replicate, length-replicate, getD-replicate}
 use Rattle.layout.specs.Kinds.{wideOf, highOf}
-use Rattle.layout.specs.Walk.{rowByRow, Before}
-use Rattle.layout.specs.laws.Walk.{forward}
+use Rattle.layout.specs.RowByRow.{rowByRow, Before}
+use Rattle.layout.specs.laws.RowByRow.{forward}
 use Rattle.laws.specs.laws.Cases.{eq-or-ne, le-or-lt}
 use Rattle.layout.specs.laws.Stretch.{Place, left, inside, right, place}
 use Rattle.laws.specs.Lists.{fillFrom}

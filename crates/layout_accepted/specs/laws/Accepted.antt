@@ -11,11 +11,11 @@ use Rattle.laws.specs.laws.Cases.{eq-or-ne}
 use Rattle.dct_select.specs.Transforms.{wide, high}
 use Rattle.dct_select.specs.laws.Sides.{wide-some, high-some}
 use Rattle.layout.specs.Kinds.{wideOf, highOf}
-use Rattle.layout.specs.laws.Walk.{forward}
+use Rattle.layout.specs.laws.RowByRow.{forward}
 use Rattle.layout.specs.Grid.{blockAt}
 use Rattle.layout.specs.laws.Grid.{place-lt}
 use Rattle.layout.specs.Valid.{Cells, Covers, Fits, Owned, Layout}
-use Rattle.layout.specs.Walk.{Before}
+use Rattle.layout.specs.RowByRow.{Before}
 use Rattle.layout.specs.laws.Order.{Here, later, last}
 use Rattle.layout_placing.specs.Reading.{Job, Placed, Placing, Going, Stopped, nextType, nextHfMul, column, visit, start, reading}
 use Rattle.layout_accepted.specs.laws.Took.{InRect}

@@ -12,10 +12,10 @@ use lib.Seq.{take-suc, getD-take, length-take-le}
 use borrow.Author.Tests.{le-leb, lt-leb, lt-ltb, eqb-false, eq-eqb}
 use Rattle.laws.specs.laws.Cases.{eq-or-ne, le-or-lt}
 use Rattle.dct_select.specs.Transforms.{wide, high}
-use Rattle.layout.specs.laws.Walk.{beside}
+use Rattle.layout.specs.laws.RowByRow.{beside}
 use Rattle.layout.specs.Grid.{blockAt}
 use Rattle.layout.specs.Valid.{Cells}
-use Rattle.layout.specs.Walk.{Before}
+use Rattle.layout.specs.RowByRow.{Before}
 use Rattle.layout.specs.laws.Order.{Here, From, from-start}
 use Rattle.layout.specs.Varblocks.{Varblock, addVarblock, cornersRow, cornersFrom, varblocksOf}
 use Rattle.layout_column.specs.Columns.{lowEight, hfMulOf}

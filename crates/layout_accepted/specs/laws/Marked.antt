@@ -6,7 +6,7 @@ use lib.ListN.{replicate}
 use lib.Ieee.{le, lt, eq}
 use Rattle.refusal.specs.Said.{saidAt}
 use Rattle.dct_select.specs.Transforms.{TRANSFORMS, wide, high}
-use Rattle.layout.specs.Walk.{alongRow, rows}
+use Rattle.layout.specs.RowByRow.{alongRow, rows}
 use Rattle.layout.specs.Varblocks.{varblock, varblocksOf, area, cornersRow, cornersFrom}
 use Rattle.layout_sizes.specs.Blocks.{bwIn, bhIn}
 use Rattle.layout_filter.specs.declared.Filter.the-variants.{On}

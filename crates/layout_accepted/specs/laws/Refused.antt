@@ -12,7 +12,7 @@ use Rattle.refusal.specs.declared.Said.{Said}
 use Rattle.refusal.specs.Said as refusals
 use Rattle.refusal.specs.Answer.{Answer, gives, refuses, unless, passed, answeredBy}
 use Rattle.dct_select.specs.Transforms.{COUNT, wide, high}
-use Rattle.layout.specs.laws.Walk.{forward}
+use Rattle.layout.specs.laws.RowByRow.{forward}
 use Rattle.layout.specs.Grid.{blockAt}
 use Rattle.layout_sizes.specs.Blocks.{sizeFits}
 use Rattle.layout_filter.specs.declared.DividedFilter.{DividedFilter}

@@ -16,11 +16,11 @@ use borrow.Author.Tests.{leb-false}
 use Rattle.laws.specs.laws.Cases.{eq-or-ne}
 use Rattle.dct_select.specs.Transforms.{wide, high}
 use Rattle.dct_select.specs.laws.Sides.{wide-some, high-some}
-use Rattle.layout.specs.laws.Walk.{forward}
+use Rattle.layout.specs.laws.RowByRow.{forward}
 use Rattle.layout.specs.Grid.{blockAt}
 use Rattle.layout.specs.laws.Grid.{place-lt, place-col, place-row}
 use Rattle.layout.specs.Valid.{Covers}
-use Rattle.layout.specs.Walk.{Before}
+use Rattle.layout.specs.RowByRow.{Before}
 use Rattle.layout.specs.laws.Order.{Here, last, later, never}
 use Rattle.layout_filter.specs.declared.Filter.{Filter}
 use Rattle.layout_filter.specs.declared.Filter.the-variants.{Off, On}

@@ -10,10 +10,10 @@ use lib.ListN.{length, set, length-set}
 use lib.Ieee.{Float}
 use borrow.Author.Tests.{ltb-false, leb-false}
 use Rattle.laws.specs.laws.Cases.{eq-or-ne}
-use Rattle.layout.specs.laws.Walk.{forward}
+use Rattle.layout.specs.laws.RowByRow.{forward}
 use Rattle.layout.specs.Grid.{blockAt}
 use Rattle.layout.specs.laws.Grid.{set-same, set-other}
-use Rattle.layout.specs.Walk.{Before}
+use Rattle.layout.specs.RowByRow.{Before}
 use Rattle.layout.specs.laws.Order.{Here, last}
 use Rattle.layout_filter.specs.declared.DividedFilter.{DividedFilter}
 use Rattle.layout_filter.specs.declared.DividedFilter.the-variants.{Off}

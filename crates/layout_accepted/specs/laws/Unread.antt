@@ -9,7 +9,7 @@ use lib.Ieee.{Float}
 use Rattle.refusal.specs.declared.Said.{Said}
 use Rattle.refusal.specs.Answer.{answeredBy}
 use Rattle.dct_select.specs.Transforms.{wide, high}
-use Rattle.layout.specs.Walk.{rowByRow}
+use Rattle.layout.specs.RowByRow.{rowByRow}
 use Rattle.layout.specs.Grid.{blockAt}
 use Rattle.layout_filter.specs.declared.Filter.the-variants.{Off}
 use Rattle.layout_filter.specs.declared.DividedFilter.the-variants.{Off as DividedOff}

@@ -11,7 +11,7 @@ use Rattle.refusal.specs.declared.Refusal.{Refusal}
 use Rattle.refusal.specs.Said.{saidAt, said}
 use Rattle.refusal.specs.Answer.{gives, refuses, passed}
 use Rattle.refusal.specs.laws.Answer.{pass}
-use Rattle.layout.specs.Walk.{rowByRow}
+use Rattle.layout.specs.RowByRow.{rowByRow}
 use Rattle.layout_sizes.specs.Blocks.{countsFit}
 use Rattle.layout_sizes.specs.laws.Counts.{Counts, counts}
 use Rattle.layout_filter.specs.declared.Filter.{Filter}

@@ -8,7 +8,7 @@ use lib.Dec.{ltb, leb, eqb}
 use lib.ListN.{getD, set}
 use lib.Seq.{set-comm, getD-set-other}
 use Rattle.layout.specs.Kinds.{wideOf, highOf}
-use Rattle.layout.specs.Walk.{alongRow}
+use Rattle.layout.specs.RowByRow.{alongRow}
 use Rattle.laws.specs.Lists.{fillFrom}
 use Rattle.layout.specs.laws.Grid.{fill-left}
 use Rattle.layout.specs.Valid.{Cells}

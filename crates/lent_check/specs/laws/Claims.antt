@@ -12,7 +12,7 @@ use borrow.Author.Tests.{le-leb, lt-leb, le-ltb, lt-ltb, ne-eqb}
 use Rattle.laws.specs.laws.Cases.{le-or-lt}
 use Rattle.laws.specs.Lists.{fillFrom}
 use Rattle.layout.specs.Check.{Covering, Fault, Until, clear}
-use Rattle.layout.specs.laws.WalkSteps.{clear-step, clear-end, fill-step, fill-end}
+use Rattle.layout.specs.laws.RowByRowSteps.{clear-step, clear-end, fill-step, fill-end}
 use Rattle.lent_check.specs.laws.Apart.{clear-set}
 
 -- the last test of where a corner may stand, hf_mul being seen to

@@ -7,10 +7,10 @@ use native.Mathlib.Omega.{arith}
 use lib.Dec.{ltb, eqb}
 use lib.ListN.{getD, set}
 use borrow.Author.Tests.{ne-eqb}
-use Rattle.layout.specs.Walk.{alongRow}
+use Rattle.layout.specs.RowByRow.{alongRow}
 use Rattle.layout.specs.Valid.{Cells}
 use Rattle.layout.specs.Check.{Covering, Fault, Until}
-use Rattle.layout.specs.laws.WalkSteps.{cells-step, cells-end}
+use Rattle.layout.specs.laws.RowByRowSteps.{cells-step, cells-end}
 use Rattle.lent_check.specs.laws.Flaws.{flagOf}
 use Rattle.lent_check.specs.laws.Sorts.{oneBlock}
 use Rattle.lent_check.specs.laws.Steps.{gapOf, closeCell, close}

@@ -11,7 +11,7 @@ use lib.Seq.{getD-set-same, getD-set-other}
 use borrow.Author.Tests.{lt-ltb, le-ltb, le-leb, lt-leb, eq-eqb, ne-eqb}
 use Rattle.laws.specs.laws.Cases.{eq-or-ne, le-or-lt}
 use Rattle.layout.specs.Kinds.{wideOf, highOf}
-use Rattle.layout.specs.Walk.{alongRow, rows}
+use Rattle.layout.specs.RowByRow.{alongRow, rows}
 use Rattle.laws.specs.Lists.{fillFrom}
 use Rattle.layout.specs.Grid.{blockAt}
 use Rattle.layout.specs.laws.Grid.{length-fill, fill-left, fill-in, fill-right}

@@ -10,10 +10,10 @@ use lib.ListN.{length, getD, set, take, drop, length-set, drop-of-length-le}
 use lib.Seq.{getD-set-same, getD-set-other, take-set-le, take-suc-set, length-take-le, drop-cons, getD-take}
 use borrow.Author.Tests.{eqb-true}
 use Rattle.laws.specs.laws.Cases.{eq-or-ne}
-use Rattle.layout.specs.Walk.{alongRow}
+use Rattle.layout.specs.RowByRow.{alongRow}
 use Rattle.layout.specs.Valid.{Cells}
 use Rattle.layout.specs.Check.{Covering, Fault, Until}
-use Rattle.layout.specs.laws.WalkSteps.{left-suc}
+use Rattle.layout.specs.laws.RowByRowSteps.{left-suc}
 use Rattle.lent_check.specs.laws.Sorts.{largerOf, larger-flag}
 use Rattle.lent_check.specs.laws.Steps.{placeCell, place, place-plain}
 

@@ -7,13 +7,13 @@ use native.Mathlib.Omega.{arith}
 use lib.Dec.{ltb, leb, eqb}
 use lib.ListN.{length, getD, set, length-set, replicate}
 use Rattle.layout.specs.Kinds.{wideOf, highOf}
-use Rattle.layout.specs.Walk.{alongRow, rows}
+use Rattle.layout.specs.RowByRow.{alongRow, rows}
 use Rattle.laws.specs.Lists.{fillFrom}
 use Rattle.layout.specs.Grid.{blockAt}
 use Rattle.layout.specs.laws.Grid.{length-fill}
 use Rattle.layout.specs.Valid.{Cells}
 use Rattle.layout.specs.Check.{Covering, Fault, Until, passes, clear, fitting, isLayout}
-use Rattle.layout.specs.laws.WalkSteps.{cells-stuck, rows-step, rows-end, rows-stuck}
+use Rattle.layout.specs.laws.RowByRowSteps.{cells-stuck, rows-step, rows-end, rows-stuck}
 use Rattle.lent_check.specs.laws.Flaws.{flagOf, Sound}
 use Rattle.lent_check.specs.laws.Sorts.{largerOf, oneBlock}
 use Rattle.lent_check.specs.laws.Depths.{visitDepths, depths-check}

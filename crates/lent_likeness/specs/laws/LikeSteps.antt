@@ -11,7 +11,7 @@ use borrow.Author.Tests.{lt-ltb, le-ltb, le-leb, lt-leb, eq-eqb, ne-eqb}
 use Rattle.laws.specs.laws.Cases.{le-or-lt, and-true}
 use Rattle.refusal.specs.Said.{saidAt}
 use Rattle.layout.specs.Kinds.{wideOf, highOf}
-use Rattle.layout.specs.laws.WalkSteps.{left-suc}
+use Rattle.layout.specs.laws.RowByRowSteps.{left-suc}
 use Rattle.layout.specs.Like.{LentLayout, bySort, alikeCorners, alikeCell, alikeFrom, alike}
 use Rattle.refusal.specs.Answer.{gives, refuses}
 use Rattle.lent_sides.specs.laws.Limits.{lengths-fit}

@@ -13,7 +13,7 @@ use Rattle.refusal.specs.Said.{said}
 use Rattle.bits.specs.Bits.{Value, readBits, bitsOf, valueOf}
 use Rattle.coded_numbers.specs.Exponent.{exponent, exponentFrom}
 use Rattle.dct_select.specs.Transforms.{TRANSFORMS, wide, high}
-use Rattle.layout.specs.Walk.{alongRow, rows}
+use Rattle.layout.specs.RowByRow.{alongRow, rows}
 use Rattle.laws.specs.Lists.{fillFrom}
 use Rattle.layout.specs.Check.{clear, fitting, visitCell, checkRun}
 use Rattle.layout.specs.Varblocks.{cornersRow, cornersFrom}

@@ -13,7 +13,7 @@ use Rattle.coded_numbers.specs.Signed.{unpackSigned, pack, symbol}
 use Rattle.dct_select.specs.Transforms.{TRANSFORMS, wide, high, orderOf, turns}
 use Rattle.order_natural.specs.Places.{paired}
 use Rattle.order_natural.specs.Natural.{natural}
-use Rattle.layout.specs.Walk.{alongRow, rows}
+use Rattle.layout.specs.RowByRow.{alongRow, rows}
 use Rattle.layout.specs.Varblocks.{cornersRow, cornersFrom}
 use Rattle.laws.specs.Lists.{fillFrom}
 use Rattle.layout.specs.Grid.{rowOf, gridFrom}

@@ -7,7 +7,7 @@ use borrow.Author.Tests.{not-true, not-false}
 use native.Mathlib.Omega.{arith}
 use borrow.Author.Needs.{needs}
 use Rattle.dct_select.specs.Transforms.{TRANSFORMS}
-use Rattle.layout.specs.Walk.{alongRow}
+use Rattle.layout.specs.RowByRow.{alongRow}
 use Rattle.layout.specs.Grid.{blockAt}
 use Rattle.layout.specs.Check.{Until, isLayout}
 use Rattle.lent_sides.specs.laws.Sizes.{WIDES, HIGHS}

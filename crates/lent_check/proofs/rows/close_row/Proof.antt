@@ -5,7 +5,7 @@ use lib.Arith.{digits-lt}
 use lib.ListN.{getD, set}
 use native.Mathlib.Omega.{arith}
 use borrow.Author.Needs.{needs}
-use Rattle.layout.specs.Walk.{alongRow}
+use Rattle.layout.specs.RowByRow.{alongRow}
 use Rattle.layout.specs.Grid.{blockAt}
 use Rattle.layout.specs.Check.{Until}
 use Rattle.lent_check.specs.laws.Steps.{gapOf, close}

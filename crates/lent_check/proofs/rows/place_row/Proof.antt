@@ -6,7 +6,7 @@ use lib.ListN.{drop}
 use borrow.Author.Tests.{not-true, not-false}
 use native.Mathlib.Omega.{arith}
 use borrow.Author.Needs.{needs}
-use Rattle.layout.specs.Walk.{alongRow}
+use Rattle.layout.specs.RowByRow.{alongRow}
 use Rattle.layout.specs.Grid.{blockAt}
 use Rattle.layout.specs.Check.{Until}
 use Rattle.lent_check.specs.laws.Steps.{placeCell, place}

@@ -1,8 +1,8 @@
--- Ways to reason about a walk over the blocks.
+-- Ways to reason about a step at each block, row by row.
 use mathlib.Core.Path.{_≡_}
 use Prim.Native.Nat.{ℕ, zero, suc, _+_, _<_}
 use native.Mathlib.Omega.{arith}
-use Rattle.layout.specs.Walk.{alongRow, rows, rowByRow}
+use Rattle.layout.specs.RowByRow.{alongRow, rows, rowByRow}
 
 -- Forward: what holds at the start and is kept by each cell and each turn of row holds at the end.
 module _ {S : Type 0} (f : ℕ → ℕ → S → S) (bw bh : ℕ) (P : ℕ → ℕ → S → Type 0)
@@ -42,7 +42,7 @@ module _ {S : Type 0} (f : ℕ → ℕ → S → S) (bw bh : ℕ) (P : ℕ → �
   pub backward : (s : S) → P 0 bh (rowByRow f bw bh s) → P 0 0 s
   backward s p = backward-rows bh 0 s (omega arith) p
 
--- Two walks side by side.
+-- Two of them side by side.
 module _ {S R : Type 0} (f : ℕ → ℕ → S → S) (g : ℕ → ℕ → R → R) (bw bh : ℕ) (P : ℕ → ℕ → S → R → Type 0)
     (step : (x y : ℕ) (s : S) (r : R) → x < bw → y < bh → P x y s r → P (x + 1) y (f x y s) (g x y r))
     (turn : (y : ℕ) (s : S) (r : R) → y < bh → P bw y s r → P 0 (y + 1) s r) where
