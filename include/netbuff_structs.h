@@ -363,7 +363,7 @@ static inline struct netbuff_refusal netbuff_layouts_alike(const struct netbuff_
 
 /*
  * How long the map is that netbuff_read_contexts has to be lent, and how many bits come before its
- * own: walks over the lists of thresholds. The length is 0 for default contexts. Refused: 3, with
+ * own: reads past the lists of thresholds. The length is 0 for default contexts. Refused: 3, with
  * the bits read.
  */
 static inline struct netbuff_refusal netbuff_scan_contexts(const struct netbuff_bytes *bytes,

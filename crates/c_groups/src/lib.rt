@@ -5,7 +5,7 @@ ghost use mathlib.Core.Path.{_≡_};
 ghost use Rattle.layout.specs.Like.{lentLayout};
 ghost use Rattle.refusal.specs.Said.{saidAt};
 ghost use Rattle.refusal.specs.Handed.{with, handed};
-ghost use Rattle.lent_check.specs.Group.{groupOf};
+ghost use Rattle.lent_check.specs.GroupSides.{groupSides};
 ghost use Rattle.lent_cut.specs.Calls.{cutOf};
 ghost use Rattle.lent_likeness.specs.Calls.{likeOf};
 ghost use Rattle.c_groups.specs.Record.{CutLeaves};
@@ -25,7 +25,7 @@ pub extern "C" fn netbuff_cut(
     x: &mut usize,
     y: &mut usize,
 ) -> u32
-    ensures { λ r. ⌜ CutLeaves (with (saidAt r (now (x .exit)) (now (y .exit))) (groupOf (now («out_bw» .exit)) (now («out_bh» .exit)))) (now («out_kinds» .exit)) (now («out_hf_mul» .exit)) (groupOf (now («out_bw» .entry)) (now («out_bh» .entry)))
+    ensures { λ r. ⌜ CutLeaves (with (saidAt r (now (x .exit)) (now (y .exit))) (groupSides (now («out_bw» .exit)) (now («out_bh» .exit)))) (now («out_kinds» .exit)) (now («out_hf_mul» .exit)) (groupSides (now («out_bw» .entry)) (now («out_bh» .entry)))
         (cutOf bw bh (now (kinds .entry)) (now («hf_mul» .entry)) index (now («out_kinds» .entry)) (now («out_hf_mul» .entry))) ⌝ }
 {
     let answer = lent_cut::cut::cut(bw, bh, kinds, hf_mul, index, out_kinds, out_hf_mul);

@@ -34,31 +34,31 @@ abbrev pub readFits : PassGroup → Bool
 readFits P = eqb (length (P .kinds)) (blocks P) && eqb (length (P .hfMul)) (blocks P) && lfFits P && eqb (length (P .store)) (2 * PLACES)
 
 -- with the lengths of the cluster map, the log and the three grids
-abbrev pub allLengthsFit : PassGroup → (presets clusterMap log g0 g1 g2 : ℕ) → Bool
-allLengthsFit P presets clusterMap log g0 g1 g2 =
+abbrev pub allLengthsFit : PassGroup → (presets clusterMapLength logLength g0Length g1Length g2Length : ℕ) → Bool
+allLengthsFit P presets clusterMapLength logLength g0Length g1Length g2Length =
     readFits P
-    && eqb clusterMap (495 * clustersOf P * presets)
-    && threeFit g0 g1 g2 (64 * blocks P)
-    && leb (192 * blocks P) log
+    && eqb clusterMapLength (495 * clustersOf P * presets)
+    && threeFit g0Length g1Length g2Length (64 * blocks P)
+    && leb (192 * blocks P) logLength
 
 -- 18: what passes is a layout (crate layout, Theorems, layout-iff)
 abbrev pub layoutFits : PassGroup → Bool
 layoutFits P = isLayout (P .bw) (P .bh) (P .kinds) (P .hfMul)
 
-unfoldable pub beforeWork : PassGroup → (presets shift clusterMap log g0 g1 g2 : ℕ) → Answer Unit
-beforeWork P presets shift clusterMap log g0 g1 g2 =
+unfoldable pub beforeWork : PassGroup → (presets shift clusterMapLength logLength g0Length g1Length g2Length : ℕ) → Answer Unit
+beforeWork P presets shift clusterMapLength logLength g0Length g1Length g2Length =
     unless 2 (sidesFit P)
     (unless 11 (parametersFit shift presets)
     (unless 12 (fit (P .contexts))
-    (unless 1 (allLengthsFit P presets clusterMap log g0 g1 g2)
+    (unless 1 (allLengthsFit P presets clusterMapLength logLength g0Length g1Length g2Length)
     (unless 18 (layoutFits P)
     (unless 13 (placesFit (P .store)) passed)))))
 
 -- what they leave
-pub record Passed (P : PassGroup) (presets shift clusterMap log g0 g1 g2 : ℕ) : Type 0 where
+pub record Passed (P : PassGroup) (presets shift clusterMapLength logLength g0Length g1Length g2Length : ℕ) : Type 0 where
   pub sides : sidesFit P ≡ true
   pub parameters : parametersFit shift presets ≡ true
   pub contexts : fit (P .contexts) ≡ true
-  pub lengths : allLengthsFit P presets clusterMap log g0 g1 g2 ≡ true
+  pub lengths : allLengthsFit P presets clusterMapLength logLength g0Length g1Length g2Length ≡ true
   pub layout : layoutFits P ≡ true
   pub places : placesFit (P .store) ≡ true

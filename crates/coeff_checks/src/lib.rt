@@ -5,7 +5,7 @@ use crate::checks::parameters_fit;
 use crate::checks::read_fits;
 use context_record::HfBlockContext;
 use context_record::fit::is_fit;
-use lent_check::Group;
+use lent_check::GroupSides;
 use lent_sides::limits::in_limits;
 use order_places::places_fit;
 use refusal::Checked;
@@ -21,7 +21,7 @@ ghost use Rattle.coeff_checks.specs.Checks.{beforeWork};
 // All checks before work: 2, 11, 12, 1, 18, stored places (13). Of the cluster map, the log and the grids they look at the
 // lengths alone.
 pub fn before_work<'a>(
-    group: Group,
+    group: GroupSides,
     kinds: &'a [u8],
     hf_mul: &'a [u32],
     contexts: HfBlockContext,
@@ -32,13 +32,13 @@ pub fn before_work<'a>(
     store: &'a [u16],
     presets: u32,
     shift: u32,
-    cluster_map: usize,
-    log: usize,
-    g0: usize,
-    g1: usize,
-    g2: usize,
+    cluster_map_length: usize,
+    log_length: usize,
+    g0_length: usize,
+    g1_length: usize,
+    g2_length: usize,
 ) -> Checked
-    ensures { λ r. ⌜ checked r ≡ beforeWork (passGroup group (now (kinds .entry)) (now («hf_mul» .entry)) contexts «lf_there» (now (lf0 .entry)) (now (lf1 .entry)) (now (lf2 .entry)) (now (store .entry))) presets shift «cluster_map» log g0 g1 g2 ⌝ }
+    ensures { λ r. ⌜ checked r ≡ beforeWork (passGroup group (now (kinds .entry)) (now («hf_mul» .entry)) contexts «lf_there» (now (lf0 .entry)) (now (lf1 .entry)) (now (lf2 .entry)) (now (store .entry))) presets shift «cluster_map_length» «log_length» «g0_length» «g1_length» «g2_length» ⌝ }
 {
     let bw = group.bw;
     let bh = group.bh;
@@ -66,11 +66,11 @@ pub fn before_work<'a>(
     if !other_lengths_fit(
         clusters,
         presets as usize,
-        cluster_map,
-        g0,
-        g1,
-        g2,
-        log,
+        cluster_map_length,
+        g0_length,
+        g1_length,
+        g2_length,
+        log_length,
         n,
         read,
     ) {

@@ -6,7 +6,7 @@ use lib.ListN.{getD, drop}
 use Rattle.dct_select.specs.Transforms.{wide, high, orderOf, turns}
 use Rattle.layout.specs.Grid.{blockAt}
 use Rattle.layout.specs.Varblocks.{Varblock, varblocksOf}
-use Rattle.lent_check.specs.declared.Group.{Group}
+use Rattle.lent_check.specs.declared.GroupSides.{GroupSides}
 use Rattle.order_store.specs.Store.{stretch}
 use Rattle.context_record.specs.declared.HfBlockContext.{HfBlockContext}
 use Rattle.context_index.specs.Lists.{inUse}
@@ -32,7 +32,7 @@ pub record PassGroup : Type 0 where
   pub store : List ℕ
 
 -- with the sides of a lent group
-abbrev pub passGroup : Group → (kinds hfMul : List ℕ) (contexts : HfBlockContext) (lfThere : Bool) (lf0 lf1 lf2 store : List ℕ) → PassGroup
+abbrev pub passGroup : GroupSides → (kinds hfMul : List ℕ) (contexts : HfBlockContext) (lfThere : Bool) (lf0 lf1 lf2 store : List ℕ) → PassGroup
 passGroup group kinds hfMul contexts lfThere lf0 lf1 lf2 store = record {
   bw = group .bw;
   bh = group .bh;

@@ -34,16 +34,25 @@ fn spot_small(spot: Spot, shift: u32) -> bool
 }
 
 // What is lent fits: lengths and limits.
-fn lent_fits(spot: Spot, list: usize, at: usize, coeff_map: usize, shift: u32, log: usize) -> bool
-    ensures { λ r. ⌜ r ≡ lentFits spot list at «coeff_map» shift log ⌝ }
+fn lent_fits(
+    spot: Spot,
+    list_length: usize,
+    at: usize,
+    coeff_map_length: usize,
+    shift: u32,
+    log_length: usize,
+) -> bool
+    ensures { λ r. ⌜ r ≡ lentFits spot «list_length» at «coeff_map_length» shift «log_length» ⌝ }
 {
     if !spot_small(spot, shift) {
         return false;
     }
-    if log < at {
+    if log_length < at {
         return false;
     }
-    (list / 2 <= 63 << spot.exponent) & (coeff_map == 458) & (list / 2 <= log - at)
+    (list_length / 2 <= 63 << spot.exponent)
+        & (coeff_map_length == 458)
+        & (list_length / 2 <= log_length - at)
 }
 
 // The coefficients behind a count of `count`: refused where what is lent does not fit. `list` is the channel's without its

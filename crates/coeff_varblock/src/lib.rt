@@ -5,7 +5,7 @@ use coeff_group::plan::Plan;
 use coeff_walk::WalkEnd;
 use coeff_walk::walked::is_stopped;
 use coeff_walk::walked::read_by;
-use lent_check::Group;
+use lent_check::GroupSides;
 use order_store::Stretch;
 use order_store::stretch_of;
 use refusal::Refusal;
@@ -64,7 +64,7 @@ fn read_channel<'a>(
     n: usize,
     lists: Stretch,
     plan: Plan,
-    group: Group,
+    group: GroupSides,
     clusters: usize,
     preset_map: &'a [u8],
     store: &'a [u16],
@@ -119,7 +119,7 @@ pub struct VarblockRead {
 fn read_channels<'a>(
     lists: Stretch,
     plan: Plan,
-    group: Group,
+    group: GroupSides,
     clusters: usize,
     preset_map: &'a [u8],
     store: &'a [u16],
@@ -175,7 +175,7 @@ fn read_channels<'a>(
 }
 
 // A varblock's limits hold.
-fn varblock_small(plan: Plan, group: Group, clusters: usize, shift: u32) -> bool
+fn varblock_small(plan: Plan, group: GroupSides, clusters: usize, shift: u32) -> bool
     ensures { λ r. ⌜ r ≡ varblockSmall plan group clusters shift ⌝ }
 {
     (plan.shape.x < 32)
@@ -190,28 +190,28 @@ fn varblock_small(plan: Plan, group: Group, clusters: usize, shift: u32) -> bool
         & (shift <= 3)
 }
 
-// What is lent for a varblock fits: lengths and limits, with `list` the numbers in each list of its order.
+// What is lent for a varblock fits: lengths and limits, with `list_length` the numbers in each list of its order.
 fn varblock_fits(
     plan: Plan,
-    group: Group,
+    group: GroupSides,
     clusters: usize,
-    preset_map: usize,
-    list: usize,
+    preset_map_length: usize,
+    list_length: usize,
     at: usize,
     shift: u32,
-    log: usize,
+    log_length: usize,
 ) -> bool
-    ensures { λ r. ⌜ r ≡ varblockFits plan group clusters «preset_map» list at shift log ⌝ }
+    ensures { λ r. ⌜ r ≡ varblockFits plan group clusters «preset_map_length» «list_length» at shift «log_length» ⌝ }
 {
     if !varblock_small(plan, group, clusters, shift) {
         return false;
     }
-    if log < at {
+    if log_length < at {
         return false;
     }
-    (preset_map == 495 * clusters)
-        & (list == 128 << plan.shape.exponent)
-        & (192 << plan.shape.exponent <= log - at)
+    (preset_map_length == 495 * clusters)
+        & (list_length == 128 << plan.shape.exponent)
+        & (192 << plan.shape.exponent <= log_length - at)
 }
 
 // The three channels of a varblock, 1, 0, 2 in turn: refused where what is lent does not fit. No channel looks at another's
@@ -219,7 +219,7 @@ fn varblock_fits(
 // many symbols are read.
 pub fn read_planned<'a>(
     plan: Plan,
-    group: Group,
+    group: GroupSides,
     clusters: usize,
     preset_map: &'a [u8],
     store: &'a [u16],

@@ -1,5 +1,5 @@
 // The check of a lent layout or group: each cell by itself, then row by row.
-use crate::Group;
+use crate::GroupSides;
 use crate::cells::cells_sound;
 use crate::rows::close_row;
 use crate::rows::place_row;
@@ -55,7 +55,7 @@ pub fn is_lent_layout(bw: usize, bh: usize, kinds: &[u8], hf_mul: &[u32]) -> boo
 }
 
 // A lent group: sides 1 to 32 (2), lengths (1), 18.
-pub fn check_group(group: Group, kinds: &[u8], hf_mul: &[u32]) -> Checked
+pub fn check_group(group: GroupSides, kinds: &[u8], hf_mul: &[u32]) -> Checked
     ensures { λ r. ⌜ checked r ≡ checkOf 32 (group .bw) (group .bh) (now (kinds .entry)) (now («hf_mul» .entry)) ⌝ }
 {
     let bw = group.bw;

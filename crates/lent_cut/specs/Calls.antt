@@ -5,24 +5,24 @@ use lib.ListN.{length}
 use Rattle.refusal.specs.Said.{said}
 use Rattle.layout.specs.Check.{isLayout}
 use Rattle.layout.specs.Cut.{hasGroup, groupBw, groupBh, cut}
-use Rattle.lent_check.specs.declared.Group.{Group}
-use Rattle.lent_check.specs.Group.{groupOf}
+use Rattle.lent_check.specs.declared.GroupSides.{GroupSides}
+use Rattle.lent_check.specs.GroupSides.{groupSides}
 use Rattle.refusal.specs.declared.Said.{Said}
 use Rattle.refusal.specs.Answer.{Answer, gives, refuses, unless, passed, answeredBy}
 use Rattle.lent_sides.specs.Limits.{inLimits, lengthsFit}
 use Rattle.lent_cut.specs.declared.cut.CutAnswer.{CutAnswer}
 
-abbrev pub answered : CutAnswer → Answer Group
+abbrev pub answered : CutAnswer → Answer GroupSides
 answered (CutAnswer.Accepted g) = gives g
 answered (CutAnswer.Refused r) = refuses (said r)
 
 -- an answer, and the two lent buffers after it
 pub record Outcome : Type 0 where
-  pub answer : Answer Group
+  pub answer : Answer GroupSides
   pub kinds : List ℕ
   pub hfMul : List ℕ
 
-abbrev pub outcome : Answer Group → List ℕ → List ℕ → Outcome
+abbrev pub outcome : Answer GroupSides → List ℕ → List ℕ → Outcome
 outcome a k m = record { answer = a; kinds = k; hfMul = m }
 
 -- before work: the sides and the index of group g, the lengths of layout and buffers, the layout
@@ -41,4 +41,4 @@ cutBy checks done kinds hfMul = answeredBy checks (λ (s : Said). outcome (refus
 unfoldable pub cutOf : ℕ → ℕ → List ℕ → List ℕ → ℕ → List ℕ → List ℕ → Outcome
 cutOf bw bh kinds hfMul g outKinds outHfMul =
     cutBy (cutCheck bw bh kinds hfMul g (length outKinds) (length outHfMul))
-    (outcome (gives (groupOf (groupBw bw g) (groupBh bw bh g))) (cut bw bh g kinds) (cut bw bh g hfMul)) outKinds outHfMul
+    (outcome (gives (groupSides (groupBw bw g) (groupBh bw bh g))) (cut bw bh g kinds) (cut bw bh g hfMul)) outKinds outHfMul

@@ -1,5 +1,5 @@
 // The cut of a lent layout into pass groups, counted row by row from 0.
-use lent_check::Group;
+use lent_check::GroupSides;
 use lent_check::check::is_lent_layout;
 use lent_sides::limits::in_limits;
 use lent_sides::limits::lengths_fit;
@@ -14,13 +14,13 @@ ghost use Rattle.layout.specs.Cut.{groups, groupX, groupY, hasGroup, side, grou
 ghost use Rattle.refusal.specs.Answer.{gives};
 ghost use Rattle.refusal.specs.laws.Answer.{checked};
 ghost use Rattle.lent_sides.specs.Limits.{inLimits};
-ghost use Rattle.lent_check.specs.Group.{groupOf};
+ghost use Rattle.lent_check.specs.GroupSides.{groupSides};
 ghost use Rattle.lent_cut.specs.Calls.{answered, outcome, cutCheck, cutOf};
 ghost use Rattle.lent_cut.specs.laws.CutSteps.{Passed, cutDone};
 
 // What the cut answers: the sides of the group.
 pub enum CutAnswer {
-    Accepted(Group),
+    Accepted(GroupSides),
     Refused(Refusal),
 }
 
@@ -73,15 +73,15 @@ fn blocks_along(n: usize, q: usize) -> usize
 }
 
 // The sides of a group that the layout has.
-fn sides_of(bw: usize, bh: usize, index: usize) -> Group
+fn sides_of(bw: usize, bh: usize, index: usize) -> GroupSides
     requires { ⌜ (inLimits 256 bw bh ≡ true) × (hasGroup bw bh index ≡ true) ⌝ }
-    ensures { λ r. ⌜ r ≡ groupOf (groupBw bw index) (groupBh bw bh index) ⌝ }
+    ensures { λ r. ⌜ r ≡ groupSides (groupBw bw index) (groupBh bw bh index) ⌝ }
 {
     let gx = group_x(bw, index);
     let gy = group_y(bw, index);
     let group_bw = blocks_along(bw, gx);
     let group_bh = blocks_along(bh, gy);
-    Group {
+    GroupSides {
         bw: group_bw,
         bh: group_bh,
     }
@@ -118,26 +118,26 @@ fn cut_check(
     Checked::Fine
 }
 
-// The cells of a group whose first block is (left, top).
+// The cells of a group whose first block is (first_x, first_y).
 fn copy_cells(
     bw: usize,
     kinds: &[u8],
     hf_mul: &[u32],
-    left: usize,
-    top: usize,
+    first_x: usize,
+    first_y: usize,
     group_bw: usize,
     group_bh: usize,
     out_kinds: &mut [u8],
     out_hf_mul: &mut [u32],
 )
-    requires { ⌜ (left + «group_bw» ≤ bw) × (top + «group_bh» ≤ 256) × ((top + «group_bh») * bw ≤ length (now kinds)) × (length (now «hf_mul») ≡ length (now kinds)) × (length (now «out_kinds») ≡ «group_bh» * «group_bw») × (length (now «out_hf_mul») ≡ «group_bh» * «group_bw») ⌝ }
-    ensures { λ r. ⌜ (now («out_kinds» .exit) ≡ gridOf (λ x y. blockAt (now (kinds .entry)) bw (left + x) (top + y)) «group_bw» «group_bh») × (now («out_hf_mul» .exit) ≡ gridOf (λ x y. blockAt (now («hf_mul» .entry)) bw (left + x) (top + y)) «group_bw» «group_bh») ⌝ }
+    requires { ⌜ («first_x» + «group_bw» ≤ bw) × («first_y» + «group_bh» ≤ 256) × ((«first_y» + «group_bh») * bw ≤ length (now kinds)) × (length (now «hf_mul») ≡ length (now kinds)) × (length (now «out_kinds») ≡ «group_bh» * «group_bw») × (length (now «out_hf_mul») ≡ «group_bh» * «group_bw») ⌝ }
+    ensures { λ r. ⌜ (now («out_kinds» .exit) ≡ gridOf (λ x y. blockAt (now (kinds .entry)) bw («first_x» + x) («first_y» + y)) «group_bw» «group_bh») × (now («out_hf_mul» .exit) ≡ gridOf (λ x y. blockAt (now («hf_mul» .entry)) bw («first_x» + x) («first_y» + y)) «group_bw» «group_bh») ⌝ }
 {
     let mut y = 0;
     while y < group_bh {
         let mut x = 0;
         while x < group_bw {
-            let i = (top + y) * bw + (left + x);
+            let i = (first_y + y) * bw + (first_x + x);
             let j = y * group_bw + x;
             out_kinds[j] = kinds[i];
             out_hf_mul[j] = hf_mul[i];
@@ -156,7 +156,7 @@ fn copy_group(
     index: usize,
     out_kinds: &mut [u8],
     out_hf_mul: &mut [u32],
-) -> Group
+) -> GroupSides
     requires { ⌜ Passed bw bh (now kinds) (now «hf_mul») index (length (now «out_kinds»)) (length (now «out_hf_mul»)) ⌝ }
     ensures { λ r. ⌜ outcome (gives r) (now («out_kinds» .exit)) (now («out_hf_mul» .exit)) ≡ cutDone bw bh (now (kinds .entry)) (now («hf_mul» .entry)) index ⌝ }
 {

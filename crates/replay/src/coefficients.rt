@@ -12,7 +12,7 @@ use crate::record;
 use crate::store;
 use coeff_call::CoeffAnswer;
 use coeff_call::write_hf_coeff;
-use lent_check::Group;
+use lent_check::GroupSides;
 use recorded_answers::digest::of_bytes;
 use recorded_answers::digest::of_words;
 use recorded_lists::list::bytes;
@@ -28,8 +28,8 @@ fn put(out: &mut [usize; 48], answer: CoeffAnswer) {
     }
 }
 
-fn group(words: &[u32]) -> Group {
-    Group {
+fn group(words: &[u32]) -> GroupSides {
+    GroupSides {
         bw: length(words, 0),
         bh: length(words, 1),
     }

@@ -5,7 +5,7 @@ use mathlib.Core.List.{List}
 use Prim.Native.Nat.{ℕ}
 use Rattle.refusal.specs.Answer.{Answer}
 use Rattle.refusal.specs.Handed.{Handed, handed}
-use Rattle.lent_check.specs.declared.Group.{Group}
+use Rattle.lent_check.specs.declared.GroupSides.{GroupSides}
 use Rattle.lent_cut.specs.declared.cut.CutAnswer.{CutAnswer}
 use Rattle.lent_cut.specs.Calls.{Outcome, outcome, answered}
 use Rattle.lent_likeness.specs.declared.LikeAnswer.{LikeAnswer}
@@ -13,7 +13,7 @@ use Rattle.lent_likeness.specs.Calls.{answered as answeredAlike}
 use Rattle.c_groups.specs.Record.{CutLeaves}
 
 -- the call's own answer, handed on
-pub cut-leaves : (h : Handed Group) (a : CutAnswer) (k m : List ℕ) (kept : Group) (o : Outcome) → outcome (answered a) k m ≡ o → h ≡ handed (answered a) kept
+pub cut-leaves : (h : Handed GroupSides) (a : CutAnswer) (k m : List ℕ) (kept : GroupSides) (o : Outcome) → outcome (answered a) k m ≡ o → h ≡ handed (answered a) kept
     → CutLeaves h k m kept o
 cut-leaves h a k m kept o e f =
     record {

@@ -99,13 +99,13 @@ module _ (P : PassGroup) (presets shift clusterMap log g0 g1 g2 : ℕ) where
         checks-1 d = rw (a, b, c, d)
 
         -- the lengths as the code compares them
-        pub lengths-are : (first r : Bool)
-            → first ≡ readLengthsFit (length (P .kinds)) (length (P .hfMul)) (P .lfThere) (length (P .lf0)) (length (P .lf1)) (length (P .lf2)) (length (P .store)) (blocks P)
-            → r ≡ otherLengthsFit (clustersOf P) presets clusterMap g0 g1 g2 log (blocks P) first
+        pub lengths-are : (readFit r : Bool)
+            → readFit ≡ readLengthsFit (length (P .kinds)) (length (P .hfMul)) (P .lfThere) (length (P .lf0)) (length (P .lf1)) (length (P .lf2)) (length (P .store)) (blocks P)
+            → r ≡ otherLengthsFit (clustersOf P) presets clusterMap g0 g1 g2 log (blocks P) readFit
             → allLengthsFit P presets clusterMap log g0 g1 g2 ≡ r
-        lengths-are first r e f =
+        lengths-are readFit r e f =
             sym (f
-            ∙ written-is (clustersOf P) presets clusterMap g0 g1 g2 log (blocks P) first (few-clusters (P .contexts) c) (parameters-fit shift presets b .1) (most-blocks P a)
+            ∙ written-is (clustersOf P) presets clusterMap g0 g1 g2 log (blocks P) readFit (few-clusters (P .contexts) c) (parameters-fit shift presets b .1) (most-blocks P a)
             ∙ rw e)
 
         module _ (d : allLengthsFit P presets clusterMap log g0 g1 g2 ≡ true) where

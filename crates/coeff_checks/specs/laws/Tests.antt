@@ -19,21 +19,21 @@ use Rattle.order_store.specs.Store.{PLACES}
 use Rattle.coeff_checks.specs.Checks.{threeFit}
 
 abbrev pub lfLengthsFit : Bool → ℕ → ℕ → ℕ → ℕ → Bool
-lfLengthsFit there lf0 lf1 lf2 n = cond there (threeFit lf0 lf1 lf2 n) true
+lfLengthsFit there lf0Length lf1Length lf2Length n = cond there (threeFit lf0Length lf1Length lf2Length n) true
 
-abbrev pub readLengthsFit : (kinds hfMul : ℕ) (there : Bool) (lf0 lf1 lf2 store n : ℕ) → Bool
-readLengthsFit kinds hfMul there lf0 lf1 lf2 store n = eqb kinds n && eqb hfMul n && lfLengthsFit there lf0 lf1 lf2 n && eqb store (2 * PLACES)
+abbrev pub readLengthsFit : (kindsLength hfMulLength : ℕ) (there : Bool) (lf0Length lf1Length lf2Length storeLength n : ℕ) → Bool
+readLengthsFit kindsLength hfMulLength there lf0Length lf1Length lf2Length storeLength n = eqb kindsLength n && eqb hfMulLength n && lfLengthsFit there lf0Length lf1Length lf2Length n && eqb storeLength (2 * PLACES)
 
 -- within the limits that are tested before lengths
-abbrev pub otherLengthsFit : (clusters presets clusterMap g0 g1 g2 log n : ℕ) → Bool → Bool
-otherLengthsFit clusters presets clusterMap g0 g1 g2 log n first =
+abbrev pub otherLengthsFit : (clusters presets clusterMapLength g0Length g1Length g2Length logLength n : ℕ) → Bool → Bool
+otherLengthsFit clusters presets clusterMapLength g0Length g1Length g2Length logLength n readFit =
     leb clusters 16
     && leb presets 256
     && leb n 1024
-    && first
-    && eqb clusterMap (495 * clusters * presets)
-    && threeFit g0 g1 g2 (64 * n)
-    && leb (192 * n) log
+    && readFit
+    && eqb clusterMapLength (495 * clusters * presets)
+    && threeFit g0Length g1Length g2Length (64 * n)
+    && leb (192 * n) logLength
 
 -- the check of a group lets it pass
 abbrev pub passes : Answer Unit → Bool
@@ -65,9 +65,9 @@ pub map-most : (clusters presets : ℕ) → clusters ≤ 16 → presets ≤ 256 
 map-most clusters presets a b = mul-le-mul (let c : 495 * clusters ≤ 7920 = omega arith in c) b
 
 -- the lengths alone, once the limits are met
-pub written-is : (clusters presets clusterMap g0 g1 g2 log n : ℕ) (first : Bool) → clusters ≤ 16 → presets ≤ 256 → n ≤ 1024
-    → otherLengthsFit clusters presets clusterMap g0 g1 g2 log n first ≡ first && eqb clusterMap (495 * clusters * presets) && threeFit g0 g1 g2 (64 * n) && leb (192 * n) log
-written-is clusters presets clusterMap g0 g1 g2 log n first a b c = rw (le-leb clusters 16 a, le-leb presets 256 b, le-leb n 1024 c)
+pub written-is : (clusters presets clusterMap g0 g1 g2 log n : ℕ) (readFit : Bool) → clusters ≤ 16 → presets ≤ 256 → n ≤ 1024
+    → otherLengthsFit clusters presets clusterMap g0 g1 g2 log n readFit ≡ readFit && eqb clusterMap (495 * clusters * presets) && threeFit g0 g1 g2 (64 * n) && leb (192 * n) log
+written-is clusters presets clusterMap g0 g1 g2 log n readFit a b c = rw (le-leb clusters 16 a, le-leb presets 256 b, le-leb n 1024 c)
 
 -- 18 alone, once sides and lengths fit
 pub passes-is : (bw bh : ℕ) (kinds hfMul : List ℕ) → inLimits 32 bw bh ≡ true → length kinds ≡ bh * bw → length hfMul ≡ bh * bw → groupPasses bw bh kinds hfMul ≡ isLayout bw bh kinds hfMul

@@ -10,7 +10,7 @@ use lib.Seq.{drop-cons, drop-drop}
 use lib.Pow.{pow-pos}
 use Rattle.refusal.specs.declared.Refusal.{Refusal}
 use Rattle.refusal.specs.declared.Refusal.the-variants.{SymbolsEnd, Count}
-use Rattle.lent_check.specs.declared.Group.{Group}
+use Rattle.lent_check.specs.declared.GroupSides.{GroupSides}
 use Rattle.coeff_walk.specs.declared.WalkEnd.{WalkEnd}
 use Rattle.coeff_walk.specs.declared.WalkEnd.the-variants.{Done, Stopped}
 use Rattle.coeff_walk.specs.Walk.{Walked, done, stopped}
@@ -30,7 +30,7 @@ use Rattle.order_store.specs.Store.{stretch}
 
 -- what the reading of the n-th channel walked hands back: how it ended, and its count over the varblock's blocks; whatever rows the reading
 -- has for the other channels, and whatever was left over of the counts before
-pub record ChannelShown (p : Plan) (group : Group) (clusters : ℕ) (presetMap store symbols : List ℕ) (at shift : ℕ) (rows : PerChannel) (log : List ℕ) (G : PerChannel) (n : ℕ) (w : WalkEnd) (count : ℕ) (log₁ : List ℕ) (G₁ : PerChannel) : Type 0 where
+pub record ChannelShown (p : Plan) (group : GroupSides) (clusters : ℕ) (presetMap store symbols : List ℕ) (at shift : ℕ) (rows : PerChannel) (log : List ℕ) (G : PerChannel) (n : ℕ) (w : WalkEnd) (count : ℕ) (log₁ : List ℕ) (G₁ : PerChannel) : Type 0 where
   pub shown : (R : PerChannel) (left : ℕ) → getD R (channelWalked n) [] ≡ getD rows (channelWalked n) []
       → Shown symbols (at + 64 * 2 ^ (p .shape .exponent)) w (rowBy R (channelWalked n) (p .shape .x) (p .shape .wide) count) log₁ G₁
       (readItem shift clusters presetMap (itemBy p group store n (channelWalked n)) (going (drop at symbols) at log G R left))
@@ -120,7 +120,7 @@ item-size v bw context order h =
     length-places (v .turn) (8 * bw) (8 * v .x) (8 * v .y) (drop (2 ^ (v .exponent)) (paired order)) ∙ length-drop (2 ^ (v .exponent)) (paired order) ∙ omega arith
 
 -- channel c, walked n-th, by its list of the order
-module _ (p : Plan) (group : Group) (clusters : ℕ) (presetMap store symbols : List ℕ) (shift : ℕ) (planned : Planned p group clusters presetMap store shift) (n at : ℕ) (rows : PerChannel) (log : List ℕ) (G : PerChannel)
+module _ (p : Plan) (group : GroupSides) (clusters : ℕ) (presetMap store symbols : List ℕ) (shift : ℕ) (planned : Planned p group clusters presetMap store shift) (n at : ℕ) (rows : PerChannel) (log : List ℕ) (G : PerChannel)
     (hn : n < 3) (room : at + 64 * 2 ^ (p .shape .exponent) ≤ length log) (c : ℕ) (below : c < 3) (ec : c ≡ channelWalked n) (order : List ℕ) (eo : order ≡ stretch store (p .order) c) where
   abbrev K : ℕ
   K = 2 ^ (p .shape .exponent)

@@ -5,7 +5,7 @@ use mathlib.Core.List.{List, [], _∷_}
 use Prim.Native.Nat.{ℕ, zero, suc, _+_, _*_, _^_, _-_, _<_, _≤_}
 use native.Mathlib.Omega.{arith}
 use lib.ListN.{length, set, drop}
-use Rattle.lent_check.specs.declared.Group.{Group}
+use Rattle.lent_check.specs.declared.GroupSides.{GroupSides}
 use Rattle.coeff_walk.specs.declared.WalkEnd.{WalkEnd}
 use Rattle.coeff_walk.specs.declared.WalkEnd.the-variants.{Done}
 use Rattle.coeff_walk.specs.laws.Outcome.{isStopped, readBy}
@@ -49,7 +49,7 @@ module _ (symbols : List ℕ) where
       absurd (let a : isStopped w ≡ false = ap isStopped (s .it .answer) in let y : _≡_ {A = ℕ} 0 1 = cc in omega arith)
   shown-stop shift clusters presetMap its most more w rows rows₁ log G (refused why at log′ G′) s e = rw (read-refused shift clusters presetMap its why at log′ G′) (record { it = s .it })
 
-module _ (p : Plan) (group : Group) (clusters : ℕ) (presetMap store symbols : List ℕ) (at₀ shift : ℕ) (whole : Reading) where
+module _ (p : Plan) (group : GroupSides) (clusters : ℕ) (presetMap store symbols : List ℕ) (at₀ shift : ℕ) (whole : Reading) where
   abbrev K : ℕ
   K = 2 ^ (p .shape .exponent)
 
@@ -128,6 +128,6 @@ module _ (p : Plan) (group : Group) (clusters : ℕ) (presetMap store symbols : 
           })
 
 -- before the first channel
-pub channels-start : (p : Plan) (group : Group) (clusters : ℕ) (presetMap store symbols : List ℕ) (at₀ shift : ℕ) (rows : PerChannel) (log : List ℕ) (G : PerChannel) (left : ℕ)
+pub channels-start : (p : Plan) (group : GroupSides) (clusters : ℕ) (presetMap store symbols : List ℕ) (at₀ shift : ℕ) (rows : PerChannel) (log : List ℕ) (G : PerChannel) (left : ℕ)
     → ChannelsDue p group clusters presetMap store symbols at₀ shift (readItems shift clusters presetMap (itemsBy p group store) (going (drop at₀ symbols) at₀ log G (three rows) left)) 0 at₀ (three rows) log G
 channels-start p group clusters presetMap store symbols at₀ shift rows log G left = record { left = left; due = refl; few = omega arith }

@@ -14,8 +14,8 @@ use Rattle.layout.specs.Valid.{Cells, Fits, Layout}
 use Rattle.layout.specs.Varblocks.{cornersRow, cornersFrom, area}
 use Rattle.layout.specs.Varblocks as layout
 use Rattle.layout.specs.laws.Theorems.{layout-area}
-use Rattle.lent_check.specs.declared.Group.{Group}
-use Rattle.lent_check.specs.Group.{groupOf}
+use Rattle.lent_check.specs.declared.GroupSides.{GroupSides}
+use Rattle.lent_check.specs.GroupSides.{groupSides}
 use Rattle.order_store.specs.Store.{PLACES, stretch}
 use Rattle.context_record.specs.Record.{fit}
 use Rattle.context_index.specs.laws.Bounds.{context-lt}
@@ -74,8 +74,8 @@ module _ (P : PassGroup) where
   abbrev pub cornerAt : ℕ → ℕ → layout.Varblock
   cornerAt x y = record { x = x; y = y; type = K x y - 2; hfMul = M x y }
 
-  abbrev pub groupAt : Group
-  groupAt = groupOf (P .bw) (P .bh)
+  abbrev pub groupAt : GroupSides
+  groupAt = groupSides (P .bw) (P .bh)
 
   -- the plan of the corner at x, y
   abbrev pub planAt : ℕ → ℕ → Plan

@@ -11,7 +11,7 @@ use lib.Pow.{pow-pos}
 use Rattle.laws.specs.laws.Cases.{and-true}
 use Rattle.refusal.specs.declared.Refusal.the-variants.{Length}
 use Rattle.order_sizes.specs.BlockSizes.{widthOf, heightOf}
-use Rattle.lent_check.specs.declared.Group.{Group}
+use Rattle.lent_check.specs.declared.GroupSides.{GroupSides}
 use Rattle.order_store.specs.declared.Stretch.{Stretch}
 use Rattle.order_store.specs.Store.{PLACES, firstOf}
 use Rattle.order_store.specs.LookedUp.{stretchFrom, stretchAt}
@@ -23,7 +23,7 @@ use Rattle.coeff_group.specs.laws.Stored.{stretch-long, lists-are}
 use Rattle.coeff_group.specs.laws.Plans.{itemsBy, Planned}
 
 -- a varblock's limits: at most 2^10 blocks, at least one of them wide, in a group of at most 32 × 32, at most 16 clusters
-abbrev pub varblockSmall : Plan → Group → (clusters shift : ℕ) → Bool
+abbrev pub varblockSmall : Plan → GroupSides → (clusters shift : ℕ) → Bool
 varblockSmall p group clusters shift =
     ltb (p .shape .x) 32
     && ltb (p .shape .y) 32
@@ -36,17 +36,17 @@ varblockSmall p group clusters shift =
     && leb clusters 16
     && leb shift 3
 
--- what is lent for a varblock fits: its limits, a preset's whole part of the cluster map, an order of as many places (`list` numbers), and a log with room for all its symbols
-unfoldable pub varblockFits : Plan → Group → (clusters presetMap list at shift log : ℕ) → Bool
-varblockFits p group clusters presetMap list at shift log =
+-- what is lent for a varblock fits: its limits, a preset's whole part of the cluster map, an order of as many places (`listLength` numbers), and a log with room for all its symbols
+unfoldable pub varblockFits : Plan → GroupSides → (clusters presetMapLength listLength at shift logLength : ℕ) → Bool
+varblockFits p group clusters presetMapLength listLength at shift logLength =
     varblockSmall p group clusters shift
-    && leb at log
-    && (eqb presetMap (495 * clusters)
-    && eqb list (128 * 2 ^ (p .shape .exponent))
-    && leb (192 * 2 ^ (p .shape .exponent)) (log - at))
+    && leb at logLength
+    && (eqb presetMapLength (495 * clusters)
+    && eqb listLength (128 * 2 ^ (p .shape .exponent))
+    && leb (192 * 2 ^ (p .shape .exponent)) (logLength - at))
 
 -- the reading of a varblock, `left` of the counts before being left over; nothing is read where what is lent does not fit
-abbrev pub plannedRead : Plan → Group → (clusters : ℕ) (presetMap store : List ℕ) (rows : PerChannel) (symbols : List ℕ) (at shift : ℕ) (log : List ℕ) (G : PerChannel) (left : ℕ) → Reading
+abbrev pub plannedRead : Plan → GroupSides → (clusters : ℕ) (presetMap store : List ℕ) (rows : PerChannel) (symbols : List ℕ) (at shift : ℕ) (log : List ℕ) (G : PerChannel) (left : ℕ) → Reading
 plannedRead p group clusters presetMap store rows symbols at shift log G left =
     cond (varblockFits p group clusters (length presetMap) (stretchAt (length store) (p .order) 0 .len) at shift (length log))
     (readItems shift clusters presetMap (itemsBy p group store) (going (drop at symbols) at log G (three rows) left))
@@ -65,7 +65,7 @@ found numbers o m h = go (ltb o 13) refl (eqb numbers (2 * PLACES)) refl
     go false a d b e = absurd (omega arith)
 
 -- the limits, each by itself
-pub record VarblockLimits (p : Plan) (group : Group) (clusters shift : ℕ) : Type 0 where
+pub record VarblockLimits (p : Plan) (group : GroupSides) (clusters shift : ℕ) : Type 0 where
   pub inX : p .shape .x < 32
   pub inY : p .shape .y < 32
   pub some : 1 ≤ p .shape .wide
@@ -77,7 +77,7 @@ pub record VarblockLimits (p : Plan) (group : Group) (clusters shift : ℕ) : Ty
   pub few : clusters ≤ 16
   pub shifts : shift ≤ 3
 
-pub small-limits : (p : Plan) (group : Group) (clusters shift : ℕ) → varblockSmall p group clusters shift ≡ true → VarblockLimits p group clusters shift
+pub small-limits : (p : Plan) (group : GroupSides) (clusters shift : ℕ) → varblockSmall p group clusters shift ≡ true → VarblockLimits p group clusters shift
 small-limits p group clusters shift e =
     let i = and-true _ _ e in
     let h = and-true _ _ (i .0) in
@@ -101,7 +101,7 @@ small-limits p group clusters shift e =
       shifts = leb-true shift 3 (i .1);
     }
 
-module _ (p : Plan) (group : Group) (clusters : ℕ) (presetMap store : List ℕ) (at shift log : ℕ) where
+module _ (p : Plan) (group : GroupSides) (clusters : ℕ) (presetMap store : List ℕ) (at shift log : ℕ) where
   pub fits-planned : varblockFits p group clusters (length presetMap) (stretchAt (length store) (p .order) 0 .len) at shift log ≡ true
       → Planned p group clusters presetMap store shift × (at + 192 * 2 ^ (p .shape .exponent) ≤ log)
   unfolding varblockFits
@@ -161,7 +161,7 @@ module _ (p : Plan) (group : Group) (clusters : ℕ) (presetMap store : List ℕ
       )
 
 -- the outcomes
-module _ (p : Plan) (group : Group) (clusters : ℕ) (presetMap store : List ℕ) (rows : PerChannel) (symbols : List ℕ) (at shift : ℕ) (log : List ℕ) (G : PerChannel) where
+module _ (p : Plan) (group : GroupSides) (clusters : ℕ) (presetMap store : List ℕ) (rows : PerChannel) (symbols : List ℕ) (at shift : ℕ) (log : List ℕ) (G : PerChannel) where
   abbrev fitting : Bool
   fitting = varblockFits p group clusters (length presetMap) (stretchAt (length store) (p .order) 0 .len) at shift (length log)
 

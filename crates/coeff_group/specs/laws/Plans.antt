@@ -12,7 +12,7 @@ use Rattle.dct_select.specs.Transforms.{Row, row, TRANSFORMS, wide, high, order
 use Rattle.refusal.specs.Answer.{Answer, gives, refuses}
 use Rattle.dct_select.specs.LookUp.{numberOf, lookUp}
 use Rattle.layout.specs.Grid.{blockAt}
-use Rattle.lent_check.specs.declared.Group.{Group}
+use Rattle.lent_check.specs.declared.GroupSides.{GroupSides}
 use Rattle.order_store.specs.Store.{PLACES, stretch}
 use Rattle.context_index.specs.laws.Contexts.{blockContexts}
 use Rattle.context_index.specs.Lists.{contextsBy}
@@ -27,7 +27,7 @@ abbrev pub shapeOf : ℕ → ℕ → ℕ → Shape
 shapeOf x y t = record { x = x; y = y; wide = wide t; exponent = exponentOf t; turn = turns t }
 
 -- the varblock of transform t and hf_mul hfMul at block x, y
-abbrev pub planBy : ℕ → ℕ → Group → ℕ → ℕ → List ℕ → List ℕ → List ℕ → List ℕ → Bool → List ℕ → List ℕ → List ℕ → Plan
+abbrev pub planBy : ℕ → ℕ → GroupSides → ℕ → ℕ → List ℕ → List ℕ → List ℕ → List ℕ → Bool → List ℕ → List ℕ → List ℕ → Plan
 planBy x y group t hfMul lengths lf qf map there lf0 lf1 lf2 = record {
   shape = shapeOf x y t;
   order = orderOf t;
@@ -39,18 +39,18 @@ abbrev pub inChannel : ℕ → Item → Item
 inChannel c it = record { channel = c; x = it .x; y = it .y; wide = it .wide; blocks = it .blocks; blockContext = it .blockContext; cells = it .cells }
 
 -- channel c, the n-th walked
-abbrev pub itemBy : Plan → Group → List ℕ → ℕ → ℕ → Item
+abbrev pub itemBy : Plan → GroupSides → List ℕ → ℕ → ℕ → Item
 itemBy p group store n c = inChannel c (itemAt (p .shape) (group .bw) (getD (p .«block_contexts») n 0) (stretch store (p .order) c))
 
 -- the channel that is walked n-th
 abbrev pub channelWalked : ℕ → ℕ
 channelWalked n = getD (1 ∷ 0 ∷ 2 ∷ []) n 0
 
-abbrev pub itemsBy : Plan → Group → List ℕ → List Item
+abbrev pub itemsBy : Plan → GroupSides → List ℕ → List Item
 itemsBy p group store = itemBy p group store 0 1 ∷ itemBy p group store 1 0 ∷ itemBy p group store 2 2 ∷ []
 
 -- what the reading of a planned varblock requires, but for room in the log
-pub record Planned (p : Plan) (group : Group) (clusters : ℕ) (presetMap store : List ℕ) (shift : ℕ) : Type 0 where
+pub record Planned (p : Plan) (group : GroupSides) (clusters : ℕ) (presetMap store : List ℕ) (shift : ℕ) : Type 0 where
   pub inX : p .shape .x < 32
   pub inY : p .shape .y < 32
   pub some : 1 ≤ p .shape .wide

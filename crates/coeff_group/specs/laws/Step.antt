@@ -4,7 +4,7 @@ use mathlib.Core.Bool.{true}
 use mathlib.Core.List.{List}
 use Prim.Native.Nat.{ℕ, _+_, _*_, _^_, _≤_}
 use lib.ListN.{length, drop}
-use Rattle.lent_check.specs.declared.Group.{Group}
+use Rattle.lent_check.specs.declared.GroupSides.{GroupSides}
 use Rattle.coeff_walk.specs.declared.WalkEnd.{WalkEnd}
 use Rattle.coeff_walk.specs.laws.Outcome.{isStopped}
 use Rattle.coeff_group.specs.declared.plan.Plan.{Plan}
@@ -15,7 +15,7 @@ use Rattle.coeff_group.specs.laws.Rewritten.{three-is, rewritten, Varblo
 use Rattle.coeff_group.specs.laws.Lent.{plannedRead, varblock-is}
 use Rattle.coeff_group.specs.laws.Channels.{shown-stopped}
 
-module _ (p : Plan) (group : Group) (clusters : ℕ) (presetMap store : List ℕ) (rows : PerChannel) (symbols : List ℕ) (at shift : ℕ) (log : List ℕ) (G : PerChannel)
+module _ (p : Plan) (group : GroupSides) (clusters : ℕ) (presetMap store : List ℕ) (rows : PerChannel) (symbols : List ℕ) (at shift : ℕ) (log : List ℕ) (G : PerChannel)
     (planned : Planned p group clusters presetMap store shift) (room : at + 192 * 2 ^ (p .shape .exponent) ≤ length log) (three : length rows ≡ 3) (w : WalkEnd) (counts log₁ : List ℕ) (G₁ : PerChannel)
     (told : (left : ℕ) → VarblockShown p symbols (at + 192 * 2 ^ (p .shape .exponent)) w counts rows log₁ G₁ (plannedRead p group clusters presetMap store rows symbols at shift log G left)) where
   abbrev most : ℕ

@@ -18,7 +18,7 @@ returns c = rw (sym (c .before .spot-small .ensures) ∙ not-true (c .before .sp
 
 returns-2 : tie.Need-returns-2
 unfolding lentFits
-returns-2 c = let a = c .before .before .before .args in rw (small (c .before), lt-leb (a .at) (a .log) (c .if2 .taken))
+returns-2 c = let a = c .before .before .before .args in rw (small (c .before), lt-leb (a .at) (a .log-length) (c .if2 .taken))
 
 shl-result : tie.Need-shl-result
 shl-result c = let a = c .before .before .before .before .args in let s = small-limits (a .spot) (a .shift) (small (c .before .before)) .exponent in omega (arith, s)
@@ -27,7 +27,7 @@ returns-3 : tie.Need-returns-3
 unfolding lentFits
 returns-3 c =
     let a = c .before .before .before .before .args in
-    rw (small (c .before .before), le-leb (a .at) (a .log) (c .before .if2 .left), shifted-left 63 (a .spot .exponent) (omega arith) (small-limits (a .spot) (a .shift) (small (c .before .before)) .exponent))
+    rw (small (c .before .before), le-leb (a .at) (a .log-length) (c .before .if2 .left), shifted-left 63 (a .spot .exponent) (omega arith) (small-limits (a .spot) (a .shift) (small (c .before .before)) .exponent))
 
 pub lent-fits-spec : {M : Type 1} → statement M
 lent-fits-spec = tie.close (tie.spec (λ c κs. search needs) returns returns-2 shl-result returns-3)

@@ -21,14 +21,14 @@ returns c = rw (sym (c .before .varblock-small .ensures) ∙ not-true (c .before
 
 returns-2 : tie.Need-returns-2
 unfolding varblockFits
-returns-2 c = let a = c .before .before .before .args in rw (small (c .before), lt-leb (a .at) (a .log) (c .if2 .taken))
+returns-2 c = let a = c .before .before .before .args in rw (small (c .before), lt-leb (a .at) (a .log-length) (c .if2 .taken))
 
 returns-3 : tie.Need-returns-3
 unfolding varblockFits
 returns-3 c =
     let a = c .before .before .before .before .before .args in
     let e = limits (c .before .before .before) .exponent in
-    rw (small (c .before .before .before), le-leb (a .at) (a .log) (c .before .before .if2 .left), shifted-left 128 (a .plan .shape .exponent) (omega arith) e, shifted-left 192 (a .plan .shape .exponent) (omega arith) e)
+    rw (small (c .before .before .before), le-leb (a .at) (a .log-length) (c .before .before .if2 .left), shifted-left 128 (a .plan .shape .exponent) (omega arith) e, shifted-left 192 (a .plan .shape .exponent) (omega arith) e)
 
 pub varblock-fits-spec : {M : Type 1} → statement M
 varblock-fits-spec = tie.close (tie.spec (λ c κs. search needs) returns returns-2 (λ c. omega (arith, limits (c .before) .few)) (λ c. omega (arith, limits (c .before .before) .exponent)) (λ c. omega (arith, limits (c .before .before .before) .exponent)) returns-3)

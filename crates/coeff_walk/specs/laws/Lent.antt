@@ -23,13 +23,13 @@ spotSmall spot shift =
     && leb shift 3
 
 -- limits, a list of at most 63 places for each block (two numbers a place), the 458 entries of the coefficients, and a log with room for a symbol of each place
-unfoldable pub lentFits : Spot → (list at coeffMap shift log : ℕ) → Bool
-lentFits spot list at coeffMap shift log =
+unfoldable pub lentFits : Spot → (listLength at coeffMapLength shift logLength : ℕ) → Bool
+lentFits spot listLength at coeffMapLength shift logLength =
     spotSmall spot shift
-    && leb at log
-    && (leb (list / 2) (63 * 2 ^ (spot .exponent))
-    && eqb coeffMap 458
-    && leb (list / 2) (log - at))
+    && leb at logLength
+    && (leb (listLength / 2) (63 * 2 ^ (spot .exponent))
+    && eqb coeffMapLength 458
+    && leb (listLength / 2) (logLength - at))
 
 -- the reading behind a count, `firstPrev` if it is at most four for each block; nothing is read where what is lent does not fit
 abbrev pub placesRead : Spot → (list symbols : List ℕ) (at count : ℕ) → Bool → (coeffMap : List ℕ) (shift : ℕ) (log g : List ℕ) → Walked

@@ -19,8 +19,8 @@ use Rattle.lent_sides.specs.Limits.{inLimits, lengthsFit}
 use Rattle.lent_sides.specs.laws.Limits.{in-limits, lengths-fit}
 use Rattle.lent_cut.specs.Calls.{Outcome, outcome, cutCheck, cutOf}
 use Rattle.refusal.specs.laws.Answer.{pass}
-use Rattle.lent_check.specs.declared.Group.{Group}
-use Rattle.lent_check.specs.Group.{groupOf}
+use Rattle.lent_check.specs.declared.GroupSides.{GroupSides}
+use Rattle.lent_check.specs.GroupSides.{groupSides}
 
 module _ (bw bh : ℕ) (kinds hfMul : List ℕ) (g ok om : ℕ) where
   pub cut-size : inLimits 256 bw bh ≡ false → refuses (saidAt 2 0 0) ≡ cutCheck bw bh kinds hfMul g ok om
@@ -71,7 +71,7 @@ module _ (bw bh : ℕ) (kinds hfMul : List ℕ) (g ok om : ℕ) where
 
 -- the outcome of a cut that is not refused
 abbrev pub cutDone : ℕ → ℕ → List ℕ → List ℕ → ℕ → Outcome
-cutDone bw bh kinds hfMul g = outcome (gives (groupOf (groupBw bw g) (groupBh bw bh g))) (cut bw bh g kinds) (cut bw bh g hfMul)
+cutDone bw bh kinds hfMul g = outcome (gives (groupSides (groupBw bw g) (groupBh bw bh g))) (cut bw bh g kinds) (cut bw bh g hfMul)
 
 module _ (bw bh : ℕ) (kinds hfMul : List ℕ) (g : ℕ) (outKinds outHfMul : List ℕ) where
   pub cut-refused : (s : Said) → cutCheck bw bh kinds hfMul g (length outKinds) (length outHfMul) ≡ refuses s → cutOf bw bh kinds hfMul g outKinds outHfMul ≡ outcome (refuses s) outKinds outHfMul
@@ -83,7 +83,7 @@ module _ (bw bh : ℕ) (kinds hfMul : List ℕ) (g : ℕ) (outKinds outHfMul : L
   cut-done e = rw e
 
   -- the group's cells are in the layout, and the buffers are as long as it has cells
-  pub record Ready (gx gy : ℕ) (r : Group) : Type 0 where
+  pub record Ready (gx gy : ℕ) (r : GroupSides) : Type 0 where
     pub fitsX : 32 * gx + r .bw ≤ bw
     pub fitsY : 32 * gy + r .bh ≤ 256
     pub fits : (32 * gy + r .bh) * bw ≤ length kinds
@@ -91,10 +91,10 @@ module _ (bw bh : ℕ) (kinds hfMul : List ℕ) (g : ℕ) (outKinds outHfMul : L
     pub outKindsFit : length outKinds ≡ r .bh * r .bw
     pub outHfMulFit : length outHfMul ≡ r .bh * r .bw
 
-  pub ready : (gx gy : ℕ) (r : Group) → Passed bw bh kinds hfMul g (length outKinds) (length outHfMul) → gx ≡ groupX bw g → gy ≡ groupY bw g → r ≡ groupOf (groupBw bw g) (groupBh bw bh g) → Ready gx gy r
+  pub ready : (gx gy : ℕ) (r : GroupSides) → Passed bw bh kinds hfMul g (length outKinds) (length outHfMul) → gx ≡ groupX bw g → gy ≡ groupY bw g → r ≡ groupSides (groupBw bw g) (groupBh bw bh g) → Ready gx gy r
   ready gx gy r p ex ey er = rw (ex, ey, er) here
     where
-      here : Ready (groupX bw g) (groupY bw g) (groupOf (groupBw bw g) (groupBh bw bh g))
+      here : Ready (groupX bw g) (groupY bw g) (groupSides (groupBw bw g) (groupBh bw bh g))
       here =
           let s = in-limits 256 bw bh (p .sides) in
           let x = starts-x bw bh g (p .index) in
@@ -105,7 +105,7 @@ module _ (bw bh : ℕ) (kinds hfMul : List ℕ) (g : ℕ) (outKinds outHfMul : L
           let m = mul-le-mul-right bw h in
           record { fitsX = omega arith; fitsY = omega arith; fits = omega arith; same = omega arith; outKindsFit = b .0; outHfMulFit = b .1 }
 
-pub copied : (bw bh g : ℕ) (l : List ℕ) (gx gy : ℕ) (r : Group) → gx ≡ groupX bw g → gy ≡ groupY bw g → r ≡ groupOf (groupBw bw g) (groupBh bw bh g)
+pub copied : (bw bh g : ℕ) (l : List ℕ) (gx gy : ℕ) (r : GroupSides) → gx ≡ groupX bw g → gy ≡ groupY bw g → r ≡ groupSides (groupBw bw g) (groupBh bw bh g)
     → gridOf (λ x y. cellAt l bw (32 * gx + x) (32 * gy + y)) (r .bw) (r .bh) ≡ cut bw bh g l
 unfolding cut
 copied bw bh g l gx gy r ex ey er = rw (ex, ey, er)

@@ -11,18 +11,18 @@ use Rattle.layout.specs.Check.{isLayout}
 use Rattle.layout.specs.Cut.{hasGroup, groupBw, groupBh, cut}
 use Rattle.layout.specs.laws.CutLaws.{cut-layout, starts-x, starts-y}
 use Rattle.layout.specs.laws.Theorems.{layout-iff}
-use Rattle.lent_check.specs.declared.Group.{Group}
+use Rattle.lent_check.specs.declared.GroupSides.{GroupSides}
 use Rattle.refusal.specs.Answer.{Answer, gives, refuses, unless}
 use Rattle.lent_check.specs.Calls.{checkOf}
 use Rattle.lent_sides.specs.Limits.{inLimits, lengthsFit}
 use Rattle.lent_sides.specs.laws.Limits.{lengths-fit}
-use Rattle.lent_check.specs.Group.{groupOf}
+use Rattle.lent_check.specs.GroupSides.{groupSides}
 use Rattle.lent_cut.specs.Calls.{Outcome, outcome, cutCheck, cutBy, cutOf}
 use Rattle.lent_check.specs.laws.Theorems.{checks}
 use Rattle.lent_cut.specs.laws.CutSteps.{Passed, passed, cut-done, cut-refused}
 
 -- a refusal's number, 0 for a result
-abbrev numberOf : Answer Group → ℕ
+abbrev numberOf : Answer GroupSides → ℕ
 numberOf (gives g) = 0
 numberOf (refuses s) = s .number
 
@@ -35,7 +35,7 @@ module _ (bw bh : ℕ) (kinds hfMul : List ℕ) (g : ℕ) (outKinds outHfMul : L
       (layout-iff bw bh kinds hfMul (ok .kindsLength) (ok .hfMulLength) .1 ok) (ap numberOf e ∙ n)
     where
       go : (p q r s t : Bool) → t ≡ true
-          → numberOf ((cutBy (unless 2 p (unless 2 q (unless 1 r (unless 1 s (unless 18 t (gives tt)))))) (outcome (gives (groupOf (groupBw bw g) (groupBh bw bh g))) (cut bw bh g kinds) (cut bw bh g hfMul)) outKinds outHfMul) .answer) ≡ 18 → ⊥
+          → numberOf ((cutBy (unless 2 p (unless 2 q (unless 1 r (unless 1 s (unless 18 t (gives tt)))))) (outcome (gives (groupSides (groupBw bw g) (groupBh bw bh g))) (cut bw bh g kinds) (cut bw bh g hfMul)) outKinds outHfMul) .answer) ≡ 18 → ⊥
       go false q r s t f z = let y : _≡_ {A = ℕ} 2 18 = z in omega arith
       go true false r s t f z = let y : _≡_ {A = ℕ} 2 18 = z in omega arith
       go true true false s t f z = let y : _≡_ {A = ℕ} 1 18 = z in omega arith
@@ -44,7 +44,7 @@ module _ (bw bh : ℕ) (kinds hfMul : List ℕ) (g : ℕ) (outKinds outHfMul : L
       go true true true true false f z = let y : _≡_ {A = ℕ} 0 1 = cc in omega arith
 
   -- what an accepted cut wrote is a group that the check passes
-  pub cut-checks : (r : Group) → (cutOf bw bh kinds hfMul g outKinds outHfMul) .answer ≡ gives r
+  pub cut-checks : (r : GroupSides) → (cutOf bw bh kinds hfMul g outKinds outHfMul) .answer ≡ gives r
       → checkOf 32 (r .bw) (r .bh) ((cutOf bw bh kinds hfMul g outKinds outHfMul) .kinds) ((cutOf bw bh kinds hfMul g outKinds outHfMul) .hfMul) ≡ gives tt
   cut-checks r e = go (cutCheck bw bh kinds hfMul g (length outKinds) (length outHfMul)) refl
     where
@@ -64,6 +64,6 @@ module _ (bw bh : ℕ) (kinds hfMul : List ℕ) (g : ℕ) (outKinds outHfMul : L
       go (refuses s) c = absurd (let d : refuses s ≡ gives r = ap (λ (o : Outcome). o .answer) (sym (cut-refused bw bh kinds hfMul g outKinds outHfMul s c)) ∙ e in let z : _≡_ {A = ℕ} 0 1 = cc in omega arith)
       go (gives t) c =
           let d = cut-done bw bh kinds hfMul g outKinds outHfMul c in
-          let q : gives (groupOf (groupBw bw g) (groupBh bw bh g)) ≡ gives r = ap (λ (o : Outcome). o .answer) (sym d) ∙ e in
-          let k : groupOf (groupBw bw g) (groupBh bw bh g) ≡ r = cc in
+          let q : gives (groupSides (groupBw bw g) (groupBh bw bh g)) ≡ gives r = ap (λ (o : Outcome). o .answer) (sym d) ∙ e in
+          let k : groupSides (groupBw bw g) (groupBh bw bh g) ≡ r = cc in
           rw (← k, d) (written (passed bw bh kinds hfMul g (length outKinds) (length outHfMul) c))

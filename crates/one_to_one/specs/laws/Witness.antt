@@ -21,7 +21,7 @@ use Rattle.coeff_group.specs.PassGroup.{varblocks, itemsOf}
 use Rattle.coeff_call.specs.Call.{Lent, Outcome, allLengthsFit, presetBits, presetMap, reading, outcomeOf, leftoverAt, leftover, call}
 use Rattle.coeff_call.specs.laws.CallLaws.{checks-pass, call-reads}
 use Rattle.order_call.specs.laws.Wrote.{wrote-fits}
-use Rattle.lent_check.specs.Group.{groupOf}
+use Rattle.lent_check.specs.GroupSides.{groupSides}
 use Rattle.lent_cut.specs.Calls.{outcome, cutOf}
 use Rattle.lent_cut.specs.laws.CutSteps.{cut-done}
 use Rattle.layout_accepted.specs.Outcome.{bwOf, bhOf}
@@ -49,7 +49,7 @@ unfolding contextsOf
 lengths-fit = rw (eq-eqb (length store) (2 * PLACES) store-long)
 
 -- the cut call writes the one group there is
-cut-accepted : cutOf (bwOf columns) (bhOf columns) (2 ∷ []) (1 ∷ []) 0 (0 ∷ []) (0 ∷ []) ≡ outcome (gives (groupOf 1 1)) (2 ∷ []) (1 ∷ [])
+cut-accepted : cutOf (bwOf columns) (bhOf columns) (2 ∷ []) (1 ∷ []) 0 (0 ∷ []) (0 ∷ []) ≡ outcome (gives (groupSides 1 1)) (2 ∷ []) (1 ∷ [])
 unfolding cut-computes
 cut-accepted = cut-done (bwOf columns) (bhOf columns) (2 ∷ []) (1 ∷ []) 0 (0 ∷ []) (0 ∷ []) refl
 

@@ -20,19 +20,19 @@ mul-bytes-2 : tie.Need-mul-bytes-2
 mul-bytes-2 c = let a = c .before .before .before .before .args in omega (arith, map-most (a .clusters) (a .presets) (omega arith) (omega arith))
 
 returns-5 : tie.Need-returns-5
-returns-5 c = let a = c .before .before .before .before .before .args in rw (le-leb (a .clusters) 16 (omega arith), le-leb (a .presets) 256 (omega arith), le-leb (a .n) 1024 (omega arith), not-false (a .read-fits) (c .before .if4 .left), ne-eqb (a .cluster-map) (495 * a .clusters * a .presets) (c .if5 .taken))
+returns-5 c = let a = c .before .before .before .before .before .args in rw (le-leb (a .clusters) 16 (omega arith), le-leb (a .presets) 256 (omega arith), le-leb (a .n) 1024 (omega arith), not-false (a .read-fits) (c .before .if4 .left), ne-eqb (a .cluster-map-length) (495 * a .clusters * a .presets) (c .if5 .taken))
 
 returns-6 : tie.Need-returns-6
 returns-6 c =
     let a = c .before .before .before .before .before .before .before .args in
     let f = sym (c .before .three-fit .ensures) ∙ not-true (c .before .three-fit .result) (c .if6 .taken) in
-    rw (le-leb (a .clusters) 16 (omega arith), le-leb (a .presets) 256 (omega arith), le-leb (a .n) 1024 (omega arith), not-false (a .read-fits) (c .before .before .before .if4 .left), eq-eqb (a .cluster-map) (495 * a .clusters * a .presets) (c .before .before .if5 .left), f)
+    rw (le-leb (a .clusters) 16 (omega arith), le-leb (a .presets) 256 (omega arith), le-leb (a .n) 1024 (omega arith), not-false (a .read-fits) (c .before .before .before .if4 .left), eq-eqb (a .cluster-map-length) (495 * a .clusters * a .presets) (c .before .before .if5 .left), f)
 
 returns-7 : tie.Need-returns-7
 returns-7 c =
     let a = c .before .before .before .before .before .before .before .args in
     let f = sym (c .before .three-fit .ensures) ∙ not-false (c .before .three-fit .result) (c .if6 .left) in
-    rw (le-leb (a .clusters) 16 (omega arith), le-leb (a .presets) 256 (omega arith), le-leb (a .n) 1024 (omega arith), not-false (a .read-fits) (c .before .before .before .if4 .left), eq-eqb (a .cluster-map) (495 * a .clusters * a .presets) (c .before .before .if5 .left), f)
+    rw (le-leb (a .clusters) 16 (omega arith), le-leb (a .presets) 256 (omega arith), le-leb (a .n) 1024 (omega arith), not-false (a .read-fits) (c .before .before .before .if4 .left), eq-eqb (a .cluster-map-length) (495 * a .clusters * a .presets) (c .before .before .if5 .left), f)
 
 pub other-lengths-fit-spec : {M : Type 1} → statement M
 other-lengths-fit-spec =

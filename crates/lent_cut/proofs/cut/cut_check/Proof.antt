@@ -2,7 +2,7 @@ use mathlib.Core.Path.{_≡_, _∙_, sym, ap}
 use mathlib.Core.Bool.{true}
 use lib.ListN.{length}
 use borrow.Author.Tests.{not-true, not-false}
-use Rattle.lent_check.specs.declared.Group.{Group}
+use Rattle.lent_check.specs.declared.GroupSides.{GroupSides}
 use Rattle.layout.specs.Cut.{hasGroup, groupBw, groupBh}
 use Rattle.lent_sides.specs.Limits.{inLimits, lengthsFit}
 use Rattle.lent_sides.specs.laws.Limits.{in-limits}
@@ -24,7 +24,7 @@ lent : (c : tie.Else3) → lengthsFit (c .before .before .before .before .before
 lent c = sym (c .before .lengths-fit .ensures) ∙ not-false (c .before .lengths-fit .result) (c .if3 .left)
 
 buffers : (c : tie.After-lengths-fit2) → lengthsFit (groupBw (c .before .before .before .before .before .before .before .before .before .before .args .bw) (c .before .before .before .before .before .before .before .before .before .before .args .index)) (groupBh (c .before .before .before .before .before .before .before .before .before .before .args .bw) (c .before .before .before .before .before .before .before .before .before .before .args .bh) (c .before .before .before .before .before .before .before .before .before .before .args .index)) (c .before .before .before .before .before .before .before .before .before .before .args .out-kinds) (c .before .before .before .before .before .before .before .before .before .before .args .out-hf-mul) ≡ c .lengths-fit2 .result
-buffers c = ap (λ (g : Group). lengthsFit (g .bw) (g .bh) (c .before .before .before .before .before .before .before .before .before .before .args .out-kinds) (c .before .before .before .before .before .before .before .before .before .before .args .out-hf-mul)) (sym (c .before .sides-of .ensures)) ∙ sym (c .lengths-fit2 .ensures)
+buffers c = ap (λ (g : GroupSides). lengthsFit (g .bw) (g .bh) (c .before .before .before .before .before .before .before .before .before .before .args .out-kinds) (c .before .before .before .before .before .before .before .before .before .before .args .out-hf-mul)) (sym (c .before .sides-of .ensures)) ∙ sym (c .lengths-fit2 .ensures)
 
 returns : tie.Need-returns
 returns c =
