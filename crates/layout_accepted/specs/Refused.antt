@@ -12,7 +12,7 @@ use Rattle.layout.specs.Valid.{Cells, Covers, Fits, Owned}
 use Rattle.layout.specs.RowByRow.{Before}
 use Rattle.layout_sizes.specs.Blocks.{sizeFits}
 use Rattle.layout_placing.specs.Reading.{Job, Placed, Stopped, column}
-use Rattle.layout_call.specs.Call.{Inputs, jobOf, parametersFit, lengthsFit, layoutOf}
+use Rattle.layout_call.specs.Call.{Inputs, jobOf, parametersFit, allLengthsFit, layoutOf}
 use Rattle.layout_accepted.specs.Outcome.{bwOf, bhOf}
 
 -- what was placed so far: as in a layout, but for cells that are free
@@ -65,5 +65,5 @@ module _ (i : Inputs) (kinds hfMul sigma : List ℕ) where
   pub data Refuses (r : Said) : Type 0 where
     size : sizeFits (i .width) (i .height) ≡ false → BeforeWork 2 r → Refuses r
     parameter : sizeFits (i .width) (i .height) ≡ true → parametersFit i ≡ false → BeforeWork 11 r → Refuses r
-    lengths : sizeFits (i .width) (i .height) ≡ true → parametersFit i ≡ true → lengthsFit i kinds hfMul sigma ≡ false → BeforeWork 1 r → Refuses r
-    work : sizeFits (i .width) (i .height) ≡ true → parametersFit i ≡ true → lengthsFit i kinds hfMul sigma ≡ true → AtWork r → Refuses r
+    lengths : sizeFits (i .width) (i .height) ≡ true → parametersFit i ≡ true → allLengthsFit i kinds hfMul sigma ≡ false → BeforeWork 1 r → Refuses r
+    work : sizeFits (i .width) (i .height) ≡ true → parametersFit i ≡ true → allLengthsFit i kinds hfMul sigma ≡ true → AtWork r → Refuses r

@@ -60,8 +60,8 @@ parametersFit i = modesFit (i .modes) && paramsFit (i .filter) (i .lookups) (i .
 
 module _ (i : Inputs) (kinds hfMul sigma : List ℕ) where
   -- 1: lent lengths
-  abbrev pub lengthsFit : Bool
-  lengthsFit =
+  abbrev pub allLengthsFit : Bool
+  allLengthsFit =
       countsFit (length (i .types)) (length (i .muls)) (length (i .sharpness)) (length kinds) (length hfMul) (length sigma)
       (bhIn (i .height) (i .modes) * bwIn (i .width) (i .modes))
 
@@ -69,7 +69,7 @@ module _ (i : Inputs) (kinds hfMul sigma : List ℕ) where
   beforeWork =
       unless 2 (sizeFits (i .width) (i .height))
       (unless 11 (parametersFit i)
-      (unless 1 lengthsFit passed))
+      (unless 1 allLengthsFit passed))
 
   -- before work: nothing is written
   abbrev pub refuse : Said → Outcome

@@ -21,7 +21,7 @@ use Rattle.layout.specs.Varblocks.{Varblock, addVarblock, cornersRow, cornersFr
 use Rattle.layout_column.specs.Columns.{lowEight, hfMulOf}
 use Rattle.layout_placing.specs.Reading.{Job, Placed, Placing, Going, Stopped, nextType, nextHfMul, column, visit, start, reading}
 use Rattle.refusal.specs.Answer.{gives}
-use Rattle.layout_call.specs.Call.{outcomeOf, Inputs, jobOf, lengthsFit, layoutOf}
+use Rattle.layout_call.specs.Call.{outcomeOf, Inputs, jobOf, allLengthsFit, layoutOf}
 use Rattle.layout_sizes.specs.laws.Counts.{counts}
 use Rattle.layout_accepted.specs.laws.Puts.{Column, Spot, corner, body, beyond, spot, column-put}
 use Rattle.layout_accepted.specs.Refused.{Sofar}
@@ -290,7 +290,7 @@ module _ (i : Inputs) (kinds hfMul sigma : List ℕ) where
         let u = r .used in
         let h = accepted-enough in
         let long : n ≤ length types = let z : min n (length types) ≡ min n (length (i .types)) = sym (length-take n types) ∙ ap length s ∙ length-take n (i .types) in omega arith in
-        let l : lengthsFit (withColumns i types muls) kinds hfMul sigma ≡ true =
+        let l : allLengthsFit (withColumns i types muls) kinds hfMul sigma ≡ true =
         ap (λ (b : Bool). b && eqb (length (i .sharpness)) (bhOf i * bwOf i) && eqb (length kinds) (bhOf i * bwOf i) && eqb (length hfMul) (bhOf i * bwOf i) && eqb (length sigma) (bhOf i * bwOf i))
         (eq-eqb (length muls) (length types) p ∙ sym (eq-eqb (length (i .muls)) (length (i .types)) paired)) ∙ r .lengths in
         sym (works (withColumns i types muls) kinds hfMul sigma (r .sizes) (r .parameters) l)

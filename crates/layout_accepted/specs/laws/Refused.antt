@@ -20,7 +20,7 @@ use Rattle.layout_filter.specs.Strength.{dividedBy}
 use Rattle.layout_column.specs.Columns.{positive}
 use Rattle.layout_placing.specs.Scan.{Scan, Taking, Left, isOn, takeCell, scan}
 use Rattle.layout_placing.specs.Reading.{Job, Placed, Placing, Going, Stopped, stopAt, placed, place, placeIn, nextType, nextHfMul, column, visit, start, reading}
-use Rattle.layout_call.specs.Call.{Outcome, outcomeOf, Inputs, jobOf, parametersFit, lengthsFit, refuse, layoutOf}
+use Rattle.layout_call.specs.Call.{Outcome, outcomeOf, Inputs, jobOf, parametersFit, allLengthsFit, refuse, layoutOf}
 use Rattle.layout_accepted.specs.laws.Puts.{column-put}
 use Rattle.layout_accepted.specs.laws.Accepted.{passing, placing, turned, begun}
 use Rattle.layout_accepted.specs.laws.Theorems.{off-size, off-parameters, off-lengths, works}
@@ -150,9 +150,9 @@ module _ (i : Inputs) (kinds hfMul sigma : List ℕ) where
 
   -- a refused call is one of these
   pub refused-how : (r : Said) → layoutOf i kinds hfMul sigma .answer ≡ refuses r → Refuses i kinds hfMul sigma r
-  refused-how r f = go (sizeFits (i .width) (i .height)) (parametersFit i) (lengthsFit i kinds hfMul sigma) refl refl refl
+  refused-how r f = go (sizeFits (i .width) (i .height)) (parametersFit i) (allLengthsFit i kinds hfMul sigma) refl refl refl
     where
-      go : (a b c : Bool) → sizeFits (i .width) (i .height) ≡ a → parametersFit i ≡ b → lengthsFit i kinds hfMul sigma ≡ c → Refuses i kinds hfMul sigma r
+      go : (a b c : Bool) → sizeFits (i .width) (i .height) ≡ a → parametersFit i ≡ b → allLengthsFit i kinds hfMul sigma ≡ c → Refuses i kinds hfMul sigma r
       go false b c p q s = size p (before-work 2 r (off-size i kinds hfMul sigma p) f)
       go true false c p q s = parameter p q (before-work 11 r (off-parameters i kinds hfMul sigma p q) f)
       go true true false p q s = lengths p q s (before-work 1 r (off-lengths i kinds hfMul sigma p q s) f)

@@ -16,7 +16,7 @@ use Rattle.layout.specs.laws.Theorems.{disjoint, covered, layout-area}
 use Rattle.lent_cut.specs.Calls.{cutOf}
 use Rattle.lent_cut.specs.laws.Theorems.{cut-not-18}
 use Rattle.layout_placing.specs.Reading.{Placed, Placing, Going, Stopped, reading}
-use Rattle.layout_call.specs.Call.{Outcome, outcomeOf, Inputs, jobOf, parametersFit, lengthsFit, beforeWork, refuse, layoutOf}
+use Rattle.layout_call.specs.Call.{Outcome, outcomeOf, Inputs, jobOf, parametersFit, allLengthsFit, beforeWork, refuse, layoutOf}
 use Rattle.layout_accepted.specs.laws.Accepted.{read-layout}
 use Rattle.layout_accepted.specs.Outcome.{bhOf, bwOf}
 
@@ -25,7 +25,7 @@ module _ (i : Inputs) (kinds hfMul sigma : List ℕ) where
   pub record Read (n : ℕ) : Type 0 where
     pub sizes : sizeFits (i .width) (i .height) ≡ true
     pub parameters : parametersFit i ≡ true
-    pub lengths : lengthsFit i kinds hfMul sigma ≡ true
+    pub lengths : allLengthsFit i kinds hfMul sigma ≡ true
     pub last : Placed
     pub read : reading (jobOf i) ≡ Going last
     pub used : last .used ≡ n
@@ -47,11 +47,11 @@ module _ (i : Inputs) (kinds hfMul sigma : List ℕ) where
   unfolding layoutOf
   off-parameters a b = rw (a, b)
 
-  pub off-lengths : sizeFits (i .width) (i .height) ≡ true → parametersFit i ≡ true → lengthsFit i kinds hfMul sigma ≡ false → refuse i kinds hfMul sigma (refusals.saidAt 1 0 0) ≡ layoutOf i kinds hfMul sigma
+  pub off-lengths : sizeFits (i .width) (i .height) ≡ true → parametersFit i ≡ true → allLengthsFit i kinds hfMul sigma ≡ false → refuse i kinds hfMul sigma (refusals.saidAt 1 0 0) ≡ layoutOf i kinds hfMul sigma
   unfolding layoutOf
   off-lengths a b c = rw (a, b, c)
 
-  pub works : sizeFits (i .width) (i .height) ≡ true → parametersFit i ≡ true → lengthsFit i kinds hfMul sigma ≡ true → outcomeOf (jobOf i) (reading (jobOf i)) ≡ layoutOf i kinds hfMul sigma
+  pub works : sizeFits (i .width) (i .height) ≡ true → parametersFit i ≡ true → allLengthsFit i kinds hfMul sigma ≡ true → outcomeOf (jobOf i) (reading (jobOf i)) ≡ layoutOf i kinds hfMul sigma
   unfolding layoutOf
   works a b c = rw (a, b, c)
 
@@ -64,7 +64,7 @@ module _ (i : Inputs) (kinds hfMul sigma : List ℕ) where
       go (gives u) a f =
           let p = pass 2 (sizeFits (i .width) (i .height)) _ u a in
           let q = pass 11 (parametersFit i) _ u (p .1) in
-          let r = pass 1 (lengthsFit i kinds hfMul sigma) _ u (q .1) in
+          let r = pass 1 (allLengthsFit i kinds hfMul sigma) _ u (q .1) in
           let w = by-reading n (reading (jobOf i)) refl f in
           let g = sym (works (p .0) (q .0) (r .0)) ∙ ap (outcomeOf (jobOf i)) (w .1) in
           record {
