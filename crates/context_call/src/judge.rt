@@ -2,8 +2,8 @@
 use super::ContextAnswer;
 use super::ContextParts;
 use super::map::DEFAULT_MAP;
-use super::map::fill;
 use bytes_below::all_below;
+use context_places::fill;
 use context_sizes::bsize;
 use refusal::Checked;
 use refusal::Refusal;
@@ -40,7 +40,7 @@ pub(crate) fn default_contexts(
     *lf = [0u32; 45];
     *qf = [0u32; 15];
     let map = DEFAULT_MAP;
-    fill(&map[..], &mut out[..]);
+    fill(&map[..], out);
     ContextParts {
         answer: ContextAnswer::Accepted(at),
         num_block_clusters: 15,
@@ -94,7 +94,7 @@ pub(crate) fn judge(
         Checked::Fine => {
             *lf = lf_thresholds;
             *qf = qf_thresholds;
-            fill(map, &mut out[..]);
+            fill(map, out);
             ContextParts {
                 answer: ContextAnswer::Accepted(at),
                 num_block_clusters: num_clusters,

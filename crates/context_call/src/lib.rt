@@ -1,10 +1,10 @@
 // The context call (`HfBlockContext::parse` of `lf.rs`).
 mod judge;
 mod map;
-mod record;
 
 use bits::BitPlace;
 use bits::Got;
+use context_places::joined;
 use context_record::HfBlockContext;
 use context_thresholds::Kind;
 use context_thresholds::ListStep;
@@ -12,7 +12,6 @@ use context_thresholds::read_list;
 use judge::default_contexts;
 use judge::judge;
 use judge::refuse;
-use record::joined;
 use refusal::Refusal;
 ghost use mathlib.Core.Path.{_≡_};
 ghost use mathlib.Core.List.{List};

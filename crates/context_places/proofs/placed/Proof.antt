@@ -1,11 +1,11 @@
 use lib.Seq.{paste, paste-zero}
-use Rattle.context_call.specs.laws.Copies.{copy-more}
+use Rattle.context_places.specs.laws.Copies.{copy-more}
 use borrow.Author.Needs.{needs}
 use native.Mathlib.Omega.{arith}
 use mathlib.Core.Path.{_≡_, _∙_, ap}
 use Prim.Native.Nat.{_≤_, _-_}
-use Rattle.context_call.proofs.record.placed.Statement.{statement}
-use Rattle.context_call.proofs.record.placed.Tie as tie
+use Rattle.context_places.proofs.placed.Statement.{statement}
+use Rattle.context_places.proofs.placed.Tie as tie
 
 abbrev Inv-loop : tie.InvT-loop
 Inv-loop first list out₀ k₀ out k = (k ≤ 15) × (out ≡ paste out₀ first list k)

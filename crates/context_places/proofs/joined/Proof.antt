@@ -1,12 +1,12 @@
 use mathlib.Core.List.{List}
 use lib.Seq.{paste}
-use Rattle.context_call.specs.laws.Copies.{three}
+use Rattle.context_places.specs.laws.Copies.{three}
 use borrow.Author.Needs.{needs}
 use native.Mathlib.Omega.{arith}
 use mathlib.Core.Path.{_∙_, ap}
 use Prim.Native.Nat.{ℕ, _-_}
-use Rattle.context_call.proofs.record.joined.Statement.{statement}
-use Rattle.context_call.proofs.record.joined.Tie as tie
+use Rattle.context_places.proofs.joined.Statement.{statement}
+use Rattle.context_places.proofs.joined.Tie as tie
 
 returns : tie.Need-returns
 returns c =

@@ -1,0 +1,2 @@
+-- laws on lists laid into arrays
+pub mod laws

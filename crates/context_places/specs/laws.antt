@@ -1,0 +1,2 @@
+-- what is proved of lists laid into arrays
+pub mod Copies
