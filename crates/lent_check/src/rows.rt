@@ -1,5 +1,7 @@
 // A row of a lent layout: corners of more than one block are placed, then each x is seen to be covered just once. Of each
 // x its depth is kept, in a byte: how many rows are covered, from the row on that is looked at.
+use lent_cells::gap;
+use lent_cells::larger;
 use lent_sides::sizes::size_of;
 ghost use mathlib.Core.Path.{_≡_};
 ghost use mathlib.Core.Bool.{cond};
@@ -11,9 +13,7 @@ ghost use Rattle.layout.specs.RowByRow.{alongRow};
 ghost use Rattle.layout.specs.Grid.{blockAt};
 ghost use Rattle.layout.specs.Check.{Fault, Until, fitting};
 ghost use Rattle.lent_sides.specs.laws.Sizes.{WIDES, HIGHS};
-ghost use Rattle.lent_check.specs.laws.Flaws.{flagOf};
-ghost use Rattle.lent_check.specs.laws.Sorts.{withinOf, largerOf};
-ghost use Rattle.lent_check.specs.laws.Steps.{gapOf, placeCell, place, close};
+ghost use Rattle.lent_check.specs.laws.Steps.{placeCell, place, close};
 ghost use Rattle.lent_check.specs.laws.Listing.{Flags, Flagged, looked, Listed};
 ghost use Rattle.lent_check.specs.laws.Claims.{claimed};
 
@@ -91,29 +91,6 @@ fn fits(bw: usize, bh: usize, kind: u8, w: usize, h: usize, x: usize, y: usize) 
         return false;
     }
     y % 32 + h <= 32
-}
-
-// 1 for a kind within bounds, else 0.
-fn within(kind: u8, first: u8, last: u8) -> u8
-    ensures { λ r. ⌜ (r ≡ withinOf kind first last) × (r ≤ 1) ⌝ }
-{
-    if kind < first {
-        return 0;
-    }
-    if last < kind {
-        return 0;
-    }
-    1
-}
-
-// 0 for an occupied block and for a corner of one block, 1 for a free block and for a corner of more than one.
-fn larger(kind: u8) -> u8
-    ensures { λ r. ⌜ r ≡ largerOf kind ⌝ }
-{
-    if within(kind, 1, 5) + within(kind, 14, 19) == 0 {
-        return 1;
-    }
-    0
 }
 
 fn to_usize(x: u8) -> usize
@@ -208,27 +185,6 @@ pub(crate) fn place_row(
         i += 1;
     }
     true
-}
-
-// 1 for an x that is covered, else 0.
-fn covered(v: u8) -> u8
-    ensures { λ r. ⌜ r ≡ flagOf (ltb 0 v) ⌝ }
-{
-    if 0 < v {
-        return 1;
-    }
-    0
-}
-
-// 0 for a corner of one block on a clear x, and for any other cell on a covered one, else 1.
-fn gap(kind: u8, v: u8) -> u8
-    ensures { λ r. ⌜ r ≡ gapOf kind v ⌝ }
-{
-    let one = within(kind, 2, 5) + within(kind, 14, 19);
-    if covered(v) == one {
-        return 1;
-    }
-    0
 }
 
 fn one_less(v: u8) -> u8

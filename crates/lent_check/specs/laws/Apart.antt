@@ -13,8 +13,7 @@ use Rattle.laws.specs.Lists.{fillFrom}
 use Rattle.layout.specs.laws.Grid.{fill-left}
 use Rattle.layout.specs.Valid.{Cells}
 use Rattle.layout.specs.Check.{Covering, Fault, Until, clear, fitting}
-use Rattle.lent_check.specs.laws.Flaws.{flagOf}
-use Rattle.lent_check.specs.laws.Sorts.{largerOf, oneBlock}
+use Rattle.lent_cells.specs.laws.Cells.{flagOf, largerOf, oneBlock}
 use Rattle.lent_check.specs.laws.Steps.{placeCell, place, closeCell, close}
 
 pub clear-set : (d : List ℕ) (x v y j n : ℕ) → x < j → clear (set d x v) y j n ≡ clear d y j n

@@ -11,9 +11,8 @@ use Rattle.layout.specs.RowByRow.{alongRow}
 use Rattle.layout.specs.Valid.{Cells}
 use Rattle.layout.specs.Check.{Covering, Fault, Until}
 use Rattle.layout.specs.laws.RowByRowSteps.{cells-step, cells-end}
-use Rattle.lent_check.specs.laws.Flaws.{flagOf}
-use Rattle.lent_check.specs.laws.Sorts.{oneBlock}
-use Rattle.lent_check.specs.laws.Steps.{gapOf, closeCell, close}
+use Rattle.lent_cells.specs.laws.Cells.{flagOf, oneBlock, gapOf}
+use Rattle.lent_check.specs.laws.Steps.{closeCell, close}
 use Rattle.lent_check.specs.laws.Rows.{close-fault}
 
 module _ (bw : ℕ) (K : Cells) (y : ℕ) where

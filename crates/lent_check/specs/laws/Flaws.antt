@@ -1,6 +1,6 @@
 -- Each cell by itself: what its kind and hf_mul must be, wherever it stands.
 use mathlib.Core.Path.{_≡_, refl, sym, _∙_}
-use mathlib.Core.Bool.{Bool, true, false, _&&_, cond, not}
+use mathlib.Core.Bool.{Bool, true, false, _&&_, not}
 use mathlib.Core.Logic.{⊎-elim}
 use mathlib.Core.List.{List, [], _∷_}
 use Prim.Native.Nat.{ℕ, zero, suc, _+_, _*_, _^_, _≤_, _<_}
@@ -15,14 +15,7 @@ use Rattle.layout.specs.laws.Grid.{place-lt, cell-at}
 use Rattle.layout.specs.Valid.{Layout}
 use Rattle.layout.specs.Check.{isLayout}
 use Rattle.layout.specs.laws.Theorems.{layout-iff}
-
--- 1 for yes, 0 for no
-abbrev pub flagOf : Bool → ℕ
-flagOf b = cond b 1 0
-
--- 0 where just an occupied block has hf_mul 0, and hf_mul is no negative number's pattern
-unfoldable pub flawOf : ℕ → ℕ → ℕ
-flawOf k m = flagOf (not (eqb (flagOf (eqb k 1)) (flagOf (eqb m 0)))) + flagOf (ltb 2147483647 m)
+use Rattle.lent_cells.specs.laws.Cells.{flagOf, flawOf}
 
 -- over the first n cells
 unfoldable pub flaws : List ℕ → List ℕ → ℕ → ℕ

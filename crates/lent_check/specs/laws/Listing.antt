@@ -14,7 +14,8 @@ use Rattle.layout.specs.RowByRow.{alongRow}
 use Rattle.layout.specs.Valid.{Cells}
 use Rattle.layout.specs.Check.{Covering, Fault, Until}
 use Rattle.layout.specs.laws.RowByRowSteps.{left-suc}
-use Rattle.lent_check.specs.laws.Sorts.{largerOf, larger-flag}
+use Rattle.lent_check.specs.laws.Sorts.{larger-flag}
+use Rattle.lent_cells.specs.laws.Cells.{largerOf}
 use Rattle.lent_check.specs.laws.Steps.{placeCell, place, place-plain}
 
 -- the flag of an x: 1 where it is looked at

@@ -14,8 +14,8 @@ use Rattle.layout.specs.laws.Grid.{length-fill}
 use Rattle.layout.specs.Valid.{Cells}
 use Rattle.layout.specs.Check.{Covering, Fault, Until, passes, clear, fitting, isLayout}
 use Rattle.layout.specs.laws.RowByRowSteps.{cells-stuck, rows-step, rows-end, rows-stuck}
-use Rattle.lent_check.specs.laws.Flaws.{flagOf, Sound}
-use Rattle.lent_check.specs.laws.Sorts.{largerOf, oneBlock}
+use Rattle.lent_check.specs.laws.Flaws.{Sound}
+use Rattle.lent_cells.specs.laws.Cells.{flagOf, largerOf, oneBlock}
 use Rattle.lent_check.specs.laws.Depths.{visitDepths, depths-check}
 use Rattle.lent_check.specs.laws.Steps.{placeCell, place, closeCell, close, visit-steps}
 use Rattle.lent_check.specs.laws.Apart.{swap}

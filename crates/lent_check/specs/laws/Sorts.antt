@@ -10,18 +10,7 @@ use borrow.Author.Tests.{eqb-true, eqb-false}
 use Rattle.laws.specs.laws.Tables.{each-at}
 use Rattle.dct_select.specs.Transforms.{TRANSFORMS, wide, high}
 use Rattle.layout.specs.Kinds.{wideOf, highOf}
-
--- 1 for a kind within bounds, else 0
-unfoldable pub withinOf : ℕ → ℕ → ℕ → ℕ
-withinOf k from to = cond (leb from k && leb k to) 1 0
-
--- 1 for a corner of one block, else 0
-unfoldable pub oneBlock : ℕ → ℕ
-oneBlock k = withinOf k 2 5 + withinOf k 14 19
-
--- 0 for an occupied block and for a corner of one block, 1 for a free block and for a corner of more than one
-unfoldable pub largerOf : ℕ → ℕ
-largerOf k = cond (eqb (withinOf k 1 5 + withinOf k 14 19) 0) 1 0
+use Rattle.lent_cells.specs.laws.Cells.{withinOf, oneBlock, largerOf}
 
 -- a corner is of one block or larger
 abbrev Sorted : ℕ → Bool

@@ -16,8 +16,9 @@ use Rattle.layout.specs.laws.Grid.{fill-in}
 use Rattle.layout.specs.Valid.{Cells}
 use Rattle.layout.specs.Check.{Covering, Fault, Until, clear, fitting}
 use Rattle.layout.specs.laws.CheckLaws.{each-clear, fits-fitting}
-use Rattle.lent_check.specs.laws.Flaws.{flagOf, Sound}
-use Rattle.lent_check.specs.laws.Sorts.{largerOf, withinOf, oneBlock, Single, Larger, sort}
+use Rattle.lent_check.specs.laws.Flaws.{Sound}
+use Rattle.lent_cells.specs.laws.Cells.{flagOf, largerOf, withinOf, oneBlock}
+use Rattle.lent_check.specs.laws.Sorts.{Single, Larger, sort}
 use Rattle.lent_check.specs.laws.Depths.{visitDepth, depth-not-one, depth-one, depth-small, depth-unfit, depth-unclear, depth-raised}
 
 -- First step, at one cell. Its hf_mul is seen to before.
@@ -29,10 +30,6 @@ placeCell bw bh k x y d =
 abbrev pub place : ℕ → ℕ → Cells → ℕ → ℕ → Covering → Covering
 place bw bh K x y Fault = Fault
 place bw bh K x y (Until d) = placeCell bw bh (K x y) x y d
-
--- 0 for a corner of one block on a clear x and for any other cell on a covered one, else 1
-unfoldable pub gapOf : ℕ → ℕ → ℕ
-gapOf k v = flagOf (eqb (flagOf (ltb 0 v)) (oneBlock k))
 
 -- Second step, at one cell: either a corner of one block or covered; below it the x's depth is one less.
 unfoldable pub closeCell : ℕ → ℕ → List ℕ → Covering

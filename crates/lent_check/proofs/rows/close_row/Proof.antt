@@ -8,7 +8,8 @@ use borrow.Author.Needs.{needs}
 use Rattle.layout.specs.RowByRow.{alongRow}
 use Rattle.layout.specs.Grid.{blockAt}
 use Rattle.layout.specs.Check.{Until}
-use Rattle.lent_check.specs.laws.Steps.{gapOf, close}
+use Rattle.lent_check.specs.laws.Steps.{close}
+use Rattle.lent_cells.specs.laws.Cells.{gapOf}
 use Rattle.lent_check.specs.laws.Closing.{closing, close-start, close-next, close-end}
 use Rattle.lent_check.proofs.rows.close_row.Statement.{statement}
 use Rattle.lent_check.proofs.rows.close_row.Tie as tie

@@ -9,7 +9,7 @@ use Rattle.layout.specs.Kinds.{wideOf, highOf}
 use Rattle.layout.specs.Valid.{Fits}
 use Rattle.layout.specs.laws.CheckLaws.{fitting-fits}
 use Rattle.lent_check.specs.laws.Corners.{size-corner}
-use Rattle.lent_check.specs.laws.Sorts.{largerOf}
+use Rattle.lent_cells.specs.laws.Cells.{largerOf}
 use Rattle.lent_check.specs.laws.Steps.{place-plain, place-free, place-unfit, place-fit}
 use Rattle.lent_check.specs.laws.Claims.{claimed}
 use Rattle.lent_check.proofs.rows.place_cell.Statement.{statement}

@@ -2,9 +2,9 @@ use borrow.Author.Tests.{eq-eqb, ne-eqb}
 use native.Mathlib.Omega.{arith}
 use Prim.Native.Nat.{_+_}
 use borrow.Author.Needs.{needs}
-use Rattle.lent_check.specs.laws.Sorts.{withinOf, largerOf}
-use Rattle.lent_check.proofs.rows.larger.Statement.{statement}
-use Rattle.lent_check.proofs.rows.larger.Tie as tie
+use Rattle.lent_cells.specs.laws.Cells.{withinOf, largerOf}
+use Rattle.lent_cells.proofs.larger.Statement.{statement}
+use Rattle.lent_cells.proofs.larger.Tie as tie
 
 within-requires : tie.Need-within-requires
 within-requires c κs = search needs

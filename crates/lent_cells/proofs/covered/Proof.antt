@@ -1,7 +1,7 @@
 use borrow.Author.Tests.{lt-ltb, le-ltb}
 use native.Mathlib.Omega.{arith}
-use Rattle.lent_check.proofs.rows.covered.Statement.{statement}
-use Rattle.lent_check.proofs.rows.covered.Tie as tie
+use Rattle.lent_cells.proofs.covered.Statement.{statement}
+use Rattle.lent_cells.proofs.covered.Tie as tie
 
 returns : tie.Need-returns
 returns c = let a = c .before .args in rw (lt-ltb 0 (a .v) (omega arith))

@@ -2,11 +2,9 @@ use borrow.Author.Tests.{eq-eqb, ne-eqb}
 use lib.Dec.{ltb}
 use native.Mathlib.Omega.{arith}
 use borrow.Author.Needs.{needs}
-use Rattle.lent_check.specs.laws.Flaws.{flagOf}
-use Rattle.lent_check.specs.laws.Sorts.{oneBlock}
-use Rattle.lent_check.specs.laws.Steps.{gapOf}
-use Rattle.lent_check.proofs.rows.gap.Statement.{statement}
-use Rattle.lent_check.proofs.rows.gap.Tie as tie
+use Rattle.lent_cells.specs.laws.Cells.{flagOf, oneBlock, gapOf}
+use Rattle.lent_cells.proofs.gap.Statement.{statement}
+use Rattle.lent_cells.proofs.gap.Tie as tie
 
 within-requires : tie.Need-within-requires
 within-requires c κs = search needs

@@ -1,8 +1,8 @@
 use native.Mathlib.Omega.{arith}
 use borrow.Author.Needs.{needs}
-use Rattle.lent_check.specs.laws.Flaws.{flawOf}
-use Rattle.lent_check.proofs.cells.flaw.Statement.{statement}
-use Rattle.lent_check.proofs.cells.flaw.Tie as tie
+use Rattle.lent_cells.specs.laws.Cells.{flawOf}
+use Rattle.lent_cells.proofs.flaw.Statement.{statement}
+use Rattle.lent_cells.proofs.flaw.Tie as tie
 
 flag-requires : tie.Need-flag-requires
 flag-requires c κs = search needs

@@ -1,8 +1,8 @@
 use borrow.Author.Tests.{le-leb, lt-leb}
 use native.Mathlib.Omega.{arith}
-use Rattle.lent_check.specs.laws.Sorts.{withinOf}
-use Rattle.lent_check.proofs.rows.within.Statement.{statement}
-use Rattle.lent_check.proofs.rows.within.Tie as tie
+use Rattle.lent_cells.specs.laws.Cells.{withinOf}
+use Rattle.lent_cells.proofs.within.Statement.{statement}
+use Rattle.lent_cells.proofs.within.Tie as tie
 
 returns : tie.Need-returns
 unfolding withinOf

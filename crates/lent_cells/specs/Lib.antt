@@ -1,0 +1,2 @@
+-- the words of the contracts
+pub mod laws

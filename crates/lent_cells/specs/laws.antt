@@ -1,0 +1,2 @@
+-- words that only contracts of code and laws use
+pub mod Cells
