@@ -2,15 +2,15 @@
 -- all four lists, LF grids, permuted orders, the last of three presets, starting grids that are not zero; and the symbols of a filling.
 use mathlib.Core.Path.{_≡_, refl, ap, sym, subst, _∙_}
 use mathlib.Core.Bool.{true}
-use mathlib.Core.List.{List, [], _∷_}
+use mathlib.Core.List.{List, [], _∷_, map as each}
 use Prim.Native.Nat.{ℕ, zero, suc, _+_, _*_, _<_}
 use native.Mathlib.Omega.{arith}
-use lib.ListN.{length, getD, replicate, length-replicate}
+use lib.ListN.{length, getD, drop, replicate, length-replicate}
 use borrow.Author.Tests.{eq-eqb}
 use Rattle.bits.specs.Bits.{Value}
-use Rattle.coded_numbers.specs.Signed.{unpackSigned}
+use Rattle.coded_numbers.specs.Signed.{unpackSigned, symbol}
 use Rattle.order_sizes.specs.BlockSizes.{BLOCK-SIZES}
-use Rattle.order_natural.specs.Places.{flat}
+use Rattle.order_natural.specs.Places.{flat, paired}
 use Rattle.order_natural.specs.Natural.{natural}
 use Rattle.layout_filter.specs.declared.Filter.the-variants.{Off}
 use Rattle.layout_filter.specs.Strength.{zero32}
@@ -37,7 +37,11 @@ use Rattle.one_to_one.specs.laws.Wanted.{wanted-filling}
 use Rattle.one_to_one.specs.laws.Chain.{fixed-by-calls}
 use Rattle.one_to_one.specs.laws.Computes.{cut-computes, bits-compute, sequence-computes, wanted-computes, below, cells-below}
 use Rattle.one_to_one.specs.FullWitness.{changed, contexts, full, kinds, lists, map, hfMul, pairs, start, store}
-use Rattle.coeff_group.specs.Sequence.{inCell, theSequence}
+use Rattle.dct_select.specs.Transforms.{TRANSFORMS, wide, high, orderOf, turns}
+use Rattle.layout.specs.Varblocks.{Varblock, varblock, cornersRow, cornersFrom}
+use Rattle.coeff_walk.specs.Places.{cellsOf}
+use Rattle.coeff_group.specs.PassGroup.{blocksOf, itemOf, itemsOf}
+use Rattle.coeff_group.specs.Sequence.{inCell, sent, theSequence}
 
 abbrev digitSymbols : List ℕ
 digitSymbols = 1 ∷ 1 ∷ 2 ∷ 2 ∷ 0 ∷ 0 ∷ []
@@ -146,10 +150,33 @@ lists-0 (suc (suc (suc c))) l = absurd (omega arith)
 order-4 : (c : ℕ) → c < 3 → stretch store 4 c ≡ flat (natural 16 8)
 order-4 c l = list-of 4 c (omega arith) l ∙ ap flat (lists-0 c l)
 
-pub sequence-is : theSequence (full .passGroup) (full .grids) changed ≡ 1 ∷ 6 ∷ 0 ∷ 1 ∷ 0 ∷ 14 ∷ 1 ∷ 0 ∷ 0 ∷ 3 ∷ 0 ∷ 0 ∷ 0 ∷ 1 ∷ 0 ∷ 2 ∷ 0 ∷ []
+-- the symbols that make a varblock's cells of channel c, of which l is the list
+abbrev changesIn : ℕ → Varblock → List ℕ → List ℕ
+changesIn c v l =
+    each (λ (p : ℕ). symbol (inCell changed c p) (inCell start c p)) (cellsOf (turns (v .type)) 16 (8 * v .x) (8 * v .y) (drop (blocksOf v) (paired l)))
+
+-- the sequence, of the lists of channels 0, 1, 2: a, b, c those of the first varblock, d, e, f those of the other two
+abbrev sequenceOf : (a b c d e f : List ℕ) → List ℕ
+sequenceOf a b c d e f =
+    let u = varblock 0 0 6 5 in
+    let v = varblock 1 0 0 1 in
+    let w = varblock 1 1 0 3 in
+    sent (changesIn 1 u b ∷ changesIn 0 u a ∷ changesIn 2 u c ∷ changesIn 1 v e ∷ changesIn 0 v d ∷ changesIn 2 v f ∷ changesIn 1 w e ∷ changesIn 0 w d ∷ changesIn 2 w f ∷ [])
+
+by-lists : theSequence (full .passGroup) (full .grids) changed
+    ≡ sequenceOf (stretch store 4 0) (stretch store 4 1) (stretch store 4 2) (stretch store 0 0) (stretch store 0 1) (stretch store 0 2)
+unfolding theSequence itemsOf itemOf cornersRow cornersFrom orderOf wide high TRANSFORMS
+by-lists = refl
+
+computed : sequenceOf (flat (natural 16 8)) (flat (natural 16 8)) (flat (natural 16 8)) (flat (getD lists 0 [])) (flat (getD lists 1 [])) (flat (getD lists 2 []))
+    ≡ 1 ∷ 6 ∷ 0 ∷ 1 ∷ 0 ∷ 14 ∷ 1 ∷ 0 ∷ 0 ∷ 3 ∷ 0 ∷ 0 ∷ 0 ∷ 1 ∷ 0 ∷ 2 ∷ 0 ∷ []
 unfolding sequence-computes
+computed = refl
+
+pub sequence-is : theSequence (full .passGroup) (full .grids) changed ≡ 1 ∷ 6 ∷ 0 ∷ 1 ∷ 0 ∷ 14 ∷ 1 ∷ 0 ∷ 0 ∷ 3 ∷ 0 ∷ 0 ∷ 0 ∷ 1 ∷ 0 ∷ 2 ∷ 0 ∷ []
 sequence-is =
-    rw (
+    by-lists
+    ∙ rw (
       order-4 0 (omega arith),
       order-4 1 (omega arith),
       order-4 2 (omega arith),
@@ -157,6 +184,7 @@ sequence-is =
       list-of 0 1 (omega arith) (omega arith),
       list-of 0 2 (omega arith) (omega arith),
     )
+    computed
 
 pub filled : Fills full (1 ∷ 6 ∷ 0 ∷ 1 ∷ 0 ∷ 14 ∷ 1 ∷ 0 ∷ 0 ∷ 3 ∷ 0 ∷ 0 ∷ 0 ∷ 1 ∷ 0 ∷ 2 ∷ 0 ∷ []) changed
 filled =
