@@ -120,6 +120,18 @@ static void damage_list(struct input *in, int32_t *list, size_t length, const in
     }
 }
 
+/* Puts numbers that may be wrong into both lists at one column. */
+static void damage_column(struct input *in, struct layout_call *call, const int32_t types[8],
+                          const int32_t muls[8])
+{
+    size_t length = call->types_length;
+    if (length == 0 || length >= VAST || length != call->muls_length)
+        return;
+    uint32_t column = take_below(in, (uint32_t)length);
+    call->types[column] = types[take_below(in, 8)];
+    call->muls[column] = muls[take_below(in, 8)];
+}
+
 /* Small varblocks, most of them high, whatever room there is: wide ones then meet others. */
 static void spread_types(struct input *in, int32_t *types, size_t length)
 {
@@ -133,7 +145,7 @@ static void take_damage(struct input *in, struct layout_call *call)
     static const int32_t types[8] = {27, 28, 255, 256, -1, -256, 24, 281};
     static const int32_t muls[8] = {-1, INT32_MAX, INT32_MIN, -2, 0, 300, 1, 2};
     static const int32_t numbers[8] = {8, -1, 7, INT32_MIN, INT32_MAX, 9, 0, 256};
-    uint32_t which = take_below(in, 8);
+    uint32_t which = take_below(in, 9);
     call->undamaged &= which < 3;
     if (which == 3)
         spread_types(in, call->types, call->types_length);
@@ -143,6 +155,8 @@ static void take_damage(struct input *in, struct layout_call *call)
         damage_list(in, call->muls, call->muls_length, muls);
     if (which == 6 || which == 7)
         damage_list(in, call->sharpness, call->sharpness_length, numbers);
+    if (which == 8)
+        damage_column(in, call, types, muls);
 }
 
 static void take_filter(struct input *in, struct layout_call *call)

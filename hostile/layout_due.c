@@ -42,8 +42,8 @@ static uint32_t place_column(const struct layout_call *call, struct layout_due *
 {
     if (due->used == call->types_length)
         return 4;
-    uint32_t type = (uint32_t)call->types[due->used] & 0xff;
-    if (type >= TRANSFORMS)
+    int32_t type = call->types[due->used];
+    if (type < 0 || type >= TRANSFORMS)
         return 5;
     int64_t hf_mul = (int64_t)call->muls[due->used] + 1;
     if (hf_mul < 1 || hf_mul > INT32_MAX)

@@ -29,6 +29,8 @@ enum plant {
     TRANSFORM_ALIKE,
     OUTSIDE_AS_OVERLAP,
     BLOCK_BEFORE,
+    LOW_EIGHT_BITS,
+    HF_MUL_FIRST,
     TURNED_OTHERWISE,
     ORDER_OF_ITS_SIZE,
     CELL_LEFT,
@@ -173,6 +175,26 @@ static void spoil_layout(uint8_t *kinds, int32_t *hf_mul, float *sigma, size_t b
         kinds[0] = 3;
 }
 
+/* The columns' types with their low eight bits alone. */
+static const int32_t *low_eight(const int32_t *types, size_t length)
+{
+    static int32_t low[1 << 16];
+    if (planted() != LOW_EIGHT_BITS || length > 1 << 16)
+        return types;
+    for (size_t column = 0; column < length; column++)
+        low[column] = types[column] & 0xff;
+    return low;
+}
+
+/* Whether the first column of a foreign type has a mul that 6 refuses. */
+static bool refused_with_6(const int32_t *types, const int32_t *muls)
+{
+    size_t column = 0;
+    while (types[column] >= 0 && types[column] <= NETBUFF_DCT128X256)
+        column++;
+    return muls[column] < 0 || muls[column] == INT32_MAX;
+}
+
 uint32_t __wrap_netbuff_layout(uint32_t width, uint32_t height, uint32_t mode0, uint32_t mode1,
                                uint32_t mode2, const int32_t *types, size_t types_length,
                                const int32_t *muls, size_t muls_length, const int32_t *sharpness,
@@ -182,9 +204,10 @@ uint32_t __wrap_netbuff_layout(uint32_t width, uint32_t height, uint32_t mode0, 
                                size_t sigma_length, size_t *used, size_t *x, size_t *y)
 {
     uint32_t refused =
-        __real_netbuff_layout(width, height, mode0, mode1, mode2, types, types_length, muls, muls_length,
-                              sharpness, sharpness_length, filter_on, multiplier, lookup, scale, kinds,
-                              kinds_length, hf_mul, hf_mul_length, sigma, sigma_length, used, x, y);
+        __real_netbuff_layout(width, height, mode0, mode1, mode2, low_eight(types, types_length),
+                              types_length, muls, muls_length, sharpness, sharpness_length, filter_on,
+                              multiplier, lookup, scale, kinds, kinds_length, hf_mul, hf_mul_length,
+                              sigma, sigma_length, used, x, y);
     if (planted() == WRITTEN_AFTER_1 && refused == 1 && kinds_length > 0 && kinds_length < 1 << 20)
         kinds[kinds_length - 1] ^= 1;
     if (planted() == NOT_CLEARED && refused >= 4 && refused <= 10)
@@ -196,6 +219,8 @@ uint32_t __wrap_netbuff_layout(uint32_t width, uint32_t height, uint32_t mode0, 
     *x -= planted() == BLOCK_BEFORE && refused == 5 && *x > 0;
     if (planted() == USED_ZERO && refused != 0)
         *used = 0;
+    if (planted() == HF_MUL_FIRST && refused == 5 && refused_with_6(types, muls))
+        return 6;
     return planted() == OUTSIDE_AS_OVERLAP && refused == 9 ? 8 : refused;
 }
 

@@ -373,10 +373,11 @@ uint32_t netbuff_column_count(const uint8_t *bytes, size_t bytes_length, uint32_
 
 /*
  * The layout of an LF group. Its sides in blocks, bw and bh, are those of netbuff_lf_bw and
- * netbuff_lf_bh. Columns are two lists of one length: types, of which only the low eight bits
- * count, and muls. Blocks are visited row by row; a free block takes the next column, and its
- * varblock begins there. hf_mul is mul + 1 and must be positive; the largest mul wraps, and is
- * refused. Surplus columns are accepted: *used receives how many were used.
+ * netbuff_lf_bh. Columns are two lists of one length: types, each a transform number, 0 to 26, and
+ * muls. All 32 bits of a type count: one with flags above the number, as 256 or -256, is refused
+ * with 5. Blocks are visited row by row; a free block takes the next column, and its varblock begins
+ * there. hf_mul is mul + 1 and must be positive; the largest mul wraps, and is refused. Surplus
+ * columns are accepted, whatever they hold: *used receives how many were used.
  *
  * The filter: sigma of a block is multiplier * 65536 / scale / hf_mul * lookup[sharpness], in f32,
  * each step rounded once. multiplier (quant_mul of the edge-preserving filter) and lookup (its

@@ -180,6 +180,14 @@ fn columns_that_are_refused_leave_zeros() {
             Refusal::Transform { x: 0, y: 0 },
         ),
         (
+            LayoutTry::new(16, 8, &[(0, 0), (256, 0)]),
+            Refusal::Transform { x: 1, y: 0 },
+        ),
+        (
+            LayoutTry::new(8, 8, &[(-256, -1)]),
+            Refusal::Transform { x: 0, y: 0 },
+        ),
+        (
             LayoutTry::new(8, 8, &[(0, -1)]),
             Refusal::HfMul { x: 0, y: 0 },
         ),

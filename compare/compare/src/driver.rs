@@ -26,6 +26,8 @@ pub struct Report {
     pub random: usize,
     /// How many of them were different, for calls that tell it.
     pub different: Option<usize>,
+    /// How many of them were held against the model in place of the Rust, for calls that tell it.
+    pub by_model: Option<usize>,
     /// How many inputs were answered with each refusal; 0 counts those that were accepted.
     pub by_number: BTreeMap<u32, usize>,
     pub difference: Option<String>,
@@ -70,6 +72,9 @@ impl fmt::Display for Report {
         }
         if let Some(different) = self.different {
             write!(f, "; {different} different")?;
+        }
+        if let Some(by_model) = self.by_model {
+            write!(f, "; {by_model} by the model")?;
         }
         write!(f, "; {seconds:.1} s")?;
         if let Some(difference) = &self.difference {
@@ -143,6 +148,9 @@ impl<'a, C: Case, F: Fn(&C::Input) -> Answered<C>> Run<'a, C, F> {
         if let Some(digest) = self.case.digest(&input) {
             self.met.insert(digest);
             self.report.different = Some(self.met.len());
+        }
+        if let Some(by_model) = self.case.by_model(&input) {
+            *self.report.by_model.get_or_insert(0) += usize::from(by_model);
         }
         step(self.case, &self.ours, input, &mut self.report);
     }

@@ -3,7 +3,7 @@
 
 use std::time::{Duration, Instant};
 
-use compare::cases::{Case, CutCase, OrdersCase, SignedCase, TransformCase};
+use compare::cases::{Case, CutCase, LayoutCase, OrdersCase, SignedCase, TransformCase};
 use compare::driver::{run, Comparison, Effort, Report, Run};
 use compare::progress::{Progress, EVERY};
 use compare::rounds;
@@ -69,17 +69,25 @@ fn the_first_difference_ends_all() {
 
 #[test]
 fn a_table_counts_by_number() {
-    let mut calls = [agreeing(&TransformCase), agreeing(&CutCase)];
+    let mut calls = [
+        agreeing(&TransformCase),
+        agreeing(&CutCase),
+        agreeing(&LayoutCase),
+    ];
     calls[0].advance(Effort::Inputs(100), &mut |_| ());
+    calls[2].advance(Effort::Inputs(100), &mut |_| ());
     let table = rounds::table(&calls);
     let rows: Vec<_> = table.lines().collect();
     let report = calls[0].report();
     let (accepted, refused) = (report.by_number[&0], report.by_number[&5]);
-    assert_eq!(rows.len(), 4);
+    assert_eq!(rows.len(), 5);
     assert_eq!(accepted + refused, 100);
-    let row = format!("| transform | 100 |  | {accepted} | 5: {refused} |");
+    let row = format!("| transform | 100 |  |  | {accepted} | 5: {refused} |");
     assert_eq!(rows[2], row);
-    assert_eq!(rows[3], "| cut | 0 |  | 0 |  |");
+    assert_eq!(rows[3], "| cut | 0 |  |  | 0 |  |");
+    let by_model = calls[2].report().by_model.expect("layouts tell it");
+    assert!((1..100).contains(&by_model));
+    assert!(rows[4].starts_with(&format!("| layout | 100 |  | {by_model} |")));
 }
 
 #[test]

@@ -1,7 +1,9 @@
-//! The tables that the model of the paper has for itself are the Rust's.
+//! The tables that the model of the paper has for itself are the Rust's, and so are its layouts.
 #![cfg(live)]
 
 use calls::{list_length, list_start, ORDER_COUNT, ORDER_SIZES};
+use compare::cases::{Case, LayoutCase};
+use compare::rng::Rng;
 use compare::{expected, make};
 use jxl_vardct::oracle;
 
@@ -27,4 +29,25 @@ fn sizes_of_the_orders() {
             assert!(places.into_iter().eq(rows), "order {order}");
         }
     }
+}
+
+/// The model is asked for layouts whose types are not 0 to 255; where they are, the Rust shows that it
+/// is right.
+#[test]
+fn layouts_of_types_up_to_255() {
+    let mut rng = Rng::new(1);
+    let short = (0..LayoutCase.short_count()).step_by(997);
+    let inputs = short.map(|number| LayoutCase.short(number));
+    let random = std::iter::repeat_with(|| LayoutCase.random(&mut rng)).take(20_000);
+    let mut compared = 0;
+    for mut call in inputs.chain(random) {
+        for number in &mut call.types {
+            *number &= 0xff;
+        }
+        if paper::layout_before_work(&call).is_none() {
+            assert!(paper::layout(&call) == oracle::layout(&call), "{call:?}");
+            compared += 1;
+        }
+    }
+    assert!(compared > 20_000);
 }

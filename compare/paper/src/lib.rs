@@ -1,17 +1,19 @@
-//! A plain model of what document 01 adds to the Rust: the checks before work, the cut and the
-//! likeness test. Written from the paper, not from the code under comparison; where the Rust has a
-//! call, the Rust answers.
+//! A plain model of what the papers add to the Rust: the checks before work, the cut, the likeness
+//! test, and the layout call where types have more than eight bits. Written from the papers, not
+//! from the code under comparison; where the Rust has a call, the Rust answers.
 
 mod coefficients;
 mod contexts;
 mod layout;
+mod placing;
 mod record;
 mod stores;
 
 pub use coefficients::{coefficients_before_work, ENTRIES_PER_CLUSTER};
 pub use contexts::{clusters_refused, is_fit};
 pub use layout::{column_count_before_work, grid_sides, layout_before_work};
-pub use record::{alike, cut, is_layout, kind_sides, Rectangles};
+pub use placing::layout;
+pub use record::{alike, cut, is_layout, kind_sides, transform_sides, Rectangles};
 pub use stores::{places_inside, store_fits};
 
 use calls::Refusal;

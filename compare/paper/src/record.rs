@@ -35,16 +35,21 @@ const SIDES: [(u8, u8); 27] = [
     (32, 16),
 ];
 
-const KIND_OCCUPIED: u8 = 1;
-const FIRST_CORNER_KIND: u8 = 2;
-const GROUP_SIDE: usize = 32;
+pub(crate) const KIND_FREE: u8 = 0;
+pub(crate) const KIND_OCCUPIED: u8 = 1;
+pub(crate) const FIRST_CORNER_KIND: u8 = 2;
+pub(crate) const GROUP_SIDE: usize = 32;
 const LAYOUT_SIDE_MOST: usize = 256;
+
+/// Width and height of a transform's varblocks, in blocks; the whole number counts.
+pub fn transform_sides(number: i32) -> Option<(usize, usize)> {
+    let &(wide, high) = SIDES.get(usize::try_from(number).ok()?)?;
+    Some((usize::from(wide), usize::from(high)))
+}
 
 /// The sides of the rectangle that a kind is the corner of.
 pub fn kind_sides(kind: u8) -> Option<(usize, usize)> {
-    let transform = kind.checked_sub(FIRST_CORNER_KIND)?;
-    let &(wide, high) = SIDES.get(usize::from(transform))?;
-    Some((usize::from(wide), usize::from(high)))
+    transform_sides(kind.checked_sub(FIRST_CORNER_KIND)?.into())
 }
 
 /// The rectangles of a layout: x, y, width, height and hf_mul of each corner, row by row.

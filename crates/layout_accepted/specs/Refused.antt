@@ -4,9 +4,10 @@ use mathlib.Core.Path.{_≡_}
 use mathlib.Core.Bool.{true, false}
 use mathlib.Core.List.{List}
 use Prim.Native.Nat.{ℕ, _*_, _≤_, _<_}
-use lib.ListN.{length, replicate}
+use lib.ListN.{length, getD, replicate}
 use Rattle.refusal.specs.declared.Said.{Said}
 use Rattle.refusal.specs.Said as refusals
+use Rattle.dct_select.specs.Transforms.{COUNT}
 use Rattle.layout.specs.Grid.{blockAt}
 use Rattle.layout.specs.Valid.{Cells, Covers, Fits, Owned}
 use Rattle.layout.specs.RowByRow.{Before}
@@ -45,6 +46,10 @@ module _ (J : Job) where
     pub sofar : Sofar J (r .x) (r .y) before
     pub free : blockAt (before .kinds) (J .bw) (r .x) (r .y) ≡ 0
     pub stops : column J (r .x) (r .y) before ≡ Stopped (before .used) r
+
+  -- the next column is there, and its type is foreign: as a whole 32-bit number none of 0 to 26 (document 02, No. 5)
+  abbrev pub ForeignNext : Placed → Type 0
+  ForeignNext p = (p .used < length (J .types)) × (COUNT ≤ getD (J .types) (p .used) 0)
 
 module _ (i : Inputs) (kinds hfMul sigma : List ℕ) where
   -- before work: position 0, 0, and nothing is written

@@ -8,3 +8,4 @@ pub mod Refused
 pub mod Sigma
 pub mod Unread
 pub mod Columns
+pub mod Types

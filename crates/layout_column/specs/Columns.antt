@@ -1,13 +1,10 @@
 -- A column: type and mul, each lent as the bit pattern of a signed 32-bit number (document 01, Layout and filter strength).
+-- The type counts as a whole: 0 to 26, anything else is foreign (document 02, No. 5).
 use mathlib.Core.Bool.{Bool, _&&_}
 use Prim.Native.Nat.{ℕ, _+_, _%_, _^_}
 use lib.Dec.{leb, ltb}
 use Rattle.refusal.specs.Answer.{Answer, unless, passed}
 use Rattle.dct_select.specs.Transforms.{COUNT, wide, high}
-
--- the type's low eight bits
-abbrev pub lowEight : ℕ → ℕ
-lowEight type = type % 256
 
 -- mul + 1; the largest mul wraps
 abbrev pub hfMulOf : ℕ → ℕ

@@ -3,7 +3,7 @@ use dct_select::Looked;
 use dct_select::TransformType;
 use refusal::Refusal;
 ghost use mathlib.Core.Path.{_≡_};
-ghost use Rattle.layout_column.specs.Columns.{lowEight, hfMulOf};
+ghost use Rattle.layout_column.specs.Columns.{hfMulOf};
 ghost use Rattle.layout_column.specs.laws.Judged.{saidJudged, judgedOf};
 
 // What a column asks for: the kind of its varblock's corner, hf_mul, and the blocks across and down.
@@ -20,12 +20,11 @@ pub enum Judged {
     Refused(Refusal),
 }
 
-// The type's low eight bits, hf_mul = mul + 1, and the borders, in turn.
+// The type as a whole number, hf_mul = mul + 1, and the borders, in turn.
 pub fn judge(transform: u32, mul: u32, x: usize, y: usize) -> Judged
-    ensures { λ r. ⌜ saidJudged r ≡ judgedOf (lowEight transform) (hfMulOf mul) x y ⌝ }
+    ensures { λ r. ⌜ saidJudged r ≡ judgedOf transform (hfMulOf mul) x y ⌝ }
 {
-    let t = transform % 256;
-    let looked = TransformType::from_number(t);
+    let looked = TransformType::from_number(transform);
     let Looked::Known(known) = looked else {
         return Judged::Refused(Refusal::UnknownTransform(x, y));
     };
@@ -45,7 +44,7 @@ pub fn judge(transform: u32, mul: u32, x: usize, y: usize) -> Judged
     if 32 < y % 32 + high {
         return Judged::Refused(Refusal::Border(x, y));
     }
-    let kind = (2 + t) as u8;
+    let kind = (2 + transform) as u8;
     Judged::Asks(JudgedColumn {
         kind,
         hf_mul,

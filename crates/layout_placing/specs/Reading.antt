@@ -14,7 +14,7 @@ use Rattle.layout.specs.Grid.{blockAt}
 use Rattle.layout_filter.specs.declared.Filter.{Filter}
 use Rattle.layout_filter.specs.declared.ScaledFilter.{ScaledFilter}
 use Rattle.layout_filter.specs.Strength.{scaledBy, dividedBy}
-use Rattle.layout_column.specs.Columns.{lowEight, hfMulOf, columnChecks}
+use Rattle.layout_column.specs.Columns.{hfMulOf, columnChecks}
 use Rattle.layout_placing.specs.Scan.{Scan, Taking, Left, scan}
 
 -- what is read: a grid of bw x bh blocks, columns, a sharpness number per block, the filter with its multiplier × 65536 / scale,
@@ -66,7 +66,7 @@ module _ (J : Job) where
 
   -- type and hf_mul of the next column
   abbrev pub nextType : Placed → ℕ
-  nextType p = lowEight (getD (J .types) (p .used) 0)
+  nextType p = getD (J .types) (p .used) 0
 
   abbrev pub nextHfMul : Placed → ℕ
   nextHfMul p = hfMulOf (getD (J .muls) (p .used) 0)

@@ -8,10 +8,10 @@ use crate::{expected, make};
 
 pub struct LayoutCase;
 
-/// All types, their neighbours, and some that differ in the higher bits only.
-const SHORT_TYPES: [i32; 33] = [
+/// All types, their neighbours, and some that are known by their low eight bits alone.
+const SHORT_TYPES: [i32; 34] = [
     0, 1, 2, 3, 4, 5, 6, 7, 8, 9, 10, 11, 12, 13, 14, 15, 16, 17, 18, 19, 20, 21, 22, 23, 24, 25,
-    26, 27, 28, 255, 256, -1, -256,
+    26, 27, 28, 255, 256, 282, -1, -256,
 ];
 const SHORT_MULS: [i32; 4] = [0, -1, i32::MAX, 4];
 const SHORT_MODES: [[u32; 3]; 3] = [[0; 3], [0, 1, 0], [2, 0, 0]];
@@ -46,6 +46,10 @@ impl Case for LayoutCase {
 
     fn expected(&self, input: &LayoutCall) -> Outcome<usize, LayoutBuffers> {
         expected::layout(input)
+    }
+
+    fn by_model(&self, input: &LayoutCall) -> Option<bool> {
+        Some(expected::has_wide_types(input))
     }
 
     fn short_count(&self) -> usize {
@@ -128,15 +132,14 @@ fn alone(call: &LayoutCall) -> Vec<LayoutCall> {
     let columns = call.types.iter().zip(&call.muls).rev().take(MOST);
     let several = call.types.len() > 1;
     let grid = |(&number, &mul): (&i32, &i32)| {
-        let kind = (number as u8).checked_add(2)?;
-        let (wide, high) = paper::kind_sides(kind)?;
+        let (wide, high) = paper::transform_sides(number).unwrap_or((1, 1));
         let mut alone = call.clone();
         (alone.types, alone.muls) = (vec![number], vec![mul]);
         (alone.width, alone.height) = (8 * wide as u32, 8 * high as u32);
         fit_lengths(&mut alone);
-        Some(alone)
+        alone
     };
-    columns.filter(|_| several).filter_map(grid).collect()
+    columns.filter(|_| several).map(grid).collect()
 }
 
 fn smaller_sides(call: &LayoutCall) -> [(u32, u32); 4] {
@@ -175,13 +178,12 @@ fn accepted(rng: &mut Rng) -> LayoutCall {
     let favoured = rng.once_in(3).then(|| rng.below(27) as u8);
     let mut columns = fill(rng, bw, bh, favoured).columns;
     if rng.once_in(8) {
-        columns.push((rng.any_i32(), rng.any_i32()));
+        let low = rng.once_in(2).then_some(0xff);
+        columns.push((rng.any_i32() & low.unwrap_or(-1), rng.any_i32()));
     }
-    let high_bits = rng.once_in(8);
-    for column in &mut columns {
-        if high_bits {
-            column.0 |= rng.any_i32() & !0xff;
-        }
+    if rng.once_in(8) {
+        let column = rng.below(columns.len());
+        columns[column].0 |= rng.any_i32() & !0xff;
     }
     let mut call = make::layout(width as u32, height as u32, &columns);
     call.modes = modes;

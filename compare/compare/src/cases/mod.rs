@@ -47,6 +47,12 @@ pub trait Case {
 
     fn expected(&self, input: &Self::Input) -> Outcome<Self::Value, Self::Buffers>;
 
+    /// Whether the model answers where the Rust would answer otherwise, by a request of document 02;
+    /// told by calls of which this is so for some inputs.
+    fn by_model(&self, _input: &Self::Input) -> Option<bool> {
+        None
+    }
+
     /// How many short inputs there are, and each by its number.
     fn short_count(&self) -> usize;
     fn short(&self, number: usize) -> Self::Input;

@@ -31,7 +31,17 @@ fn layouts(calls: &Calls) -> Vec<Said> {
             "refused 4 1 0",
         ),
         ("5: type 27", one((27, 0)), "refused 5 0 0"),
-        ("type 256", one((256, 0)), "used 1: [2] [1]"),
+        ("02, No. 5: type 256", one((256, 0)), "refused 5 0 0"),
+        (
+            "02, No. 5: type -256, mul -1",
+            one((-256, -1)),
+            "refused 5 0 0",
+        ),
+        (
+            "02, No. 5: a surplus column of type 256",
+            make::layout(8, 8, &[(0, 0), (256, 0)]),
+            "used 1: [2] [1]",
+        ),
         (
             "surplus columns",
             make::layout(8, 8, &[(0, 0), (99, -7)]),

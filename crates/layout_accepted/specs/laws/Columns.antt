@@ -18,7 +18,7 @@ use Rattle.layout.specs.Valid.{Cells}
 use Rattle.layout.specs.RowByRow.{Before}
 use Rattle.layout.specs.laws.Order.{Here, From, from-start}
 use Rattle.layout.specs.Varblocks.{Varblock, addVarblock, cornersRow, cornersFrom, varblocksOf}
-use Rattle.layout_column.specs.Columns.{lowEight, hfMulOf}
+use Rattle.layout_column.specs.Columns.{hfMulOf}
 use Rattle.layout_placing.specs.Reading.{Job, Placed, Placing, Going, Stopped, nextType, nextHfMul, column, visit, start, reading}
 use Rattle.refusal.specs.Answer.{gives}
 use Rattle.layout_call.specs.Call.{outcomeOf, Inputs, jobOf, allLengthsFit, layoutOf}
@@ -129,7 +129,7 @@ module _ (J : Job) (pairs : length (J .muls) ≡ length (J .types)) where
   -- the varblocks are those of the columns used so far
   pub record InTurn (p : Placed) : Type 0 where
     pub enough : p .used ≤ length (J .types)
-    pub typesAre : map (λ (v : Varblock). v .type) (varblocks p) ≡ map lowEight (take (p .used) (J .types))
+    pub typesAre : map (λ (v : Varblock). v .type) (varblocks p) ≡ take (p .used) (J .types)
     pub mulsAre : map (λ (v : Varblock). v .hfMul) (varblocks p) ≡ map hfMulOf (take (p .used) (J .muls))
 
   begin : InTurn (start J)
@@ -188,7 +188,7 @@ module _ (J : Job) (pairs : length (J .muls) ≡ length (J .types)) where
         typesAre =
             ap (map (λ (v : Varblock). v .type)) grown ∙ map-last (λ (v : Varblock). v .type) (varblocks p) _
             ∙ ap (λ (n : ℕ). map (λ (v : Varblock). v .type) (varblocks p) ++ (n ∷ [])) typeIs ∙ ap (λ (l : List ℕ). l ++ (type ∷ [])) (r .typesAre)
-            ∙ sym (ap (λ (n : ℕ). map lowEight (take n (J .types))) next ∙ ap (map lowEight) (take-suc (J .types) (p .used) 0 more) ∙ map-last lowEight (take (p .used) (J .types)) (getD (J .types) (p .used) 0));
+            ∙ sym (ap (λ (n : ℕ). take n (J .types)) next ∙ take-suc (J .types) (p .used) 0 more);
         mulsAre =
             ap (map (λ (v : Varblock). v .hfMul)) grown ∙ map-last (λ (v : Varblock). v .hfMul) (varblocks p) _
             ∙ ap (λ (n : ℕ). map (λ (v : Varblock). v .hfMul) (varblocks p) ++ (n ∷ [])) (c .puts .hfMulCorner) ∙ ap (λ (l : List ℕ). l ++ (hfMul ∷ [])) (r .mulsAre)
@@ -268,9 +268,9 @@ module _ (i : Inputs) (kinds hfMul sigma : List ℕ) where
     pub accepted-enough : n ≤ length (i .types)
     accepted-enough = let z = in-turn .enough in let u = read .used in omega arith
 
-    -- the types of the varblocks are the first n columns' low eight bits, in turn
-    pub accepted-types : map (λ (v : Varblock). v .type) (varblocksLeft i kinds hfMul sigma) ≡ map lowEight (take n (i .types))
-    accepted-types = ap (map (λ (v : Varblock). v .type)) left-are ∙ in-turn .typesAre ∙ ap (λ (k : ℕ). map lowEight (take k (i .types))) (read .used)
+    -- the types of the varblocks are the first n columns' own, in turn
+    pub accepted-types : map (λ (v : Varblock). v .type) (varblocksLeft i kinds hfMul sigma) ≡ take n (i .types)
+    accepted-types = ap (map (λ (v : Varblock). v .type)) left-are ∙ in-turn .typesAre ∙ ap (λ (k : ℕ). take k (i .types)) (read .used)
 
     -- their hf_mul are the first n columns' mul + 1, in turn
     pub accepted-muls : map (λ (v : Varblock). v .hfMul) (varblocksLeft i kinds hfMul sigma) ≡ map hfMulOf (take n (i .muls))
@@ -280,7 +280,7 @@ module _ (i : Inputs) (kinds hfMul sigma : List ℕ) where
     pub accepted-count : length (varblocksLeft i kinds hfMul sigma) ≡ n
     accepted-count =
         let h = accepted-enough in
-        sym (length-map (varblocksLeft i kinds hfMul sigma) (λ (v : Varblock). v .type)) ∙ ap length accepted-types ∙ length-map (take n (i .types)) lowEight ∙ length-take-le n (i .types) h
+        sym (length-map (varblocksLeft i kinds hfMul sigma) (λ (v : Varblock). v .type)) ∙ ap length accepted-types ∙ length-take-le n (i .types) h
 
     -- columns behind the first n do not matter: any others, or none, give the same
     pub accepted-surplus : (types muls : List ℕ) → length muls ≡ length types → take n types ≡ take n (i .types) → take n muls ≡ take n (i .muls)

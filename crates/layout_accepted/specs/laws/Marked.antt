@@ -67,6 +67,19 @@ pub no5 : off 1 1 (27 ∷ []) (0 ∷ []) .answer ≡ refuses (saidAt 5 0 0)
 unfolding layout-computes
 no5 = refl
 
+-- the type counts as a whole number: 256, and −256 beside mul −1, which 6 would refuse; behind an accepted column, 257 (document 02, No. 5)
+pub no5-256 : off 1 1 (256 ∷ []) (0 ∷ []) .answer ≡ refuses (saidAt 5 0 0)
+unfolding layout-computes
+no5-256 = refl
+
+pub no5-before-6 : off 1 1 (4294967040 ∷ []) (4294967295 ∷ []) .answer ≡ refuses (saidAt 5 0 0)
+unfolding layout-computes
+no5-before-6 = refl
+
+pub no5-behind : off 2 1 (0 ∷ 257 ∷ []) (0 ∷ 0 ∷ []) .answer ≡ refuses (saidAt 5 1 0)
+unfolding layout-computes
+no5-behind = refl
+
 pub no8 : off 2 2 (0 ∷ 6 ∷ 7 ∷ []) (0 ∷ 0 ∷ 0 ∷ []) .answer ≡ refuses (saidAt 8 0 1)
 unfolding layout-computes
 no8 = refl

@@ -67,7 +67,7 @@ module _ (J : Job) where
         go (Left m a b) q = (omega arith, omega arith, refl, refl, refl)
 
     -- a chain of checks, then what follows
-    abbrev afterChecks : Answer Unit → Placing → Placing
+    abbrev pub afterChecks : Answer Unit → Placing → Placing
     afterChecks a next = answeredBy a (λ (s : Said). stopAt (s .number) x y p) (λ (u : Unit). next)
 
     check-well : (n : ℕ) (b : Bool) (a : Answer Unit) (next : Placing) → 4 ≤ n → n ≤ 10 → Well (afterChecks a next) → Well (afterChecks (unless n b a) next)

@@ -1,12 +1,32 @@
-use Rattle.dct_select.specs.laws.LookUp.{known-is, unknown-is, sized}
-use Rattle.layout_column.specs.laws.Judged.{judged-unknown, judged-zero, judged-negative, judged-wide, judged-high, judged-asks}
-use Rattle.layout_column.specs.Columns.{lowEight, hfMulOf}
-use borrow.Author.Needs.{needs}
+use Prim.Native.Nat.{ℕ, _<_}
+use mathlib.Core.Path.{_≡_, _∙_, ap, sym}
 use native.Mathlib.Omega.{arith}
-use mathlib.Core.Path.{_∙_, ap, sym}
-use Rattle.dct_select.specs.LookUp.{answered}
+use borrow.Author.Needs.{needs}
+use Rattle.refusal.specs.Answer.{gives}
+use Rattle.dct_select.specs.LookUp.{answered, lookUp}
+use Rattle.dct_select.specs.laws.LookUp.{known-is, unknown-is, Sized, sized}
+use Rattle.layout_column.specs.Columns.{hfMulOf}
+use Rattle.layout_column.specs.laws.Judged.{judged-unknown, judged-zero, judged-negative, judged-wide, judged-high, judged-asks}
 use Rattle.layout_column.proofs.judge.Statement.{statement}
 use Rattle.layout_column.proofs.judge.Tie as tie
+
+-- Stages: from one to an earlier one.
+abbrev to-start : tie.After-wrapping-add-u32 → tie.Start
+to-start c = c .before .before .before .before .before
+
+abbrev to-added : tie.After-dct-select-size → tie.After-wrapping-add-u32
+to-added c = c .before .before .before
+
+-- The number stands for a transform.
+known : (c : tie.After-wrapping-add-u32) → lookUp (to-start c .args .transform) ≡ gives (c .before .before .looked .given .0 .0)
+known c = sym (c .before .before .before .before .from-number .ensures) ∙ ap answered (c .before .before .looked .given .1)
+
+below : (c : tie.After-wrapping-add-u32) → to-start c .args .transform < 27
+below c = known-is (to-start c .args .transform) _ (known c) .0
+
+-- The sides are that transform's.
+sides : (c : tie.After-dct-select-size) → Sized (to-start (to-added c) .args .transform) (c .dct-select-size .result)
+sides c = sized (to-start (to-added c) .args .transform) _ (c .dct-select-size .result) (known (to-added c)) (c .dct-select-size .ensures)
 
 enum-told : tie.Need-enum-told
 enum-told c = search needs
@@ -15,66 +35,52 @@ returns : tie.Need-returns
 returns c =
     let a = c .before .before .before .args in
     let e = sym (c .before .before .from-number .ensures) ∙ ap answered (c .enum-told .given .1) in
-    judged-unknown (lowEight (a .transform)) (hfMulOf (a .mul)) (a .x) (a .y) (unknown-is (lowEight (a .transform)) _ e)
+    judged-unknown (a .transform) (hfMulOf (a .mul)) (a .x) (a .y) (unknown-is (a .transform) _ e)
 
 returns-2 : tie.Need-returns-2
 returns-2 c =
-    let a = c .before .before .before .before .before .before .args in
-    let e = sym (c .before .before .before .before .before .from-number .ensures) ∙ ap answered (c .before .before .before .looked .given .1) in
+    let a = to-start (c .before) .args in
     let w = c .before .wrapping-add-u32 .ensures in
-    judged-zero (lowEight (a .transform)) (hfMulOf (a .mul)) (a .x) (a .y) (known-is (lowEight (a .transform)) _ e .0) (omega arith)
+    judged-zero (a .transform) (hfMulOf (a .mul)) (a .x) (a .y) (below (c .before)) (omega arith)
 
 returns-3 : tie.Need-returns-3
 returns-3 c =
-    let a = c .before .before .before .before .before .before .before .args in
-    let e = sym (c .before .before .before .before .before .before .from-number .ensures) ∙ ap answered (c .before .before .before .before .looked .given .1) in
+    let a = to-start (c .before .before) .args in
     let w = c .before .before .wrapping-add-u32 .ensures in
-    judged-negative (lowEight (a .transform)) (hfMulOf (a .mul)) (a .x) (a .y) (known-is (lowEight (a .transform)) _ e .0) (omega arith) (omega arith)
+    judged-negative (a .transform) (hfMulOf (a .mul)) (a .x) (a .y) (below (c .before .before)) (omega arith) (omega arith)
 
 add-if3 : tie.Need-add-if3
-add-if3 c =
-    let a = c .before .before .before .before .before .before .before .before .args in
-    let e = sym (c .before .before .before .before .before .before .before .from-number .ensures) ∙ ap answered (c .before .before .before .before .before .looked .given .1) in
-    let s = sized (lowEight (a .transform)) _ (c .dct-select-size .result) e (c .dct-select-size .ensures) in
-    omega arith
+add-if3 c = let s = sides c in omega arith
 
 returns-4 : tie.Need-returns-4
 returns-4 c =
-    let a = c .before .before .before .before .before .before .before .before .before .args in
-    let e = sym (c .before .before .before .before .before .before .before .before .from-number .ensures) ∙ ap answered (c .before .before .before .before .before .before .looked .given .1) in
-    let s = sized (lowEight (a .transform)) _ (c .before .dct-select-size .result) e (c .before .dct-select-size .ensures) in
-    let w = c .before .before .before .before .wrapping-add-u32 .ensures in
-    judged-wide (lowEight (a .transform)) (hfMulOf (a .mul)) (a .x) (a .y) (s .below) (omega arith) (omega arith) (omega arith)
+    let a = to-start (to-added (c .before)) .args in
+    let s = sides (c .before) in
+    let w = to-added (c .before) .wrapping-add-u32 .ensures in
+    judged-wide (a .transform) (hfMulOf (a .mul)) (a .x) (a .y) (s .below) (omega arith) (omega arith) (omega arith)
 
 add-if4 : tie.Need-add-if4
-add-if4 c =
-    let a = c .before .before .before .before .before .before .before .before .before .args in
-    let e = sym (c .before .before .before .before .before .before .before .before .from-number .ensures) ∙ ap answered (c .before .before .before .before .before .before .looked .given .1) in
-    let s = sized (lowEight (a .transform)) _ (c .before .dct-select-size .result) e (c .before .dct-select-size .ensures) in
-    omega arith
+add-if4 c = let s = sides (c .before) in omega arith
 
 returns-5 : tie.Need-returns-5
 returns-5 c =
-    let a = c .before .before .before .before .before .before .before .before .before .before .args in
-    let e = sym (c .before .before .before .before .before .before .before .before .before .from-number .ensures) ∙ ap answered (c .before .before .before .before .before .before .before .looked .given .1) in
-    let s = sized (lowEight (a .transform)) _ (c .before .before .dct-select-size .result) e (c .before .before .dct-select-size .ensures) in
-    let w = c .before .before .before .before .before .wrapping-add-u32 .ensures in
-    judged-high (lowEight (a .transform)) (hfMulOf (a .mul)) (a .x) (a .y) (s .below) (omega arith) (omega arith) (omega arith) (omega arith)
+    let a = to-start (to-added (c .before .before)) .args in
+    let s = sides (c .before .before) in
+    let w = to-added (c .before .before) .wrapping-add-u32 .ensures in
+    judged-high (a .transform) (hfMulOf (a .mul)) (a .x) (a .y) (s .below) (omega arith) (omega arith) (omega arith) (omega arith)
+
+add-kind : tie.Need-add-kind
+add-kind c = let b = below (to-added (c .before .before)) in omega arith
 
 cast-kind : tie.Need-cast-kind
-cast-kind c =
-    let a = c .before .before .before .before .before .before .before .before .before .before .args in
-    let e = sym (c .before .before .before .before .before .before .before .before .before .from-number .ensures) ∙ ap answered (c .before .before .before .before .before .before .before .looked .given .1) in
-    let s = sized (lowEight (a .transform)) _ (c .before .before .dct-select-size .result) e (c .before .before .dct-select-size .ensures) in
-    omega arith
+cast-kind c = let b = below (to-added (c .before .before)) in omega arith
 
 returns-6 : tie.Need-returns-6
 returns-6 c =
-    let a = c .before .before .before .before .before .before .before .before .before .before .args in
-    let e = sym (c .before .before .before .before .before .before .before .before .before .from-number .ensures) ∙ ap answered (c .before .before .before .before .before .before .before .looked .given .1) in
-    let s = sized (lowEight (a .transform)) _ (c .before .before .dct-select-size .result) e (c .before .before .dct-select-size .ensures) in
-    let w = c .before .before .before .before .before .wrapping-add-u32 .ensures in
-    rw (w, s .wideIs, s .highIs) (judged-asks (lowEight (a .transform)) (hfMulOf (a .mul)) (a .x) (a .y) (s .below) (omega arith) (omega arith) (omega arith) (omega arith))
+    let a = to-start (to-added (c .before .before)) .args in
+    let s = sides (c .before .before) in
+    let w = to-added (c .before .before) .wrapping-add-u32 .ensures in
+    judged-asks (a .transform) (hfMulOf (a .mul)) (a .x) (a .y) (s .below) (omega arith) (omega arith) _ _ _ w (s .wideIs) (s .highIs) (omega arith) (omega arith)
 
 pub judge-spec : {M : Type 1} → statement M
 judge-spec =
@@ -92,6 +98,6 @@ judge-spec =
     returns-4
     add-if4
     returns-5
-    (λ c. search needs)
+    add-kind
     cast-kind
     returns-6)

@@ -51,10 +51,11 @@ module _ (t h x y : ℕ) where
       judged-high d e =
           rw (lt-ltb t 27 a, le-leb 1 h b, lt-ltb h 2147483648 c, le-leb (x % 32 + wide t) 32 d, lt-leb (y % 32 + high t) 32 e)
 
-      pub judged-asks : x % 32 + wide t ≤ 32 → y % 32 + high t ≤ 32 → gives (judgedColumn t h) ≡ judgedOf t h x y
+      pub judged-asks : (g w n : ℕ) → g ≡ h → w ≡ wide t → n ≡ high t → x % 32 + w ≤ 32 → y % 32 + n ≤ 32
+          → gives (record { kind = 2 + t; «hf_mul» = g; wide = w; high = n }) ≡ judgedOf t h x y
       unfolding judgedOf
-      judged-asks d e =
-          rw (lt-ltb t 27 a, le-leb 1 h b, lt-ltb h 2147483648 c, le-leb (x % 32 + wide t) 32 d, le-leb (y % 32 + high t) 32 e)
+      judged-asks g w n p q r d e =
+          rw (lt-ltb t 27 a, le-leb 1 h b, lt-ltb h 2147483648 c, p, q, r, le-leb (x % 32 + wide t) 32 (rw q at d), le-leb (y % 32 + high t) 32 (rw r at e))
 
 -- a column that passes the checks
 pub record Fitting (t h x y : ℕ) : Type 0 where

@@ -2,12 +2,13 @@
 use mathlib.Core.Path.{_≡_, ap, _∙_}
 use Prim.Native.Nat.{ℕ, _≤_, _<_}
 use native.Mathlib.Omega.{arith}
-use lib.ListN.{length}
+use lib.ListN.{length, getD}
 use borrow.Author.Tests.{lt-ltb, le-ltb, eq-eqb, ne-eqb}
 use Rattle.refusal.specs.declared.Said.{Said}
 use Rattle.refusal.specs.Said as refusals
 use Rattle.refusal.specs.Answer.{Answer, gives, refuses, answeredBy}
 use Rattle.refusal.specs.laws.Answer.{answered-by}
+use Rattle.dct_select.specs.Transforms.{COUNT}
 use Rattle.layout.specs.Grid.{blockAt}
 use Rattle.layout_column.specs.declared.Judged.{Judged}
 use Rattle.layout_column.specs.declared.JudgedColumn.{JudgedColumn}
@@ -23,6 +24,16 @@ module _ (J : Job) (x y : ℕ) (p : Placed) where
   abbrev pub byJudged : Judged → Placing
   byJudged j = byAsking (saidJudged j)
 
+  -- no column is left
+  pub column-ends : length (J .types) ≤ p .used → stopAt 4 x y p ≡ column J x y p
+  unfolding column
+  column-ends l = rw (le-ltb (p .used) (length (J .types)) l)
+
+  -- the next column's type is foreign, whatever its mul
+  pub column-foreign : p .used < length (J .types) → COUNT ≤ getD (J .types) (p .used) 0 → stopAt 5 x y p ≡ column J x y p
+  unfolding column
+  column-foreign l t = rw (lt-ltb (p .used) (length (J .types)) l, le-ltb (getD (J .types) (p .used) 0) COUNT t)
+
   pub visit-taken : 0 < blockAt (p .kinds) (J .bw) x y → Going p ≡ visit J x y (Going p)
   visit-taken h = rw (ne-eqb (blockAt (p .kinds) (J .bw) x y) 0 (omega arith))
 
@@ -31,8 +42,7 @@ module _ (J : Job) (x y : ℕ) (p : Placed) where
     is-free = omega arith
 
     pub visit-ends : length (J .types) ≤ p .used → stopAt 4 x y p ≡ visit J x y (Going p)
-    unfolding column
-    visit-ends l = rw (eq-eqb (blockAt (p .kinds) (J .bw) x y) 0 is-free, le-ltb (p .used) (length (J .types)) l)
+    visit-ends l = rw (eq-eqb (blockAt (p .kinds) (J .bw) x y) 0 is-free) (column-ends l)
 
     pub visit-judged : (j : Judged) → p .used < length (J .types) → saidJudged j ≡ judgedOf (nextType J p) (nextHfMul J p) x y → byJudged j ≡ visit J x y (Going p)
     unfolding column judgedOf

@@ -2,7 +2,7 @@ use Rattle.layout_placing.specs.laws.Visits.{byJudged, visit-taken, visit-ends,
 use Rattle.layout_placing.specs.Reading.{jobWith}
 use Rattle.layout_reading.specs.laws.Outcome.{stateOf}
 use Rattle.layout_column.specs.laws.Judged.{asks-most}
-use Rattle.layout_column.specs.Columns.{lowEight, hfMulOf}
+use Rattle.layout_column.specs.Columns.{hfMulOf}
 use Rattle.layout_column.specs.laws.Judged.{saidJudged}
 use lib.Arith.{digits-lt}
 use borrow.Author.Needs.{needs}
@@ -48,7 +48,7 @@ place-requires : tie.Need-place-requires
 place-requires c κs =
     let a = to-start (c .before .before .before .before .before .before) .args in
     let h = to-start (c .before .before .before .before .before .before) .pre in
-    let m = asks-most (lowEight (getD (a .types .now) (a .used) 0)) (hfMulOf (getD (a .muls .now) (a .used) 0)) (a .x) (a .y) _ (sym (c .before .before .before .before .before .before .judge .ensures) ∙ ap saidJudged (c .before .before .before .before .judged2 .given .1)) in
+    let m = asks-most (getD (a .types .now) (a .used) 0) (hfMulOf (getD (a .muls .now) (a .used) 0)) (a .x) (a .y) _ (sym (c .before .before .before .before .before .before .judge .ensures) ∙ ap saidJudged (c .before .before .before .before .judged2 .given .1)) in
     (h .0, h .1, h .2, h .3, omega arith, omega arith, m .0, m .1, omega arith, omega arith, search needs, m .2, h .9)
 
 returns-3 : tie.Need-returns-3
