@@ -14,11 +14,11 @@ pub fn layout(call: &LayoutCall) -> Outcome<usize, LayoutBuffers> {
         bw,
         bh,
         used: 0,
-        left: LayoutBuffers::zeros(bw * bh),
+        filled: LayoutBuffers::zeros(bw * bh),
     };
     for y in 0..bh {
         for x in 0..bw {
-            if placing.left.kinds[y * bw + x] != KIND_FREE {
+            if placing.filled.kinds[y * bw + x] != KIND_FREE {
                 continue;
             }
             if let Err(number) = placing.place(x, y) {
@@ -31,7 +31,7 @@ pub fn layout(call: &LayoutCall) -> Outcome<usize, LayoutBuffers> {
     }
     Outcome {
         answer: Ok(placing.used),
-        buffers: placing.left,
+        buffers: placing.filled,
     }
 }
 
@@ -40,7 +40,7 @@ struct Placing<'a> {
     bw: usize,
     bh: usize,
     used: usize,
-    left: LayoutBuffers,
+    filled: LayoutBuffers,
 }
 
 impl Placing<'_> {
@@ -60,8 +60,8 @@ impl Placing<'_> {
                 self.take(column, row, hf_mul)?;
             }
         }
-        self.left.kinds[y * self.bw + x] = FIRST_CORNER_KIND + number as u8;
-        self.left.hf_mul[y * self.bw + x] = hf_mul;
+        self.filled.kinds[y * self.bw + x] = FIRST_CORNER_KIND + number as u8;
+        self.filled.hf_mul[y * self.bw + x] = hf_mul;
         self.used += 1;
         Ok(())
     }
@@ -72,14 +72,14 @@ impl Placing<'_> {
             return Err(9);
         }
         let block = y * self.bw + x;
-        if self.left.kinds[block] != KIND_FREE {
+        if self.filled.kinds[block] != KIND_FREE {
             return Err(8);
         }
-        self.left.kinds[block] = KIND_OCCUPIED;
+        self.filled.kinds[block] = KIND_OCCUPIED;
         if let Some(multiplier) = self.call.filter {
             let sharpness = usize::try_from(self.call.sharpness[block]).map_err(|_| 10_u32)?;
             let lookup = self.call.lookup.get(sharpness).ok_or(10_u32)?;
-            self.left.sigma[block] =
+            self.filled.sigma[block] =
                 multiplier * 65536.0 / self.call.scale as f32 / hf_mul as f32 * lookup;
         }
         Ok(())

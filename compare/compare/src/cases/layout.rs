@@ -8,7 +8,7 @@ use crate::{expected, make};
 
 pub struct LayoutCase;
 
-/// All types, their neighbours, and some that are known by their low eight bits alone.
+/// All types, their neighbours, and some of more than eight bits.
 const SHORT_TYPES: [i32; 34] = [
     0, 1, 2, 3, 4, 5, 6, 7, 8, 9, 10, 11, 12, 13, 14, 15, 16, 17, 18, 19, 20, 21, 22, 23, 24, 25,
     26, 27, 28, 255, 256, 282, -1, -256,
@@ -178,8 +178,8 @@ fn accepted(rng: &mut Rng) -> LayoutCall {
     let favoured = rng.once_in(3).then(|| rng.below(27) as u8);
     let mut columns = fill(rng, bw, bh, favoured).columns;
     if rng.once_in(8) {
-        let low = rng.once_in(2).then_some(0xff);
-        columns.push((rng.any_i32() & low.unwrap_or(-1), rng.any_i32()));
+        let mask = if rng.once_in(2) { 0xff } else { -1 };
+        columns.push((rng.any_i32() & mask, rng.any_i32()));
     }
     if rng.once_in(8) {
         let column = rng.below(columns.len());
