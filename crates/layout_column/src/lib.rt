@@ -28,6 +28,7 @@ pub fn judge(transform: u32, mul: u32, x: usize, y: usize) -> Judged
     let Looked::Known(known) = looked else {
         return Judged::Refused(Refusal::UnknownTransform(x, y));
     };
+    let kind = (2 + transform) as u8;
     let hf_mul = std::num::wrapping_add_u32(mul, 1);
     if hf_mul < 1 {
         return Judged::Refused(Refusal::HfMul(x, y));
@@ -44,7 +45,6 @@ pub fn judge(transform: u32, mul: u32, x: usize, y: usize) -> Judged
     if 32 < y % 32 + high {
         return Judged::Refused(Refusal::Border(x, y));
     }
-    let kind = (2 + transform) as u8;
     Judged::Asks(JudgedColumn {
         kind,
         hf_mul,
