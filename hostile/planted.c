@@ -186,7 +186,7 @@ static const int32_t *low_eight(const int32_t *types, size_t length)
     return low;
 }
 
-/* Whether the first column of a foreign type has a mul that 6 refuses. */
+/* Whether the first column of an unknown type has a mul that 6 refuses. */
 static bool refused_with_6(const int32_t *types, const int32_t *muls)
 {
     size_t column = 0;

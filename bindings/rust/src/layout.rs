@@ -112,7 +112,7 @@ pub fn column_count(bytes: &[u8], group: LfGroup) -> Result<ColumnCount> {
 #[derive(Debug, Copy, Clone)]
 pub struct Columns<'a> {
     /// Each column's transform number, as `TransformType::Dct16 as i32` is one. All 32 bits count:
-    /// what is not 0 to 26 is refused with 5, flags above the number among it.
+    /// in a column that is used any number but 0 to 26 is refused with 5, so 256 too.
     pub types: &'a [i32],
     /// Each column's mul. Its hf_mul is mul + 1 and must be positive; the largest mul wraps, and is
     /// refused with 6.

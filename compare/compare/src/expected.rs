@@ -1,5 +1,5 @@
 //! What the papers expect of each call: the checks that only they have, then the Rust; where a request
-//! of document 02 leaves the Rust's answer, the model.
+//! of document 02 asks for another answer than the Rust's, the model.
 
 use calls::{
     Answer, CoefficientBuffers, CoefficientsCall, ColumnCount, ColumnCountCall, Contexts,
@@ -23,14 +23,14 @@ pub fn column_count(call: &ColumnCountCall) -> Answer<ColumnCount> {
 pub fn layout(call: &LayoutCall) -> Outcome<usize, LayoutBuffers> {
     match paper::layout_before_work(call) {
         Some(refusal) => Outcome::untouched(refusal, call.buffers.clone()),
-        None if has_wide_types(call) => paper::layout(call),
+        None if has_types_above_a_byte(call) => paper::layout(call),
         None => oracle::layout(call),
     }
 }
 
-/// Whether a type is not 0 to 255. The Rust looks at the low eight bits alone, document 02's No. 5 at
+/// Whether a type is not 0 to 255. The Rust looks at its low eight bits alone, document 02's No. 5 at
 /// all of them, so such a list is not lent to the Rust.
-pub fn has_wide_types(call: &LayoutCall) -> bool {
+pub fn has_types_above_a_byte(call: &LayoutCall) -> bool {
     call.types
         .iter()
         .any(|&number| u8::try_from(number).is_err())

@@ -31,6 +31,15 @@ fn sizes_of_the_orders() {
     }
 }
 
+/// What docs/DIFFERENCES.md says of the Rust, which the comparison no longer lends such types.
+#[test]
+fn the_rust_looks_at_the_low_eight_bits() {
+    let answer = |column| oracle::layout(&make::layout(8, 8, &[column])).answer;
+    let number = |column| answer(column).map_err(|refusal| refusal.number);
+    assert_eq!((number((256, 0)), number((-256, 0))), (Ok(1), Ok(1)));
+    assert_eq!((number((-1, 0)), number((-256, -1))), (Err(5), Err(6)));
+}
+
 /// The model is asked for layouts whose types are not 0 to 255; where they are, the Rust shows that it
 /// is right.
 #[test]

@@ -1,6 +1,6 @@
 //! A plain model of what the papers add to the Rust: the checks before work, the cut, the likeness
-//! test, and the layout call where types have more than eight bits. Written from the papers, not
-//! from the code under comparison; where the Rust has a call, the Rust answers.
+//! test, and the layout call on lists with a type that is not 0 to 255. Written from the papers, not
+//! from the code under comparison; everywhere else the Rust answers.
 
 mod coefficients;
 mod contexts;

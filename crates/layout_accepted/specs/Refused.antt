@@ -12,7 +12,7 @@ use Rattle.layout.specs.Grid.{blockAt}
 use Rattle.layout.specs.Valid.{Cells, Covers, Fits, Owned}
 use Rattle.layout.specs.RowByRow.{Before}
 use Rattle.layout_sizes.specs.Blocks.{sizeFits}
-use Rattle.layout_placing.specs.Reading.{Job, Placed, Stopped, column}
+use Rattle.layout_placing.specs.Reading.{Job, Placed, Stopped, column, reading}
 use Rattle.layout_call.specs.Call.{Inputs, jobOf, parametersFit, allLengthsFit, layoutOf}
 use Rattle.layout_accepted.specs.Outcome.{bwOf, bhOf}
 
@@ -47,9 +47,9 @@ module _ (J : Job) where
     pub free : blockAt (before .kinds) (J .bw) (r .x) (r .y) ≡ 0
     pub stops : column J (r .x) (r .y) before ≡ Stopped (before .used) r
 
-  -- the next column is there, and its type is foreign: as a whole 32-bit number none of 0 to 26 (document 02, No. 5)
-  abbrev pub ForeignNext : Placed → Type 0
-  ForeignNext p = (p .used < length (J .types)) × (COUNT ≤ getD (J .types) (p .used) 0)
+  -- the next column is there, and its type is unknown: as a whole 32-bit number none of 0 to 26 (document 02, No. 5)
+  abbrev pub UnknownNext : Placed → Type 0
+  UnknownNext p = (p .used < length (J .types)) × (COUNT ≤ getD (J .types) (p .used) 0)
 
 module _ (i : Inputs) (kinds hfMul sigma : List ℕ) where
   -- before work: position 0, 0, and nothing is written
@@ -63,6 +63,8 @@ module _ (i : Inputs) (kinds hfMul sigma : List ℕ) where
   pub record AtWork (r : Said) : Type 0 where
     pub block : AtBlock (bwOf i) (bhOf i) r
     pub free : AtFree (jobOf i) r
+    -- as many columns were placed
+    pub reads : reading (jobOf i) ≡ Stopped (free .before .used) r
     pub kindsZero : layoutOf i kinds hfMul sigma .kinds ≡ replicate (bhOf i * bwOf i) 0
     pub hfMulZero : layoutOf i kinds hfMul sigma .hfMul ≡ replicate (bhOf i * bwOf i) 0
     pub sigmaZero : layoutOf i kinds hfMul sigma .sigma ≡ replicate (bhOf i * bwOf i) 0

@@ -1,5 +1,5 @@
 -- A column: type and mul, each lent as the bit pattern of a signed 32-bit number (document 01, Layout and filter strength).
--- The type counts as a whole: 0 to 26, anything else is foreign (document 02, No. 5).
+-- The type counts as a whole: 0 to 26, anything else is unknown (document 02, No. 5).
 use mathlib.Core.Bool.{Bool, _&&_}
 use Prim.Native.Nat.{ℕ, _+_, _%_, _^_}
 use lib.Dec.{leb, ltb}

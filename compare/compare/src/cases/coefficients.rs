@@ -218,7 +218,7 @@ fn group(rng: &mut Rng) -> Layout {
     let favoured = rng.once_in(2).then(|| rng.below(27) as u8);
     let (bw, bh) = match (rng.below(40), favoured) {
         (0, _) => (rng.between(1, 32), rng.between(1, 32)),
-        (1..=12, Some(transform)) => paper::kind_sides(transform + 2).expect("a transform"),
+        (1..=12, Some(transform)) => paper::transform_sides(transform.into()).expect("a transform"),
         _ => (rng.between(1, 5), rng.between(1, 5)),
     };
     fill(rng, bw, bh, favoured).layout

@@ -8,7 +8,7 @@ use crate::{expected, make};
 
 pub struct LayoutCase;
 
-/// All types, their neighbours, and some of more than eight bits.
+/// All types, their neighbours, and some that are not 0 to 255.
 const SHORT_TYPES: [i32; 34] = [
     0, 1, 2, 3, 4, 5, 6, 7, 8, 9, 10, 11, 12, 13, 14, 15, 16, 17, 18, 19, 20, 21, 22, 23, 24, 25,
     26, 27, 28, 255, 256, 282, -1, -256,
@@ -49,7 +49,7 @@ impl Case for LayoutCase {
     }
 
     fn by_model(&self, input: &LayoutCall) -> Option<bool> {
-        Some(expected::has_wide_types(input))
+        Some(expected::has_types_above_a_byte(input))
     }
 
     fn short_count(&self) -> usize {
@@ -82,7 +82,7 @@ impl Case for LayoutCase {
     }
 
     fn random(&self, rng: &mut Rng) -> LayoutCall {
-        let mut call = accepted(rng);
+        let mut call = filled(rng);
         if !rng.once_in(4) {
             for _ in 0..rng.between(1, 3) {
                 damage(rng, &mut call);
@@ -161,7 +161,8 @@ fn fit_lengths(call: &mut LayoutCall) {
     call.buffers = make::used_buffers(bw * bh);
 }
 
-fn accepted(rng: &mut Rng) -> LayoutCall {
+/// Columns that fill the grid; once in eight times one of them has bits above the low eight.
+fn filled(rng: &mut Rng) -> LayoutCall {
     let (width, height) = match rng.below(400) {
         0 => (rng.between(1, 2048), rng.between(1, 2048)),
         1..=19 => (rng.between(232, 296), rng.between(1, 40)),

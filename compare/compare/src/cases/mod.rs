@@ -47,8 +47,8 @@ pub trait Case {
 
     fn expected(&self, input: &Self::Input) -> Outcome<Self::Value, Self::Buffers>;
 
-    /// Whether the model answers where the Rust would answer otherwise, by a request of document 02;
-    /// told by calls of which this is so for some inputs.
+    /// Whether the input is one that the Rust is not lent, by a request of document 02, so that the
+    /// model answers; told by calls that have such inputs.
     fn by_model(&self, _input: &Self::Input) -> Option<bool> {
         None
     }

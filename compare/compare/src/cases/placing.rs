@@ -68,7 +68,7 @@ pub fn single(transform: u8) -> Layout {
 }
 
 fn sides(transform: u8) -> (usize, usize) {
-    paper::kind_sides(transform + 2).expect("a transform number")
+    paper::transform_sides(transform.into()).expect("a transform number")
 }
 
 fn free_at(kinds: &[u8], bw: usize, bh: usize, x: usize, y: usize, transform: u8) -> bool {

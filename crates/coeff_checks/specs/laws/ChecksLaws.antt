@@ -16,7 +16,7 @@ use Rattle.context_record.specs.laws.Bounds.{is-fit}
 use Rattle.coeff_group.specs.PassGroup.{PassGroup}
 use Rattle.coeff_group.specs.Work.{clustersOf}
 use Rattle.coeff_checks.specs.Checks.{blocks, sidesFit, parametersFit, threeFit, lfFits, readFits, allLengthsFit, layoutFits, beforeWork, Passed}
-use Rattle.coeff_checks.specs.laws.Tests.{readLengthsFit, otherLengthsFit, groupPasses, two, three, four, truth, written-is, passes-is}
+use Rattle.coeff_checks.specs.laws.Tests.{readLengthsFit, otherLengthsFit, groupPasses, two, three, four, truth, other-lengths-are, passes-is}
 
 pub record Sides (P : PassGroup) : Type 0 where
   pub someWide : 1 ≤ P .bw
@@ -43,39 +43,39 @@ most-blocks P e = let s = sides-fit P e in mul-le-mul (s .high) (s .wide)
 pub few-clusters : (R : HfBlockContext) → fit R ≡ true → R .«num_block_clusters» ≤ 16
 few-clusters R e = is-fit R e .few
 
-module _ (P : PassGroup) (presets clusterMap log g0 g1 g2 : ℕ) where
+module _ (P : PassGroup) (presets clusterMapLength logLength g0Length g1Length g2Length : ℕ) where
   pub record Lengths : Type 0 where
     pub kinds : length (P .kinds) ≡ blocks P
     pub hfMul : length (P .hfMul) ≡ blocks P
     pub lf : P .lfThere ≡ true → (length (P .lf0) ≡ blocks P) × (length (P .lf1) ≡ blocks P) × (length (P .lf2) ≡ blocks P)
     pub store : length (P .store) ≡ 2 * PLACES
-    pub map : clusterMap ≡ 495 * clustersOf P * presets
-    pub grids : (g0 ≡ 64 * blocks P) × (g1 ≡ 64 * blocks P) × (g2 ≡ 64 * blocks P)
-    pub room : 192 * blocks P ≤ log
+    pub map : clusterMapLength ≡ 495 * clustersOf P * presets
+    pub grids : (g0Length ≡ 64 * blocks P) × (g1Length ≡ 64 * blocks P) × (g2Length ≡ 64 * blocks P)
+    pub room : 192 * blocks P ≤ logLength
 
   equal : (a b c n : ℕ) → T (threeFit a b c n) → (a ≡ n) × (b ≡ n) × (c ≡ n)
   equal a b c n t = let g = three (eqb a n) (eqb b n) (eqb c n) t in (eqb→eq a n (g .0), eqb→eq b n (g .1), eqb→eq c n (g .2))
 
-  pub lengths-fit : allLengthsFit P presets clusterMap log g0 g1 g2 ≡ true → Lengths
+  pub lengths-fit : allLengthsFit P presets clusterMapLength logLength g0Length g1Length g2Length ≡ true → Lengths
   lengths-fit e =
       let n = blocks P in
-      let t = four (readFits P) (eqb clusterMap (495 * clustersOf P * presets)) (threeFit g0 g1 g2 (64 * n)) (leb (192 * n) log) (truth (allLengthsFit P presets clusterMap log g0 g1 g2) e) in
+      let t = four (readFits P) (eqb clusterMapLength (495 * clustersOf P * presets)) (threeFit g0Length g1Length g2Length (64 * n)) (leb (192 * n) logLength) (truth (allLengthsFit P presets clusterMapLength logLength g0Length g1Length g2Length) e) in
       let p = four (eqb (length (P .kinds)) n) (eqb (length (P .hfMul)) n) (lfFits P) (eqb (length (P .store)) (2 * PLACES)) (t .0) in
       record {
         kinds = eqb→eq (length (P .kinds)) n (p .0);
         hfMul = eqb→eq (length (P .hfMul)) n (p .1);
         lf = λ y. equal (length (P .lf0)) (length (P .lf1)) (length (P .lf2)) n (rw y at (p .2));
         store = eqb→eq (length (P .store)) (2 * PLACES) (p .3);
-        map = eqb→eq clusterMap (495 * clustersOf P * presets) (t .1);
-        grids = equal g0 g1 g2 (64 * n) (t .2);
-        room = leb→le (192 * n) log (t .3);
+        map = eqb→eq clusterMapLength (495 * clustersOf P * presets) (t .1);
+        grids = equal g0Length g1Length g2Length (64 * n) (t .2);
+        room = leb→le (192 * n) logLength (t .3);
       }
 
-module _ (P : PassGroup) (presets shift clusterMap log g0 g1 g2 : ℕ) where
+module _ (P : PassGroup) (presets shift clusterMapLength logLength g0Length g1Length g2Length : ℕ) where
   abbrev answer : Answer Unit
-  answer = beforeWork P presets shift clusterMap log g0 g1 g2
+  answer = beforeWork P presets shift clusterMapLength logLength g0Length g1Length g2Length
 
-  pub checks-pass : Passed P presets shift clusterMap log g0 g1 g2 → answer ≡ passed
+  pub checks-pass : Passed P presets shift clusterMapLength logLength g0Length g1Length g2Length → answer ≡ passed
   unfolding beforeWork
   checks-pass p = rw (p .sides, p .parameters, p .contexts, p .lengths, p .layout, p .places)
 
@@ -94,24 +94,24 @@ module _ (P : PassGroup) (presets shift clusterMap log g0 g1 g2 : ℕ) where
       checks-12 c = rw (a, b, c)
 
       module _ (c : fit (P .contexts) ≡ true) where
-        pub checks-1 : allLengthsFit P presets clusterMap log g0 g1 g2 ≡ false → answer ≡ refuses (refusals.saidAt 1 0 0)
+        pub checks-1 : allLengthsFit P presets clusterMapLength logLength g0Length g1Length g2Length ≡ false → answer ≡ refuses (refusals.saidAt 1 0 0)
         unfolding beforeWork
         checks-1 d = rw (a, b, c, d)
 
         -- the lengths as the code compares them
         pub lengths-are : (readFit r : Bool)
             → readFit ≡ readLengthsFit (length (P .kinds)) (length (P .hfMul)) (P .lfThere) (length (P .lf0)) (length (P .lf1)) (length (P .lf2)) (length (P .store)) (blocks P)
-            → r ≡ otherLengthsFit (clustersOf P) presets clusterMap g0 g1 g2 log (blocks P) readFit
-            → allLengthsFit P presets clusterMap log g0 g1 g2 ≡ r
+            → r ≡ otherLengthsFit (clustersOf P) presets clusterMapLength g0Length g1Length g2Length logLength (blocks P) readFit
+            → allLengthsFit P presets clusterMapLength logLength g0Length g1Length g2Length ≡ r
         lengths-are readFit r e f =
             sym (f
-            ∙ written-is (clustersOf P) presets clusterMap g0 g1 g2 log (blocks P) readFit (few-clusters (P .contexts) c) (parameters-fit shift presets b .1) (most-blocks P a)
+            ∙ other-lengths-are (clustersOf P) presets clusterMapLength g0Length g1Length g2Length logLength (blocks P) readFit (few-clusters (P .contexts) c) (parameters-fit shift presets b .1) (most-blocks P a)
             ∙ rw e)
 
-        module _ (d : allLengthsFit P presets clusterMap log g0 g1 g2 ≡ true) where
+        module _ (d : allLengthsFit P presets clusterMapLength logLength g0Length g1Length g2Length ≡ true) where
           -- 18, once sides and lengths fit
           pub layout-is : groupPasses (P .bw) (P .bh) (P .kinds) (P .hfMul) ≡ layoutFits P
-          layout-is = let l = lengths-fit P presets clusterMap log g0 g1 g2 d in passes-is (P .bw) (P .bh) (P .kinds) (P .hfMul) a (l .kinds) (l .hfMul)
+          layout-is = let l = lengths-fit P presets clusterMapLength logLength g0Length g1Length g2Length d in passes-is (P .bw) (P .bh) (P .kinds) (P .hfMul) a (l .kinds) (l .hfMul)
 
           pub checks-18 : layoutFits P ≡ false → answer ≡ refuses (refusals.saidAt 18 0 0)
           unfolding beforeWork
@@ -127,13 +127,13 @@ module _ (P : PassGroup) (presets shift clusterMap log g0 g1 g2 : ℕ) where
   past n false next e = absurd (let z : _≡_ {A = ℕ} 0 1 = cc in omega arith)
 
   -- nothing else leaves them
-  pub passed-by : answer ≡ passed → Passed P presets shift clusterMap log g0 g1 g2
+  pub passed-by : answer ≡ passed → Passed P presets shift clusterMapLength logLength g0Length g1Length g2Length
   unfolding beforeWork
   passed-by e =
       let a = past 2 (sidesFit P) _ e in
       let b = past 11 (parametersFit shift presets) _ (a .1) in
       let c = past 12 (fit (P .contexts)) _ (b .1) in
-      let d = past 1 (allLengthsFit P presets clusterMap log g0 g1 g2) _ (c .1) in
+      let d = past 1 (allLengthsFit P presets clusterMapLength logLength g0Length g1Length g2Length) _ (c .1) in
       let f = past 18 (layoutFits P) _ (d .1) in
       let g = past 13 (placesFit (P .store)) _ (f .1) in
       record { sides = a .0; parameters = b .0; contexts = c .0; lengths = d .0; layout = f .0; places = g .0 }

@@ -65,9 +65,9 @@ pub map-most : (clusters presets : ℕ) → clusters ≤ 16 → presets ≤ 256 
 map-most clusters presets a b = mul-le-mul (let c : 495 * clusters ≤ 7920 = omega arith in c) b
 
 -- the lengths alone, once the limits are met
-pub written-is : (clusters presets clusterMap g0 g1 g2 log n : ℕ) (readFit : Bool) → clusters ≤ 16 → presets ≤ 256 → n ≤ 1024
-    → otherLengthsFit clusters presets clusterMap g0 g1 g2 log n readFit ≡ readFit && eqb clusterMap (495 * clusters * presets) && threeFit g0 g1 g2 (64 * n) && leb (192 * n) log
-written-is clusters presets clusterMap g0 g1 g2 log n readFit a b c = rw (le-leb clusters 16 a, le-leb presets 256 b, le-leb n 1024 c)
+pub other-lengths-are : (clusters presets clusterMapLength g0Length g1Length g2Length logLength n : ℕ) (readFit : Bool) → clusters ≤ 16 → presets ≤ 256 → n ≤ 1024
+    → otherLengthsFit clusters presets clusterMapLength g0Length g1Length g2Length logLength n readFit ≡ readFit && eqb clusterMapLength (495 * clusters * presets) && threeFit g0Length g1Length g2Length (64 * n) && leb (192 * n) logLength
+other-lengths-are clusters presets clusterMapLength g0Length g1Length g2Length logLength n readFit a b c = rw (le-leb clusters 16 a, le-leb presets 256 b, le-leb n 1024 c)
 
 -- 18 alone, once sides and lengths fit
 pub passes-is : (bw bh : ℕ) (kinds hfMul : List ℕ) → inLimits 32 bw bh ≡ true → length kinds ≡ bh * bw → length hfMul ≡ bh * bw → groupPasses bw bh kinds hfMul ≡ isLayout bw bh kinds hfMul

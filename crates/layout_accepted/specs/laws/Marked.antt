@@ -1,4 +1,4 @@
--- Document 01's marked examples of the layout call, by computation: M4 to M6, and the examples of refusals 4 to 10.
+-- Document 01's marked examples of the layout call, by computation: M4 to M6, and the examples of refusals 4 to 10; document 02's No. 5.
 use mathlib.Core.Path.{_≡_, refl}
 use mathlib.Core.Bool.{Bool, true}
 use mathlib.Core.List.{[], _∷_}

@@ -7,7 +7,7 @@ use native.Mathlib.Omega.{arith}
 use lib.Dec.{ltb, leb, eqb}
 use lib.ListN.{length}
 use lib.Ieee.{Float}
-use borrow.Author.Tests.{eqb-true, eqb-false}
+use borrow.Author.Tests.{eqb-true, eqb-false, ltb-true, ltb-false}
 use Rattle.refusal.specs.declared.Said.{Said}
 use Rattle.refusal.specs.Said as refusals
 use Rattle.refusal.specs.Answer.{Answer, gives, refuses, unless, passed, answeredBy}
@@ -24,7 +24,7 @@ use Rattle.layout_call.specs.Call.{Outcome, outcomeOf, Inputs, jobOf, parameter
 use Rattle.layout_accepted.specs.laws.Puts.{column-put}
 use Rattle.layout_accepted.specs.laws.Accepted.{passing, placing, turned, begun}
 use Rattle.layout_accepted.specs.laws.Theorems.{off-size, off-parameters, off-lengths, works}
-use Rattle.layout_accepted.specs.Refused.{Sofar, AtBlock, AtFree, AtWork, BeforeWork, Refuses, lengths, parameter, size, work}
+use Rattle.layout_accepted.specs.Refused.{Sofar, UnknownNext, AtBlock, AtFree, AtWork, BeforeWork, Refuses, lengths, parameter, size, work}
 
 -- a scan is left with 8, 9 or 10
 unfoldable pub LeftWell : Scan → Type 0
@@ -50,11 +50,15 @@ module _ (bw bh : ℕ) (filter : DividedFilter) (lookups : List Float) (sharpnes
       forward (λ (dx dy : ℕ). takeCell bw bh filter lookups sharpness (x + dx) (y + dy)) w h (λ dx dy t. LeftWell t) (λ dx dy t i j q. cell-left (x + dx) (y + dy) t q) (λ dy t j q. q) s p
 
 module _ (J : Job) where
+  -- stopped at a free block, n columns having been placed
+  abbrev pub Stopping : ℕ → Said → Type 0
+  Stopping n r = AtBlock (J .bw) (J .bh) r × (f : AtFree J r) × (n ≡ f .before .used)
+
   module _ (x y : ℕ) (p : Placed) where
-    -- refused with 4 to 10 at (x, y)
-    Well : Placing → Type 0
+    -- refused with 4 to 10 at (x, y), and with 5 if the next type is unknown
+    unfoldable pub Well : Placing → Type 0
     Well (Going q) = Unit
-    Well (Stopped n r) = (4 ≤ r .number) × (r .number ≤ 10) × (x ≡ r .x) × (y ≡ r .y) × (n ≡ p .used)
+    Well (Stopped n r) = (4 ≤ r .number) × (r .number ≤ 10) × (x ≡ r .x) × (y ≡ r .y) × (n ≡ p .used) × (r .number ≡ 5 → UnknownNext J p)
 
     place-well : (kind h w n : ℕ) → Well (placeIn J kind h w n x y p)
     unfolding Well LeftWell place
@@ -64,30 +68,31 @@ module _ (J : Job) where
       where
         go : (s : Scan) → LeftWell s → Well (placed (J .bw) kind h x y p s)
         go (Taking k s) q = tt
-        go (Left m a b) q = (omega arith, omega arith, refl, refl, refl)
+        go (Left m a b) q = (omega arith, omega arith, refl, refl, refl, λ e. absurd (omega arith))
 
     -- a chain of checks, then what follows
-    abbrev pub afterChecks : Answer Unit → Placing → Placing
+    abbrev afterChecks : Answer Unit → Placing → Placing
     afterChecks a next = answeredBy a (λ (s : Said). stopAt (s .number) x y p) (λ (u : Unit). next)
 
-    check-well : (n : ℕ) (b : Bool) (a : Answer Unit) (next : Placing) → 4 ≤ n → n ≤ 10 → Well (afterChecks a next) → Well (afterChecks (unless n b a) next)
+    check-well : (n : ℕ) (b : Bool) (a : Answer Unit) (next : Placing) → 4 ≤ n → n ≤ 10 → (n ≡ 5 → b ≡ false → UnknownNext J p)
+        → (b ≡ true → Well (afterChecks a next)) → Well (afterChecks (unless n b a) next)
     unfolding Well
-    check-well n true a next l m w = w
-    check-well n false a next l m w = (l, m, refl, refl, refl)
+    check-well n true a next l m u w = w refl
+    check-well n false a next l m u w = (l, m, refl, refl, refl, λ e. u e refl)
 
-    column-well : Well (column J x y p)
+    pub column-well : Well (column J x y p)
     unfolding column
     column-well =
         let t = nextType J p in
         let h = nextHfMul J p in
         let next = placeIn J (2 + t) h (wide t) (high t) x y p in
-        check-well 4 (ltb (p .used) (length (J .types))) _ next (omega arith) (omega arith)
-        (check-well 5 (ltb t COUNT) _ next (omega arith) (omega arith)
-        (check-well 6 (positive h) _ next (omega arith) (omega arith)
-        (check-well 7 (leb (x % 32 + wide t) 32) _ next (omega arith) (omega arith)
-        (check-well 7 (leb (y % 32 + high t) 32) passed next (omega arith) (omega arith) (place-well (2 + t) h (wide t) (high t))))))
+        check-well 4 (ltb (p .used) (length (J .types))) _ next (omega arith) (omega arith) (λ e. absurd (omega arith))
+        (λ more. check-well 5 (ltb t COUNT) _ next (omega arith) (omega arith) (λ e u. (ltb-true (p .used) (length (J .types)) more, ltb-false t COUNT u))
+        (λ k. check-well 6 (positive h) _ next (omega arith) (omega arith) (λ e. absurd (omega arith))
+        (λ k. check-well 7 (leb (x % 32 + wide t) 32) _ next (omega arith) (omega arith) (λ e. absurd (omega arith))
+        (λ k. check-well 7 (leb (y % 32 + high t) 32) passed next (omega arith) (omega arith) (λ e. absurd (omega arith)) (λ k. place-well (2 + t) h (wide t) (high t))))))
 
-    column-stops : (n : ℕ) (r : Said) → x < J .bw → y < J .bh → Sofar J x y p → blockAt (p .kinds) (J .bw) x y ≡ 0 → column J x y p ≡ Stopped n r → AtBlock (J .bw) (J .bh) r × AtFree J r
+    column-stops : (n : ℕ) (r : Said) → x < J .bw → y < J .bh → Sofar J x y p → blockAt (p .kinds) (J .bw) x y ≡ 0 → column J x y p ≡ Stopped n r → Stopping n r
     unfolding Well
     column-stops n r hx hy o f e =
         let w : Well (Stopped n r) = rw e at column-well in
@@ -95,11 +100,12 @@ module _ (J : Job) where
         let v = w .3 in (
           record { least = w .0; most = w .1; inX = omega arith; inY = omega arith },
           record { before = p; sofar = rw (u, v) at o; free = rw (u, v) at f; stops = rw (u, v) at (e ∙ ap (λ (m : ℕ). Stopped m r) (w .4)) },
+          w .4,
         )
 
   Sound : ℕ → ℕ → Placing → Type 0
   Sound x y (Going p) = Sofar J x y p
-  Sound x y (Stopped n r) = AtBlock (J .bw) (J .bh) r × AtFree J r
+  Sound x y (Stopped n r) = Stopping n r
 
   step : (x y : ℕ) (s : Placing) → x < J .bw → y < J .bh → Sound x y s → Sound (x + 1) y (visit J x y s)
   unfolding Sound
@@ -119,7 +125,7 @@ module _ (J : Job) where
   turn y (Stopped n r) h q = q
   turn y (Going p) h q = turned J y p h q
 
-  pub read-stops : (n : ℕ) (r : Said) → reading J ≡ Stopped n r → AtBlock (J .bw) (J .bh) r × AtFree J r
+  pub read-stops : (n : ℕ) (r : Said) → reading J ≡ Stopped n r → Stopping n r
   unfolding reading Sound
   read-stops n r e = rw e at (forward (visit J) (J .bw) (J .bh) Sound step turn (Going (start J)) (begun J))
 
@@ -135,18 +141,21 @@ module _ (i : Inputs) (kinds hfMul sigma : List ℕ) where
     sigmaKept = sym (ap (λ (o : Outcome). o .sigma) e);
   }
 
-  at-work : (r : Said) (s : Placing) → reading (jobOf i) ≡ s → outcomeOf (jobOf i) s ≡ layoutOf i kinds hfMul sigma → layoutOf i kinds hfMul sigma .answer ≡ refuses r → AtWork i kinds hfMul sigma r
-  at-work r (Going p) e o f = absurd (let g : gives (p .used) ≡ refuses r = ap (λ (q : Outcome). q .answer) o ∙ f in let z : _≡_ {A = ℕ} 0 1 = cc in omega arith)
-  at-work r (Stopped n t) e o f =
-      let d : t ≡ r = same t r (ap (λ (q : Outcome). q .answer) o ∙ f) in
-      let w = read-stops (jobOf i) n t e in
+  stopped : (n : ℕ) (r : Said) → reading (jobOf i) ≡ Stopped n r → outcomeOf (jobOf i) (Stopped n r) ≡ layoutOf i kinds hfMul sigma → AtWork i kinds hfMul sigma r
+  stopped n r e o =
+      let w = read-stops (jobOf i) n r e in
       record {
-        block = rw d at (w .0);
-        free = rw d at (w .1);
+        block = w .0;
+        free = w .1;
+        reads = e ∙ ap (λ (m : ℕ). Stopped m r) (w .2);
         kindsZero = sym (ap (λ (q : Outcome). q .kinds) o);
         hfMulZero = sym (ap (λ (q : Outcome). q .hfMul) o);
         sigmaZero = sym (ap (λ (q : Outcome). q .sigma) o);
       }
+
+  at-work : (r : Said) (s : Placing) → reading (jobOf i) ≡ s → outcomeOf (jobOf i) s ≡ layoutOf i kinds hfMul sigma → layoutOf i kinds hfMul sigma .answer ≡ refuses r → AtWork i kinds hfMul sigma r
+  at-work r (Going p) e o f = absurd (let g : gives (p .used) ≡ refuses r = ap (λ (q : Outcome). q .answer) o ∙ f in let z : _≡_ {A = ℕ} 0 1 = cc in omega arith)
+  at-work r (Stopped n t) e o f = let d : t ≡ r = same t r (ap (λ (q : Outcome). q .answer) o ∙ f) in rw d at (stopped n t e o)
 
   -- a refused call is one of these
   pub refused-how : (r : Said) → layoutOf i kinds hfMul sigma .answer ≡ refuses r → Refuses i kinds hfMul sigma r

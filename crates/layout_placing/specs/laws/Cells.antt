@@ -43,7 +43,7 @@ module _ (bw bh : ℕ) (divided : DividedFilter) (lookups : List Float) (sharpne
       unfolding takeCell
       cell-on q h e l = rw (lt-leb bw cx inX, lt-leb bh cy inY, le-ltb 0 (blockAt k bw cx cy) h, e, lt-leb 8 (blockAt sharpness bw cx cy) l)
 
-  -- the rectangle's walk
+  -- a cell of the rectangle
   abbrev pub cellAt : ℕ → ℕ → ℕ → ℕ → Scan → Scan
   cellAt x y dx dy s = takeCell bw bh divided lookups sharpness (x + dx) (y + dy) s
 

@@ -24,15 +24,10 @@ module _ (J : Job) (x y : ℕ) (p : Placed) where
   abbrev pub byJudged : Judged → Placing
   byJudged j = byAsking (saidJudged j)
 
-  -- no column is left
-  pub column-ends : length (J .types) ≤ p .used → stopAt 4 x y p ≡ column J x y p
+  -- the next column's type is unknown, whatever its mul
+  pub column-unknown : p .used < length (J .types) → COUNT ≤ getD (J .types) (p .used) 0 → stopAt 5 x y p ≡ column J x y p
   unfolding column
-  column-ends l = rw (le-ltb (p .used) (length (J .types)) l)
-
-  -- the next column's type is foreign, whatever its mul
-  pub column-foreign : p .used < length (J .types) → COUNT ≤ getD (J .types) (p .used) 0 → stopAt 5 x y p ≡ column J x y p
-  unfolding column
-  column-foreign l t = rw (lt-ltb (p .used) (length (J .types)) l, le-ltb (getD (J .types) (p .used) 0) COUNT t)
+  column-unknown l t = rw (lt-ltb (p .used) (length (J .types)) l, le-ltb (getD (J .types) (p .used) 0) COUNT t)
 
   pub visit-taken : 0 < blockAt (p .kinds) (J .bw) x y → Going p ≡ visit J x y (Going p)
   visit-taken h = rw (ne-eqb (blockAt (p .kinds) (J .bw) x y) 0 (omega arith))
@@ -42,7 +37,8 @@ module _ (J : Job) (x y : ℕ) (p : Placed) where
     is-free = omega arith
 
     pub visit-ends : length (J .types) ≤ p .used → stopAt 4 x y p ≡ visit J x y (Going p)
-    visit-ends l = rw (eq-eqb (blockAt (p .kinds) (J .bw) x y) 0 is-free) (column-ends l)
+    unfolding column
+    visit-ends l = rw (eq-eqb (blockAt (p .kinds) (J .bw) x y) 0 is-free, le-ltb (p .used) (length (J .types)) l)
 
     pub visit-judged : (j : Judged) → p .used < length (J .types) → saidJudged j ≡ judgedOf (nextType J p) (nextHfMul J p) x y → byJudged j ≡ visit J x y (Going p)
     unfolding column judgedOf

@@ -1,4 +1,4 @@
--- The check by depths, for code: of each x how many rows are covered from the walk's row on, in place of the row up to which it is.
+-- The check by depths, for code: of each x how many rows are covered from the row on that is looked at, in place of the row up to which it is.
 use mathlib.Core.Path.{_≡_, refl, ap, sym, _∙_}
 use mathlib.Core.Bool.{Bool, true, false, _&&_, cond}
 use mathlib.Core.Logic.{_⊎_, inl, inr, ⊎-elim}

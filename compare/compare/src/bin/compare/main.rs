@@ -12,7 +12,7 @@ compare --total-seconds N [--seed S] [CALLS..]
 compare --examples
 
 Compares the answers of Netbuff's calls, and what they leave in lent memory, with those of the Rust of
-jxl-vardct: document 01's examples, then made-up inputs to the first difference of each call.
+jxl-vardct: the papers' examples, then made-up inputs to the first difference of each call.
 
   CALLS              only these; a name that is none lists them all
   --seconds N        so long for each call (5 unless told otherwise)
@@ -20,7 +20,7 @@ jxl-vardct: document 01's examples, then made-up inputs to the first difference 
   --total-seconds N  so long for all calls together, in turns, to the first difference, and one table
   --seed S           other inputs (1 unless told otherwise)
   --progress         tells on stderr how far it is; a run of a minute or more does so by itself
-  --examples         document 01's examples alone, each shown
+  --examples         the papers' examples alone, each shown
   --help             these words
 
 Ends with 0 when all agree, or where the Rust is not at hand, which one line says; 1 when a call
@@ -49,7 +49,7 @@ fn run() -> std::process::ExitCode {
     u8::from(!(examples && agreed)).into()
 }
 
-/// Shows document 01's examples, all or those that differ, and tells whether none differs.
+/// Shows the papers' examples, all or those that differ, and tells whether none differs.
 #[cfg(live)]
 fn show_examples(all: bool) -> bool {
     let rows = compare::examples::rows();

@@ -1,5 +1,5 @@
-//! Writes the Rust's answers to a fixed set of calls, in the form that RECORD.md describes, or holds
-//! a file against them. `record --help` has the words.
+//! Writes the answers that are expected of a fixed set of calls, in the form that RECORD.md describes,
+//! or holds a file against them. `record --help` has the words.
 
 #[cfg(live)]
 mod encode;
@@ -12,8 +12,8 @@ const HELP: &str = "\
 record > FILE
 record --check FILE
 
-Writes the Rust's answers to a fixed set of calls, in the form that compare/RECORD.md describes, to
-standard output: byte for byte the same every time.
+Writes the answers that are expected of a fixed set of calls, in the form that compare/RECORD.md
+describes, to standard output: byte for byte the same every time.
 
   --check FILE  compares the file with what would be written
   --help        these words
@@ -54,10 +54,7 @@ fn check(file: &str) -> Result<u8, String> {
     let made = sample::file();
     let same = found == made;
     let tells = if same { "is" } else { "is not" };
-    println!(
-        "{file} {tells} what the Rust answers ({} bytes)",
-        made.len()
-    );
+    println!("{file} {tells} what is expected ({} bytes)", made.len());
     Ok(u8::from(!same))
 }
 
