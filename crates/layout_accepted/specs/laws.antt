@@ -1,6 +1,7 @@
 -- what is proved from the definitions
 pub mod Took
 pub mod Puts
+pub mod Stops
 pub mod Accepted
 pub mod Theorems
 pub mod Marked

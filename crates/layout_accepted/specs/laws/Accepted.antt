@@ -6,8 +6,9 @@ use Prim.Native.Nat.{ℕ, _+_, _*_, _-_, _≤_, _<_}
 use native.Mathlib.Omega.{arith}
 use lib.Dec.{eqb}
 use lib.ListN.{length, length-replicate, getD-replicate}
-use borrow.Author.Tests.{eqb-false}
+use borrow.Author.Tests.{eqb-true, eqb-false}
 use Rattle.laws.specs.laws.Cases.{eq-or-ne}
+use Rattle.refusal.specs.declared.Said.{Said}
 use Rattle.dct_select.specs.Transforms.{wide, high}
 use Rattle.dct_select.specs.laws.Sides.{wide-some, high-some}
 use Rattle.layout.specs.Kinds.{wideOf, highOf}
@@ -20,6 +21,7 @@ use Rattle.layout.specs.laws.Order.{Here, later, last}
 use Rattle.layout_placing.specs.Reading.{Job, Placed, Placing, Going, Stopped, nextType, nextHfMul, column, visit, start, reading}
 use Rattle.layout_accepted.specs.laws.Took.{InRect}
 use Rattle.layout_accepted.specs.laws.Puts.{Puts, Column, Spot, corner, body, beyond, spot, column-put}
+use Rattle.layout_accepted.specs.laws.Stops.{Well, column-well}
 use Rattle.layout_accepted.specs.Refused.{Part, Sofar}
 
 -- one varblock more
@@ -239,37 +241,55 @@ module _ (J : Job) where
       go a b (inl g) = absurd (omega arith)
       go a b (inr g) = absurd (omega arith)
 
-  -- what holds before anything is placed, and is kept by each column placed, holds of what was read
+  -- what holds before anything is placed, and is kept by each column placed, holds of what was read, and of what was placed before a stop
   module _ (Q : Placed → Type 0) (begin : Q (start J))
       (keep : (x y : ℕ) (p p′ : Placed) → x < J .bw → y < J .bh → p .used < length (J .types) → Sofar J x y p
       → Column J x y p p′ (nextType J p) (nextHfMul J p) → Q p → Q p′) where
+    -- stopped at a free block, with what was placed before
+    pub record StoppedWith (n : ℕ) (r : Said) : Type 0 where
+      pub before : Placed
+      pub sofar : Sofar J (r .x) (r .y) before
+      pub holds : Q before
+      pub inX : r .x < J .bw
+      pub inY : r .y < J .bh
+      pub free : blockAt (before .kinds) (J .bw) (r .x) (r .y) ≡ 0
+      pub stops : column J (r .x) (r .y) before ≡ Stopped n r
+
     Along : ℕ → ℕ → Placing → Type 0
     Along x y (Going p) = Sofar J x y p × Q p
-    Along x y (Stopped n r) = Unit
+    Along x y (Stopped n r) = StoppedWith n r
 
     one : (x y : ℕ) (s : Placing) → x < J .bw → y < J .bh → Along x y s → Along (x + 1) y (visit J x y s)
-    unfolding Along
-    one x y (Stopped n r) hx hy q = tt
+    unfolding Along Well
+    one x y (Stopped n r) hx hy q = q
     one x y (Going p) hx hy q = go (eqb (blockAt (p .kinds) (J .bw) x y) 0) refl
       where
-        col : (s : Placing) → column J x y p ≡ s → Along (x + 1) y s
-        col (Stopped n r) e = tt
-        col (Going p′) e =
+        col : blockAt (p .kinds) (J .bw) x y ≡ 0 → (s : Placing) → column J x y p ≡ s → Along (x + 1) y s
+        col f (Stopped n r) e =
+            let w : Well J x y p (Stopped n r) = rw e at (column-well J x y p) in
+            let u = w .2 in
+            let v = w .3 in
+            record { before = p; sofar = rw (u, v) at (q .0); holds = q .1; inX = omega arith; inY = omega arith; free = rw (u, v) at f; stops = rw (u, v) at e }
+        col f (Going p′) e =
             let c = column-put J x y p p′ (q .0 .lengthK) (q .0 .lengthM) hx hy e in
             (placing x y _ _ p p′ (c .0) (q .0), keep x y p p′ hx hy (c .1) (q .0) (c .0) (q .1))
 
         go : (b : Bool) → eqb (blockAt (p .kinds) (J .bw) x y) 0 ≡ b → Along (x + 1) y (cond b (column J x y p) (Going p))
-        go true e = col (column J x y p) refl
+        go true e = col (eqb-true (blockAt (p .kinds) (J .bw) x y) 0 e) (column J x y p) refl
         go false e = (passing x y p (let n = eqb-false (blockAt (p .kinds) (J .bw) x y) 0 e in omega arith) (q .0), q .1)
 
     row : (y : ℕ) (s : Placing) → y < J .bh → Along (J .bw) y s → Along 0 (y + 1) s
     unfolding Along
-    row y (Stopped n r) h q = tt
+    row y (Stopped n r) h q = q
     row y (Going p) h q = (turned y p h (q .0), q .1)
 
     pub along : (p : Placed) → reading J ≡ Going p → Sofar J 0 (J .bh) p × Q p
     unfolding reading Along
     along p e = rw e at (forward (visit J) (J .bw) (J .bh) Along one row (Going (start J)) (begun, begin))
+
+    pub stopped-with : (n : ℕ) (r : Said) → reading J ≡ Stopped n r → StoppedWith n r
+    unfolding reading Along
+    stopped-with n r e = rw e at (forward (visit J) (J .bw) (J .bh) Along one row (Going (start J)) (begun, begin))
 
   -- a reading that was not stopped
   pub read-layout : (p : Placed) → reading J ≡ Going p → Layout (J .bw) (J .bh) (p .kinds) (p .hfMul)
