@@ -234,11 +234,13 @@ static void check_filled(const struct layout_call *call)
     promise(is_layout(call->sides, call->kinds, call->hf_mul), "kinds and hf_mul are a layout");
     const uint8_t *kinds = call->kinds;
     const int32_t *hf_mul = call->hf_mul;
+    const float *sigma = call->sigma;
     struct sides sides = call->sides;
     bool alike = false;
     size_t x, y;
-    uint32_t refused = netbuff_alike(sides.wide, sides.high, kinds, blocks, hf_mul, blocks, sides.wide,
-                                     sides.high, kinds, blocks, hf_mul, blocks, &alike, &x, &y);
+    uint32_t refused = netbuff_alike(sides.wide, sides.high, kinds, blocks, hf_mul, blocks, sigma, blocks,
+                                     sides.wide, sides.high, kinds, blocks, hf_mul, blocks, sigma, blocks,
+                                     &alike, &x, &y);
     promise(refused == 0 && alike, "an accepted layout is like itself");
 }
 

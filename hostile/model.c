@@ -124,17 +124,14 @@ bool is_layout(struct sides sides, const uint8_t *kinds, const int32_t *hf_mul)
     return true;
 }
 
-bool same_rectangles(struct sides sides, const uint8_t *kinds, const int32_t *hf_mul,
-                     const uint8_t *kinds2, const int32_t *hf_mul2)
+bool same_varblocks(struct sides sides, const uint8_t *kinds, const int32_t *hf_mul,
+                    const uint8_t *kinds2, const int32_t *hf_mul2)
 {
     for (size_t cell = 0; cell < sides.wide * sides.high; cell++) {
-        if (is_corner(kinds[cell]) != is_corner(kinds2[cell]) || hf_mul[cell] != hf_mul2[cell])
+        bool corner = is_corner(kinds[cell]);
+        if (corner != is_corner(kinds2[cell]))
             return false;
-        if (!is_corner(kinds[cell]))
-            continue;
-        struct sides one = transform_sides[kinds[cell] - 2];
-        struct sides other = transform_sides[kinds2[cell] - 2];
-        if (one.wide != other.wide || one.high != other.high)
+        if (corner && (kinds[cell] != kinds2[cell] || hf_mul[cell] != hf_mul2[cell]))
             return false;
     }
     return true;

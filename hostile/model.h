@@ -52,9 +52,9 @@ int32_t signed_of(uint32_t u);
 /* Whether kinds and hf_mul of a grid are a layout (refusal 18). */
 bool is_layout(struct sides sides, const uint8_t *kinds, const int32_t *hf_mul);
 
-/* Whether two layouts of the same sides have the same rectangles and hf_mul. */
-bool same_rectangles(struct sides sides, const uint8_t *kinds, const int32_t *hf_mul,
-                     const uint8_t *kinds2, const int32_t *hf_mul2);
+/* Whether two layouts of the same sides have the same corners, transform numbers and hf_mul. */
+bool same_varblocks(struct sides sides, const uint8_t *kinds, const int32_t *hf_mul,
+                    const uint8_t *kinds2, const int32_t *hf_mul2);
 
 /* Where the list of an order and channel begins in a store; its numbers. */
 size_t list_start(size_t order, size_t channel);

@@ -5,6 +5,7 @@
 #include "netbuff.h"
 #include "promise.h"
 
+#include <math.h>
 #include <stdlib.h>
 #include <string.h>
 
@@ -41,6 +42,12 @@ enum plant {
     CHANNEL_TWICE,
     DIGIT_NOT_COUNTED,
     OTHER_DEFAULT,
+    /* Likeness: what is compared, and which numbers are looked at. */
+    ZEROS_ALIKE,
+    TRANSFORMS_ALIKE,
+    SECOND_NOT_SEEN,
+    SURPLUS_NOT_SEEN,
+    LARGE_AS_11,
     /* Beside a refusal a result is set to 0, call by call. */
     WIDTH_ZERO,
     VALUE_ZERO,
@@ -150,17 +157,77 @@ uint32_t __wrap_netbuff_cut(size_t bw, size_t bh, const uint8_t *kinds, size_t k
     return refused;
 }
 
-uint32_t __wrap_netbuff_alike(size_t bw, size_t bh, const uint8_t *kinds, size_t kinds_length,
-                              const int32_t *hf_mul, size_t hf_mul_length, size_t bw2, size_t bh2,
-                              const uint8_t *kinds2, size_t kinds2_length, const int32_t *hf_mul2,
-                              size_t hf_mul2_length, bool *alike, size_t *x, size_t *y)
+enum { CELLS_MOST = 1 << 18 };
+
+/* Kinds without their transforms of one block: Dct8 stands for all of these. */
+static const uint8_t *one_for_all(const uint8_t *kinds, size_t length, uint8_t kept[CELLS_MOST])
 {
-    uint32_t refused =
-        __real_netbuff_alike(bw, bh, kinds, kinds_length, hf_mul, hf_mul_length, bw2, bh2, kinds2,
-                             kinds2_length, hf_mul2, hf_mul2_length, alike, x, y);
+    if (planted() != TRANSFORMS_ALIKE || length > CELLS_MOST)
+        return kinds;
+    for (size_t k = 0; k < length; k++) {
+        bool one_block = (kinds[k] >= 2 && kinds[k] <= 5) || (kinds[k] >= 14 && kinds[k] <= 19);
+        kept[k] = one_block ? 2 : kinds[k];
+    }
+    return kept;
+}
+
+/* A sigma whose numbers from the first unseen one on pass for finite ones. */
+static const float *seen(const float *sigma, size_t length, size_t unseen, float kept[CELLS_MOST])
+{
+    if (unseen >= length || length > CELLS_MOST)
+        return sigma;
+    for (size_t k = 0; k < length; k++)
+        kept[k] = k < unseen || isfinite(sigma[k]) ? sigma[k] : 0;
+    return kept;
+}
+
+/* Where likeness looks at no number any more: all of the second layout, or behind the blocks. */
+static size_t first_unseen(size_t blocks, bool second)
+{
+    if (planted() == SECOND_NOT_SEEN && second)
+        return 0;
+    return planted() == SURPLUS_NOT_SEEN ? blocks : SIZE_MAX;
+}
+
+/* Whether two lists are equal as numbers, for which +0.0 is -0.0. */
+static bool same_numbers(const float *sigma, const float *sigma2, size_t length)
+{
+    for (size_t k = 0; k < length; k++)
+        if (sigma[k] != sigma2[k])
+            return false;
+    return true;
+}
+
+static bool has_large(const float *sigma, size_t length)
+{
+    for (size_t k = 0; k < length; k++)
+        if (fabsf(sigma[k]) > 65504)
+            return true;
+    return false;
+}
+
+uint32_t __wrap_netbuff_alike(size_t bw, size_t bh, const uint8_t *kinds, size_t kinds_length,
+                              const int32_t *hf_mul, size_t hf_mul_length, const float *sigma,
+                              size_t sigma_length, size_t bw2, size_t bh2, const uint8_t *kinds2,
+                              size_t kinds2_length, const int32_t *hf_mul2, size_t hf_mul2_length,
+                              const float *sigma2, size_t sigma2_length, bool *alike, size_t *x,
+                              size_t *y)
+{
+    static uint8_t kept_kinds[2][CELLS_MOST];
+    static float kept_sigma[2][CELLS_MOST];
+    uint32_t refused = __real_netbuff_alike(
+        bw, bh, one_for_all(kinds, kinds_length, kept_kinds[0]), kinds_length, hf_mul, hf_mul_length,
+        seen(sigma, sigma_length, first_unseen(bw * bh, false), kept_sigma[0]), sigma_length, bw2, bh2,
+        one_for_all(kinds2, kinds2_length, kept_kinds[1]), kinds2_length, hf_mul2, hf_mul2_length,
+        seen(sigma2, sigma2_length, first_unseen(bw2 * bh2, true), kept_sigma[1]), sigma2_length, alike,
+        x, y);
     if (planted() == NOT_ALIKE && refused != 0)
         *alike = false;
-    return refused;
+    if (planted() == ZEROS_ALIKE && refused == 0 && bw == bw2 && bh == bh2)
+        *alike = memcmp(kinds, kinds2, kinds_length) == 0 &&
+                 memcmp(hf_mul, hf_mul2, hf_mul_length * sizeof *hf_mul) == 0 &&
+                 same_numbers(sigma, sigma2, sigma_length);
+    return planted() == LARGE_AS_11 && refused == 0 && has_large(sigma, sigma_length) ? 11 : refused;
 }
 
 /* An accepted layout that is another: in its strengths, multipliers or transforms. */

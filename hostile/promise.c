@@ -24,7 +24,7 @@
     call(COLUMN_COUNT, "column_count", BIT(0) | BIT(2) | BIT(3) | BIT(11))                         \
     call(LAYOUT, "layout", BIT(0) | BIT(1) | BIT(2) | BIT(11) | BITS_4_TO_10)                      \
     call(CUT, "cut", BIT(0) | BIT(1) | BIT(2) | BIT(18))                                           \
-    call(ALIKE, "alike", BIT(0) | BIT(1) | BIT(2) | BIT(18))                                       \
+    call(ALIKE, "alike", BIT(0) | BIT(1) | BIT(2) | BIT(11) | BIT(18))                             \
     call(BLOCK_CONTEXT, "block_context", BIT(0) | BIT(1) | BIT(3) | BIT(12))                       \
     call(ORDERS, "orders", BIT(0) | BIT(1) | BIT(3) | BIT(13) | BIT(15))                           \
     call(ORDER, "order", BIT(0))                                                                   \

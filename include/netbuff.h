@@ -80,7 +80,7 @@ extern "C" {
 
 /* The version of this header. */
 #define NETBUFF_VERSION_MAJOR 0
-#define NETBUFF_VERSION_MINOR 1
+#define NETBUFF_VERSION_MINOR 2
 #define NETBUFF_VERSION_PATCH 0
 
 /* A version as one number. */
@@ -419,14 +419,22 @@ uint32_t netbuff_cut(size_t bw, size_t bh, const uint8_t *kinds, size_t kinds_le
                      size_t *out_bw, size_t *out_bh, size_t *x, size_t *y);
 
 /*
- * Whether two layouts (1 to 256 blocks each way) have the same rectangles and hf_mul. Layouts of
- * different sides are not alike. Lengths that fit: bw * bh of each. Refused: 2, 1, 18, each tried
- * over both layouts before the next.
+ * Whether two layouts (1 to 256 blocks each way) are alike: yes exactly if they have the same
+ * varblocks (the same corners, and at each the same transform number and hf_mul) and the same sigma
+ * to the bit. So layouts of different sides are not alike, nor is one with Hornuss like one with
+ * Dct8 in its place, nor +0.0 like -0.0. Any finite sigma serves.
+ *
+ * Lengths that fit: bw * bh of each layout for its kinds, hf_mul and sigma. Refused: 2, 11 (sigma
+ * holds a NaN or an infinity; every number that is lent is looked at, those beyond bw * bh too), 1,
+ * 18, each tried over both layouts before the next. A layout that netbuff_layout accepted, with its
+ * sigma, is never refused, and it is like itself.
  */
 uint32_t netbuff_alike(size_t bw, size_t bh, const uint8_t *kinds, size_t kinds_length,
-                       const int32_t *hf_mul, size_t hf_mul_length, size_t bw2, size_t bh2,
-                       const uint8_t *kinds2, size_t kinds2_length, const int32_t *hf_mul2,
-                       size_t hf_mul2_length, bool *alike, size_t *x, size_t *y);
+                       const int32_t *hf_mul, size_t hf_mul_length, const float *sigma,
+                       size_t sigma_length, size_t bw2, size_t bh2, const uint8_t *kinds2,
+                       size_t kinds2_length, const int32_t *hf_mul2, size_t hf_mul2_length,
+                       const float *sigma2, size_t sigma2_length, bool *alike, size_t *x,
+                       size_t *y);
 
 /* ---- Contexts ---- */
 

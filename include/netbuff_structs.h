@@ -241,6 +241,7 @@ NETBUFF_LIST_OF(read_u8, const uint8_t)
 NETBUFF_LIST_OF(read_u16, const uint16_t)
 NETBUFF_LIST_OF(read_u32, const uint32_t)
 NETBUFF_LIST_OF(read_i32, const int32_t)
+NETBUFF_LIST_OF(read_f32, const float)
 NETBUFF_LIST_OF(u8, uint8_t)
 NETBUFF_LIST_OF(u16, uint16_t)
 NETBUFF_LIST_OF(i32, int32_t)
@@ -348,16 +349,20 @@ static inline struct netbuff_refusal netbuff_cut_group(const struct netbuff_bloc
     return no;
 }
 
-static inline struct netbuff_refusal netbuff_layouts_alike(const struct netbuff_blocks *first,
-                                                           const struct netbuff_blocks *second,
-                                                           bool *alike)
+/* Of two layouts, each with its sigma as netbuff_read_layout fills it. */
+static inline struct netbuff_refusal
+netbuff_layouts_alike(const struct netbuff_layout_output *first,
+                      const struct netbuff_layout_output *second, bool *alike)
 {
     struct netbuff_refusal no = {0, 0, 0};
-    no.number =
-        netbuff_alike(first->bw, first->bh, NETBUFF_LEND(read_u8, first->kinds, first->length),
-                      NETBUFF_LEND(read_i32, first->hf_mul, first->length), second->bw, second->bh,
-                      NETBUFF_LEND(read_u8, second->kinds, second->length),
-                      NETBUFF_LEND(read_i32, second->hf_mul, second->length), alike, &no.x, &no.y);
+    const struct netbuff_blocks *one = &first->blocks, *two = &second->blocks;
+    no.number = netbuff_alike(one->bw, one->bh, NETBUFF_LEND(read_u8, one->kinds, one->length),
+                              NETBUFF_LEND(read_i32, one->hf_mul, one->length),
+                              NETBUFF_LEND(read_f32, first->sigma, first->sigma_length), two->bw,
+                              two->bh, NETBUFF_LEND(read_u8, two->kinds, two->length),
+                              NETBUFF_LEND(read_i32, two->hf_mul, two->length),
+                              NETBUFF_LEND(read_f32, second->sigma, second->sigma_length), alike,
+                              &no.x, &no.y);
     return no;
 }
 
@@ -509,6 +514,27 @@ static inline const char *netbuff_cut_misfit(const struct netbuff_blocks *layout
         return "kinds of the group";
     return netbuff_list_length(group->hf_mul, group->length) != blocks ? "hf_mul of the group"
                                                                        : NULL;
+}
+
+static inline const char *netbuff_alike_misfit(const struct netbuff_layout_output *first,
+                                               const struct netbuff_layout_output *second)
+{
+    static const char *const names[2][3] = {
+        {"kinds of the first layout", "hf_mul of the first layout", "sigma of the first layout"},
+        {"kinds of the second layout", "hf_mul of the second layout",
+         "sigma of the second layout"}};
+    for (int k = 0; k < 2; k++) {
+        const struct netbuff_layout_output *layout = k == 0 ? first : second;
+        const struct netbuff_blocks *blocks = &layout->blocks;
+        size_t whole = blocks->bw * blocks->bh;
+        if (netbuff_list_length(blocks->kinds, blocks->length) != whole)
+            return names[k][0];
+        if (netbuff_list_length(blocks->hf_mul, blocks->length) != whole)
+            return names[k][1];
+        if (netbuff_list_length(layout->sigma, layout->sigma_length) != whole)
+            return names[k][2];
+    }
+    return NULL;
 }
 
 static inline const char *

@@ -73,7 +73,8 @@ static void call_cut(void)
 
 static void call_alike(void)
 {
-    struct netbuff_blocks layout = {256, 256, kinds, hf_mul, COLUMNS - cut_short};
+    struct netbuff_layout_output layout = {
+        {256, 256, kinds, hf_mul, COLUMNS}, sigma, COLUMNS - cut_short, 0};
     bool alike;
     answer = netbuff_layouts_alike(&layout, &layout, &alike);
 }

@@ -7,6 +7,7 @@
 #include "netbuff_structs.h"
 
 #include <inttypes.h>
+#include <math.h>
 #include <stdio.h>
 #include <stdlib.h>
 #include <string.h>
@@ -63,7 +64,7 @@ static const char *const names[CALLS] = {"transform", "bits",        "u32",     
                                          "layout",    "cut",         "likeness", "contexts",
                                          "orders",    "coefficients"};
 static unsigned answers[CALLS][NETBUFF_REFUSALS_END];
-static unsigned nulls, threshold_records;
+static unsigned nulls, threshold_records, likenesses[2]; /* no, yes */
 
 static void hold(enum call call, bool same, const char *what)
 {
@@ -283,23 +284,44 @@ static void try_cut(void)
     hold_lent(CUT);
 }
 
+/* Blocks with finite filter strengths, some with one that is none. */
+static struct netbuff_layout_output any_filtered(uint8_t *kinds, int32_t *hf_mul, float *sigma)
+{
+    static const float not_finite[3] = {INFINITY, -INFINITY, NAN};
+    struct netbuff_layout_output layout = {any_blocks(kinds, hf_mul), NULL, 0, 77};
+    for (size_t k = 0; k <= BLOCKS_MOST; k++)
+        sigma[k] = (float)below(4) - 2;
+    if (once_in(8))
+        sigma[below(BLOCKS_MOST)] = not_finite[below(3)];
+    layout.sigma = MAYBE(sigma);
+    size_t length = layout.blocks.length;
+    layout.sigma_length = length < BLOCKS_MOST ? length_near(length) : length;
+    return layout;
+}
+
 static void try_alike(void)
 {
     uint8_t kinds[2][BLOCKS_MOST + 1];
     int32_t hf_mul[2][BLOCKS_MOST + 1];
+    float sigma[2][BLOCKS_MOST + 1];
     uint64_t kept = state;
-    struct netbuff_blocks one = any_blocks(kinds[0], hf_mul[0]);
-    if (once_in(2))
+    struct netbuff_layout_output one = any_filtered(kinds[0], hf_mul[0], sigma[0]);
+    if (!once_in(3))
         state = kept;
-    struct netbuff_blocks two = any_blocks(kinds[1], hf_mul[1]);
+    struct netbuff_layout_output two = any_filtered(kinds[1], hf_mul[1], sigma[1]);
     bool a = once_in(2), b = a;
     struct netbuff_refusal no = {0, 0, 0};
-    no.number = netbuff_alike(one.bw, one.bh, LEND(const uint8_t, one.kinds, one.length),
-                              LEND(const int32_t, one.hf_mul, one.length), two.bw, two.bh,
-                              LEND(const uint8_t, two.kinds, two.length),
-                              LEND(const int32_t, two.hf_mul, two.length), &b, &no.x, &no.y);
+    no.number = netbuff_alike(
+        one.blocks.bw, one.blocks.bh, LEND(const uint8_t, one.blocks.kinds, one.blocks.length),
+        LEND(const int32_t, one.blocks.hf_mul, one.blocks.length),
+        LEND(const float, one.sigma, one.sigma_length), two.blocks.bw, two.blocks.bh,
+        LEND(const uint8_t, two.blocks.kinds, two.blocks.length),
+        LEND(const int32_t, two.blocks.hf_mul, two.blocks.length),
+        LEND(const float, two.sigma, two.sigma_length), &b, &no.x, &no.y);
     hold_answer(ALIKE, netbuff_layouts_alike(&one, &two, &a), no);
     hold(ALIKE, a == b, "results");
+    hold_misfit(ALIKE, no.number, netbuff_alike_misfit(&one, &two));
+    likenesses[a] += no.number == 0;
 }
 
 /* Bits of the four lists of a context record, with some thresholds; the length of its map. */
@@ -548,7 +570,7 @@ static void try_zeros(void)
     hold(LAYOUT, netbuff_read_layout(&layout_input, &layout_output).number == 2, "zeros");
     hold(COEFFICIENTS, netbuff_read_coefficients(&input, &output).number == 2, "zeros");
     hold(CUT, netbuff_cut_group(&blocks, 0, &group).number == 2, "zeros");
-    hold(ALIKE, netbuff_layouts_alike(&blocks, &blocks, &alike).number == 2, "zeros");
+    hold(ALIKE, netbuff_layouts_alike(&layout_output, &layout_output, &alike).number == 2, "zeros");
     hold(COUNT, netbuff_count_columns(&bytes, &lf_group, &total).number == 2, "zeros");
     hold(CONTEXTS, netbuff_read_contexts(&bytes, &map, &contexts, &read).number == 3, "zeros");
     hold(ORDERS, netbuff_read_orders(&bytes, &symbols, &store, &read).number == 1, "zeros");
@@ -570,7 +592,7 @@ static void hold_counts(void)
         {COUNT, {0, 2, 3, 11}, 4},
         {LAYOUT, {0, 1, 2, 4, 5, 6, 8, 9, 10, 11}, 10},
         {CUT, {0, 1, 2, 18}, 4},
-        {ALIKE, {0, 1, 2, 18}, 4},
+        {ALIKE, {0, 1, 2, 11, 18}, 5},
         {CONTEXTS, {0, 1, 3, 12}, 4},
         {ORDERS, {0, 1, 3, 13, 15}, 5},
         {COEFFICIENTS, {0, 1, 2, 3, 11, 12, 13, 14, 15, 16, 18}, 11},
@@ -602,6 +624,7 @@ int main(void)
             try_orders();
     }
     hold_counts();
+    hold(ALIKE, likenesses[0] > 100 && likenesses[1] > 100, "too few of yes or no: they");
     hold(CONTEXTS, threshold_records > 100, "too few accepted records with thresholds: they");
     unsigned accepted = 0, all = 0;
     for (int call = 0; call < CALLS; call++)

@@ -15,7 +15,7 @@ use std::{env, fmt, fs, process};
 
 /// Rattle's u32 is taken for a signed number or a float in C where the parameter has this name.
 /// One name is one thing, so this holds for all calls.
-const READ_AS: [(&str, &str); 15] = [
+const READ_AS: [(&str, &str); 16] = [
     ("types", "i32"),
     ("muls", "i32"),
     ("sharpness", "i32"),
@@ -30,6 +30,7 @@ const READ_AS: [(&str, &str); 15] = [
     ("grid1", "i32"),
     ("grid2", "i32"),
     ("sigma", "f32"),
+    ("sigma2", "f32"),
     // Answers: the call's name in place of a parameter's.
     ("netbuff_unpack_signed", "i32"),
 ];

@@ -4,7 +4,7 @@ use crate::refusal::call;
 use crate::{Result, Sides};
 
 #[cfg(feature = "alloc")]
-use crate::Layout;
+use crate::{FilteredLayout, Layout};
 #[cfg(feature = "alloc")]
 use alloc::{vec, vec::Vec};
 
@@ -337,6 +337,27 @@ impl LayoutBuf {
             sides: self.sides,
             kinds: &self.kinds,
             hf_mul: &self.hf_mul,
+        }
+    }
+
+    /// Lends the layout with its filter strengths, to be compared with another.
+    ///
+    /// ```
+    /// use netbuff::{alike, Columns, LayoutBuf, LayoutInput, LfGroup};
+    ///
+    /// let read = |muls: &[i32]| {
+    ///     let columns = Columns { types: &[0], muls };
+    ///     LayoutBuf::read(&LayoutInput::unfiltered(LfGroup::new(8, 8), columns, &[0]))
+    /// };
+    /// let (one, two) = (read(&[4])?, read(&[5])?);
+    /// assert!(alike(one.filtered(), one.filtered())?);
+    /// assert!(!alike(one.filtered(), two.filtered())?);
+    /// # Ok::<(), netbuff::Refusal>(())
+    /// ```
+    pub fn filtered(&self) -> FilteredLayout<'_> {
+        FilteredLayout {
+            layout: self.layout(),
+            sigma: &self.sigma,
         }
     }
 }

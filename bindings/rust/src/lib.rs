@@ -36,11 +36,11 @@
 //! | 5 | [`orders()`]: the orders of the pass | [`OrdersBuf::read`] |
 //! | 6 | [`coefficients`]: symbols to coefficients, added to three grids | [`GridsBuf`] |
 //!
-//! Beside them [`transform()`] looks a transform number up, [`alike`] compares two layouts,
-//! [`order()`] and [`places_fit`] look into a store of orders, [`version()`] tells the library's
-//! version, [`read_bits`], [`read_u32`] and [`unpack_signed`] read single numbers. Every call that
-//! is lent bytes, those three aside, begins at their first bit, and bits come lowest first within
-//! each byte.
+//! Beside them [`transform()`] looks a transform number up, [`alike`] compares two layouts with their
+//! filter strengths, [`order()`] and [`places_fit`] look into a store of orders, [`version()`] tells
+//! the library's version, [`read_bits`], [`read_u32`] and [`unpack_signed`] read single numbers.
+//! Every call that is lent bytes, those three aside, begins at their first bit, and bits come lowest
+//! first within each byte.
 //!
 //! ```
 //! use netbuff::*;
@@ -132,7 +132,7 @@ pub use layout::{
     column_count, layout, ColumnCount, Columns, Filter, LayoutInput, LayoutMut, LfGroup,
 };
 pub use orders::{order, orders, places_fit, Orders, STORE_LENGTH};
-pub use record::{alike, cut, Group, GroupMut, Layout, Sides, Varblock};
+pub use record::{alike, cut, FilteredLayout, Group, GroupMut, Layout, Sides, Varblock};
 pub use refusal::{Refusal, Result};
 pub use transform::{transform, Transform, TransformType};
 pub use version::{version, Version, VERSION};

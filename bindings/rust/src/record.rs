@@ -268,41 +268,91 @@ pub fn cut(layout: Layout, index: usize, output: GroupMut) -> Result<Sides> {
     Ok(sides)
 }
 
-/// Whether two layouts have the same rectangles and hf_mul; layouts of different sides are not
-/// alike.
+/// A lent layout with its filter strengths, as [`LayoutBuf::filtered`](crate::LayoutBuf::filtered)
+/// lends what the layout call filled.
+#[derive(Debug, Copy, Clone)]
+pub struct FilteredLayout<'a> {
+    /// Its varblocks.
+    pub layout: Layout<'a>,
+    /// A place per block, row by row: any finite numbers.
+    pub sigma: &'a [f32],
+}
+
+impl FilteredLayout<'_> {
+    /// For messages where [`alike`] is refused with [`Length`](crate::Refusal::Length): the first
+    /// list of this layout whose length does not fit, if there is one.
+    ///
+    /// ```
+    /// use netbuff::{FilteredLayout, Layout, Sides};
+    ///
+    /// let layout = Layout { sides: Sides { bw: 2, bh: 1 }, kinds: &[2; 2], hf_mul: &[1; 2] };
+    /// assert_eq!(FilteredLayout { layout, sigma: &[0.0] }.misfit(), Some("sigma"));
+    /// ```
+    pub fn misfit(&self) -> Option<&'static str> {
+        let blocks = self.layout.sides.blocks();
+        let lists = [
+            ("kinds", self.layout.kinds.len()),
+            ("hf_mul", self.layout.hf_mul.len()),
+            ("sigma", self.sigma.len()),
+        ];
+        let unfit = lists.iter().find(|(_, length)| *length != blocks);
+        unfit.map(|(name, _)| *name)
+    }
+}
+
+/// Whether two layouts have the same varblocks (the same corners, and at each the same transform
+/// number and hf_mul) and the same filter strengths to the bit. Layouts of different sides are not
+/// alike, and +0.0 is not like −0.0. What the layout call accepted is never refused, and it is like
+/// itself.
 ///
 /// # Errors
 ///
-/// 2, 1, 18, each tried over both layouts before the next.
+/// 2, 11 (a filter strength that is a NaN or an infinity; every one that is lent is looked at, those
+/// beyond the layout's blocks too), 1, 18, each tried over both layouts before the next.
 ///
 /// ```
-/// use netbuff::{alike, Layout, Sides};
+/// use netbuff::{alike, FilteredLayout, Layout, Sides, TransformType};
 ///
-/// let sides = Sides { bw: 2, bh: 1 };
-/// let two = Layout { sides, kinds: &[2, 2], hf_mul: &[1, 1] };
-/// let one = Layout { sides, kinds: &[2 + 7, 1], hf_mul: &[1, 0] };
-/// assert!(alike(two, two)? && !alike(one, two)?);
-/// let free = Layout { sides, kinds: &[2, 0], hf_mul: &[1, 0] };
-/// assert_eq!(alike(one, free).unwrap_err().number(), 18);
+/// let sides = Sides { bw: 1, bh: 1 };
+/// let kind = |transform: TransformType| [2 + transform as u8];
+/// let (dct8, hornuss) = (kind(TransformType::Dct8), kind(TransformType::Hornuss));
+/// let layout = Layout { sides, kinds: &dct8, hf_mul: &[1] };
+/// let one = FilteredLayout { layout, sigma: &[0.0] };
+/// assert!(alike(one, one)?);
+///
+/// // Another transform of the same size, or another bit of a filter strength.
+/// let other = FilteredLayout { layout: Layout { kinds: &hornuss, ..layout }, ..one };
+/// assert!(!alike(one, other)?);
+/// assert!(!alike(one, FilteredLayout { sigma: &[-0.0], ..one })?);
+///
+/// // A number that is not finite is refused with 11, before the length of its list with 1.
+/// let refused = |sigma| alike(one, FilteredLayout { sigma, ..one }).unwrap_err().number();
+/// assert_eq!(refused(&[f32::INFINITY]), 11);
+/// assert_eq!(refused(&[0.0, f32::NAN]), 11);
+/// assert_eq!(refused(&[0.0, 0.0]), 1);
 /// # Ok::<(), netbuff::Refusal>(())
 /// ```
-pub fn alike(left: Layout, right: Layout) -> Result<bool> {
+pub fn alike(left: FilteredLayout, right: FilteredLayout) -> Result<bool> {
     let mut alike = false;
     // SAFETY: the lists and every reference are valid for the call, and nothing is kept.
     call(|x, y| unsafe {
         sys::netbuff_alike(
-            left.sides.bw,
-            left.sides.bh,
-            left.kinds.as_ptr(),
-            left.kinds.len(),
-            left.hf_mul.as_ptr(),
-            left.hf_mul.len(),
-            right.sides.bw,
-            right.sides.bh,
-            right.kinds.as_ptr(),
-            right.kinds.len(),
-            right.hf_mul.as_ptr(),
-            right.hf_mul.len(),
+            left.layout.sides.bw,
+            left.layout.sides.bh,
+            left.layout.kinds.as_ptr(),
+            left.layout.kinds.len(),
+            left.layout.hf_mul.as_ptr(),
+            left.layout.hf_mul.len(),
+            left.sigma.as_ptr(),
+            left.sigma.len(),
+            right.layout.sides.bw,
+            right.layout.sides.bh,
+            right.layout.kinds.as_ptr(),
+            right.layout.kinds.len(),
+            right.layout.hf_mul.as_ptr(),
+            right.layout.hf_mul.len(),
+            right.sigma.as_ptr(),
+            right.sigma.len(),
             &mut alike,
             x,
             y,

@@ -21,7 +21,8 @@ pub type Result<T, E = Refusal> = core::result::Result<T, E>;
 #[derive(Debug, Copy, Clone, PartialEq, Eq, Hash)]
 #[non_exhaustive]
 pub enum Refusal {
-    /// 1: a lent length does not fit. [`LayoutInput::misfit`](crate::LayoutInput::misfit) and
+    /// 1: a lent length does not fit. [`LayoutInput::misfit`](crate::LayoutInput::misfit),
+    /// [`FilteredLayout::misfit`](crate::FilteredLayout::misfit) and
     /// [`CoefficientInput::misfit`](crate::CoefficientInput::misfit) tell which.
     Length,
     /// 2: a size is outside its limits, or a group's index outside its layout.

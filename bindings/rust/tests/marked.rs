@@ -1,4 +1,4 @@
-//! The marked examples of the scope (M1 to M11), by the wrapper.
+//! The marked examples of the scope (M1 to M11), and those that its requests add, by the wrapper.
 
 use netbuff::*;
 
@@ -183,4 +183,15 @@ fn transforms_have_the_sides_that_their_names_tell() {
         };
         assert_eq!((known.high, known.wide), (high, wide), "{kind}");
     }
+}
+
+#[test]
+fn no_12_hornuss_is_not_like_dct8() {
+    let read = |number| lay_out(LfGroup::new(8, 8), &[number], &[0]).expect("a layout");
+    let (dct8, hornuss) = (
+        read(TransformType::Dct8 as i32),
+        read(TransformType::Hornuss as i32),
+    );
+    assert_eq!(alike(dct8.filtered(), hornuss.filtered()), Ok(false));
+    assert_eq!(alike(dct8.filtered(), dct8.filtered()), Ok(true));
 }

@@ -228,49 +228,175 @@ fn cut_try(layout: Layout, index: usize, lengths: [usize; 2]) -> Result<Sides> {
     answer
 }
 
+/// What refusal 18 is for, of two blocks beside each other.
+const NO_LAYOUTS: [(&[u8], &[i32]); 6] = [
+    (&[2, 0], &[1, 0]),  // a free cell
+    (&[2, 1], &[1, 0]),  // a cell in no rectangle
+    (&[2, 9], &[1, 1]),  // a rectangle that leaves the grid
+    (&[2, 29], &[1, 1]), // a kind above 28
+    (&[9, 1], &[0, 0]),  // hf_mul below 1 at a corner
+    (&[9, 1], &[1, 1]),  // hf_mul not 0 elsewhere
+];
+const TWO: Sides = Sides { bw: 2, bh: 1 };
+const WIDE: Layout = Layout {
+    sides: TWO,
+    kinds: &[9, 1],
+    hf_mul: &[1, 0],
+};
+
 #[test]
-fn cut_and_likeness_refuse_what_is_no_layout() {
-    let sides = Sides { bw: 2, bh: 1 };
-    let right = Layout {
-        sides,
-        kinds: &[9, 1],
-        hf_mul: &[1, 0],
-    };
-    assert_eq!(cut_try(right, 0, [2, 2]), Ok(sides));
-    assert_eq!(cut_try(right, 1, [2, 2]), Err(Refusal::Size));
-    assert_eq!(cut_try(right, 0, [1, 2]), Err(Refusal::Length));
-    assert_eq!(cut_try(right, 0, [2, 3]), Err(Refusal::Length));
-    let wrong: [(&[u8], &[i32]); 6] = [
-        (&[2, 0], &[1, 0]),  // a free cell
-        (&[2, 1], &[1, 0]),  // a cell in no rectangle
-        (&[2, 9], &[1, 1]),  // a rectangle that leaves the grid
-        (&[2, 29], &[1, 1]), // a kind above 28
-        (&[9, 1], &[0, 0]),  // hf_mul below 1 at a corner
-        (&[9, 1], &[1, 1]),  // hf_mul not 0 elsewhere
-    ];
-    for (kinds, hf_mul) in wrong {
+fn cut_refuses_what_is_no_layout() {
+    assert_eq!(cut_try(WIDE, 0, [2, 2]), Ok(TWO));
+    assert_eq!(cut_try(WIDE, 1, [2, 2]), Err(Refusal::Size));
+    assert_eq!(cut_try(WIDE, 0, [1, 2]), Err(Refusal::Length));
+    assert_eq!(cut_try(WIDE, 0, [2, 3]), Err(Refusal::Length));
+    for (kinds, hf_mul) in NO_LAYOUTS {
+        let wrong = Layout {
+            sides: TWO,
+            kinds,
+            hf_mul,
+        };
+        assert_eq!(cut_try(wrong, 0, [2, 2]), Err(Refusal::Layout));
+    }
+    for bw in [0, 257, usize::MAX] {
+        let wrong = Layout {
+            sides: Sides { bw, bh: 1 },
+            ..WIDE
+        };
+        assert_eq!(cut_try(wrong, 0, [2, 2]), Err(Refusal::Size));
+        assert_eq!(wrong.cut(0).err(), Some(Refusal::Size));
+    }
+}
+
+/// Both ways round: a refusal is the same whichever of the two layouts it is for.
+fn alike_try(left: FilteredLayout, right: FilteredLayout) -> Result<bool> {
+    let answer = alike(left, right);
+    assert_eq!(alike(right, left), answer);
+    named(&answer, left.misfit().or(right.misfit()));
+    answer
+}
+
+const EVEN: FilteredLayout = FilteredLayout {
+    layout: WIDE,
+    sigma: &[0.5, 0.0],
+};
+const SHORT: Layout = Layout {
+    kinds: &[9],
+    ..WIDE
+};
+const FREE: Layout = Layout {
+    kinds: &[2, 0],
+    ..WIDE
+};
+
+fn of<'a>(layout: Layout<'a>, sigma: &'a [f32]) -> FilteredLayout<'a> {
+    FilteredLayout { layout, sigma }
+}
+
+fn sided(bw: usize) -> Layout<'static> {
+    Layout {
+        sides: Sides { bw, bh: 1 },
+        ..WIDE
+    }
+}
+
+#[test]
+fn likeness_refuses_sides_then_strengths_then_lengths_then_what_is_no_layout() {
+    for (wrong, refusal) in [
+        (of(sided(0), &[]), Refusal::Size),
+        (of(sided(257), &[f32::NAN]), Refusal::Size),
+        (of(sided(usize::MAX), &[]), Refusal::Size),
+        (of(SHORT, &[0.5, f32::NAN]), Refusal::Parameter),
+        (of(FREE, &[f32::INFINITY]), Refusal::Parameter),
+        (of(WIDE, &[0.5, 0.0, f32::NEG_INFINITY]), Refusal::Parameter),
+        (of(SHORT, &[0.5, 0.0]), Refusal::Length),
+        (of(FREE, &[0.5, 0.0, 0.0]), Refusal::Length),
+        (of(WIDE, &[0.5]), Refusal::Length),
+        (of(WIDE, &[]), Refusal::Length),
+    ] {
+        assert_eq!(alike_try(EVEN, wrong), Err(refusal), "{wrong:?}");
+    }
+    for (kinds, hf_mul) in NO_LAYOUTS {
+        let sides = TWO;
         let wrong = Layout {
             sides,
             kinds,
             hf_mul,
         };
-        assert_eq!(cut_try(wrong, 0, [2, 2]), Err(Refusal::Layout));
-        assert_eq!(alike(right, wrong), Err(Refusal::Layout));
+        let refused = alike_try(EVEN, of(wrong, &[0.5, 0.0]));
+        assert_eq!(refused, Err(Refusal::Layout));
     }
-    for bw in [0, 257, usize::MAX] {
-        let wrong = Layout {
-            sides: Sides { bw, bh: 1 },
-            ..right
-        };
-        assert_eq!(cut_try(wrong, 0, [2, 2]), Err(Refusal::Size));
-        assert_eq!(alike(wrong, right), Err(Refusal::Size));
-        assert_eq!(wrong.cut(0).err(), Some(Refusal::Size));
-    }
-    let short = Layout {
-        kinds: &[9],
-        ..right
+}
+
+#[test]
+fn likeness_tries_each_refusal_over_both_layouts_before_the_next() {
+    let endless = of(WIDE, &[f32::NAN, 0.0]);
+    let (large, short, free) = (
+        of(sided(257), EVEN.sigma),
+        of(SHORT, EVEN.sigma),
+        of(FREE, EVEN.sigma),
+    );
+    assert_eq!(alike_try(endless, large), Err(Refusal::Size));
+    assert_eq!(alike_try(short, large), Err(Refusal::Size));
+    assert_eq!(alike_try(short, endless), Err(Refusal::Parameter));
+    assert_eq!(alike_try(free, endless), Err(Refusal::Parameter));
+    assert_eq!(alike_try(free, short), Err(Refusal::Length));
+}
+
+/// Infinity, NaNs that signal, quiet ones.
+const NOT_FINITE: [u32; 5] = [
+    0x7f80_0000,
+    0x7f80_0001,
+    0x7fbf_ffff,
+    0x7fc0_0000,
+    0x7fff_ffff,
+];
+/// Zero, subnormals, the first normal number, above 65,504, the largest.
+const FINITE: [u32; 6] = [0, 1, 0x007f_ffff, 0x0080_0000, 0x477f_e001, 0x7f7f_ffff];
+
+#[test]
+fn strengths_that_are_not_finite_are_refused_and_every_finite_one_serves() {
+    let like_itself = |bits| {
+        let sigma = [0.5, f32::from_bits(bits)];
+        alike_try(of(WIDE, &sigma), of(WIDE, &sigma))
     };
-    assert_eq!(alike(right, short), Err(Refusal::Length));
+    for sign in [0, 1 << 31] {
+        for bits in FINITE {
+            assert_eq!(like_itself(sign | bits), Ok(true), "{bits:#x}");
+        }
+        for bits in NOT_FINITE {
+            let refused = Err(Refusal::Parameter);
+            assert_eq!(like_itself(sign | bits), refused, "{bits:#x}");
+        }
+    }
+}
+
+#[test]
+fn likeness_tells_varblocks_and_bits_of_strengths_apart() {
+    let one = |kinds, hf_mul| Layout {
+        sides: Sides { bw: 1, bh: 1 },
+        kinds,
+        hf_mul,
+    };
+    let first = of(one(&[2], &[7]), &[0.0]);
+    assert_eq!(alike_try(first, first), Ok(true));
+    assert_eq!(alike_try(EVEN, EVEN), Ok(true));
+    let least = [f32::from_bits(1)];
+    for other in [
+        of(one(&[3], &[7]), &[0.0]),
+        of(one(&[2], &[8]), &[0.0]),
+        of(one(&[2], &[7]), &[-0.0]),
+        of(one(&[2], &[7]), &least),
+        EVEN,
+    ] {
+        assert_eq!(alike_try(first, other), Ok(false), "{other:?}");
+    }
+    let two = Layout {
+        kinds: &[2, 2],
+        hf_mul: &[1, 1],
+        ..WIDE
+    };
+    assert_eq!(alike_try(EVEN, of(two, EVEN.sigma)), Ok(false));
 }
 
 #[test]

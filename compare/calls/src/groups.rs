@@ -25,9 +25,16 @@ pub struct CutCall {
 /// The buffers that the cut fills: kinds and hf_mul.
 pub type GroupBuffers = (Vec<u8>, Vec<i32>);
 
-/// The likeness test (document 01, Layout, "Added by us").
+/// A lent layout with its filter strengths, row by row.
+#[derive(Debug, Clone, Default)]
+pub struct FilteredLayout {
+    pub layout: Layout,
+    pub sigma: Vec<f32>,
+}
+
+/// The likeness test (document 01, Layout, "Added by us"; document 02, No. 12).
 #[derive(Debug, Clone)]
 pub struct AlikeCall {
-    pub left: Layout,
-    pub right: Layout,
+    pub left: FilteredLayout,
+    pub right: FilteredLayout,
 }

@@ -13,7 +13,7 @@ mod reads;
 pub use coefficients::{CoefficientBuffers, CoefficientsCall};
 pub use columns::{ColumnCount, ColumnCountCall};
 pub use contexts::{Contexts, ContextsCall, LIST_MOST, MAP_MOST};
-pub use groups::{AlikeCall, CutCall, GroupBuffers, Layout};
+pub use groups::{AlikeCall, CutCall, FilteredLayout, GroupBuffers, Layout};
 pub use layout::{LayoutBuffers, LayoutCall};
 pub use lf_group::{LfGroupCall, LfGroupOutput, PassGroup};
 pub use orders::{

@@ -133,7 +133,14 @@ pub fn cut_into(call: &CutCall, (kinds, hf_mul): &mut GroupBuffers) -> Answer<(u
 }
 
 pub fn alike(call: &AlikeCall) -> Outcome<bool, ()> {
-    plain(netbuff::alike(lent(&call.left), lent(&call.right)))
+    plain(netbuff::alike(filtered(&call.left), filtered(&call.right)))
+}
+
+fn filtered(of: &calls::FilteredLayout) -> netbuff::FilteredLayout<'_> {
+    netbuff::FilteredLayout {
+        layout: lent(&of.layout),
+        sigma: &of.sigma,
+    }
 }
 
 fn lent(layout: &calls::Layout) -> netbuff::Layout<'_> {

@@ -5,6 +5,7 @@
 mod coefficients;
 mod contexts;
 mod layout;
+mod likeness;
 mod placing;
 mod record;
 mod stores;
@@ -12,8 +13,9 @@ mod stores;
 pub use coefficients::{coefficients_before_work, ENTRIES_PER_CLUSTER};
 pub use contexts::{clusters_refused, is_fit};
 pub use layout::{column_count_before_work, grid_sides, layout_before_work};
+pub use likeness::alike;
 pub use placing::layout;
-pub use record::{alike, cut, is_layout, kind_sides, transform_sides, Rectangles};
+pub use record::{cut, is_layout, kind_sides, transform_sides};
 pub use stores::{places_inside, store_fits};
 
 use calls::Refusal;

@@ -1,6 +1,6 @@
-//! Lent layouts and groups: the check of refusal 18, the cut, the likeness test.
+//! Lent layouts and groups: the check of refusal 18, the cut.
 
-use calls::{AlikeCall, Answer, CutCall, GroupBuffers, Layout, Outcome};
+use calls::{Answer, CutCall, GroupBuffers, Layout, Outcome};
 
 use crate::first_refusal;
 
@@ -53,7 +53,7 @@ pub fn kind_sides(kind: u8) -> Option<(usize, usize)> {
 }
 
 /// The rectangles of a layout: x, y, width, height and hf_mul of each corner, row by row.
-pub type Rectangles = Vec<(usize, usize, usize, usize, i32)>;
+type Rectangles = Vec<(usize, usize, usize, usize, i32)>;
 
 fn rectangles(layout: &Layout) -> Rectangles {
     let bw = layout.bw;
@@ -139,28 +139,18 @@ fn group_of(call: &CutCall) -> Answer<Layout> {
     })
 }
 
-/// The likeness test.
-pub fn alike(call: &AlikeCall) -> Answer<bool> {
-    let both = |check: fn(&Layout) -> bool| check(&call.left) && check(&call.right);
-    refuse(first_refusal([(2, both(sides_fit))]))?;
-    refuse(first_refusal([(1, both(lengths_fit))]))?;
-    refuse(first_refusal([(18, both(is_layout))]))?;
-    let same_sides = (call.left.bw, call.left.bh) == (call.right.bw, call.right.bh);
-    Ok(same_sides && rectangles(&call.left) == rectangles(&call.right))
-}
-
-fn refuse(refusal: Option<calls::Refusal>) -> Answer<()> {
+pub(crate) fn refuse(refusal: Option<calls::Refusal>) -> Answer<()> {
     refusal.map_or(Ok(()), Err)
 }
 
-fn sides_fit(layout: &Layout) -> bool {
+pub(crate) fn sides_fit(layout: &Layout) -> bool {
     let sides = [layout.bw, layout.bh];
     sides
         .iter()
         .all(|side| (1..=LAYOUT_SIDE_MOST).contains(side))
 }
 
-fn lengths_fit(layout: &Layout) -> bool {
+pub(crate) fn lengths_fit(layout: &Layout) -> bool {
     let cells = layout.blocks();
     layout.kinds.len() == cells && layout.hf_mul.len() == cells
 }

@@ -2,11 +2,11 @@
 use lent_cut::cut::CutAnswer;
 use lent_likeness::LikeAnswer;
 ghost use mathlib.Core.Path.{_≡_};
-ghost use Rattle.layout.specs.Like.{lentLayout};
 ghost use Rattle.refusal.specs.Said.{saidAt};
 ghost use Rattle.refusal.specs.Handed.{with, handed};
 ghost use Rattle.lent_check.specs.GroupSides.{groupSides};
 ghost use Rattle.lent_cut.specs.Calls.{cutOf};
+ghost use Rattle.lent_likeness.specs.Like.{filtered};
 ghost use Rattle.lent_likeness.specs.Calls.{likeOf};
 ghost use Rattle.c_groups.specs.Record.{CutLeaves};
 
@@ -53,18 +53,31 @@ pub extern "C" fn netbuff_alike(
     bh: usize,
     kinds: &[u8],
     hf_mul: &[u32],
+    sigma: &[u32],
     bw2: usize,
     bh2: usize,
     kinds2: &[u8],
     hf_mul2: &[u32],
+    sigma2: &[u32],
     alike: &mut bool,
     x: &mut usize,
     y: &mut usize,
 ) -> u32
     ensures { λ r. ⌜ with (saidAt r (now (x .exit)) (now (y .exit))) (now (alike .exit))
-        ≡ handed (likeOf (lentLayout bw bh (now (kinds .entry)) (now («hf_mul» .entry))) (lentLayout bw2 bh2 (now (kinds2 .entry)) (now («hf_mul2» .entry)))) (now (alike .entry)) ⌝ }
+        ≡ handed (likeOf (filtered bw bh (now (kinds .entry)) (now («hf_mul» .entry)) (now (sigma .entry))) (filtered bw2 bh2 (now (kinds2 .entry)) (now («hf_mul2» .entry)) (now (sigma2 .entry)))) (now (alike .entry)) ⌝ }
 {
-    let answer = lent_likeness::alike(bw, bh, kinds, hf_mul, bw2, bh2, kinds2, hf_mul2);
+    let answer = lent_likeness::alike(
+        bw,
+        bh,
+        kinds,
+        hf_mul,
+        sigma,
+        bw2,
+        bh2,
+        kinds2,
+        hf_mul2,
+        sigma2,
+    );
     match answer {
         LikeAnswer::Alike => {
             *alike = true;

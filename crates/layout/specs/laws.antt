@@ -13,7 +13,6 @@ pub mod Rest
 pub mod Same
 pub mod CutLaws
 pub mod Rows
-pub mod LikeLaws
 pub mod Groups
 pub mod Listed
 pub mod Theorems

@@ -1,4 +1,6 @@
--- what the likeness test answers, and the laws of its loop
+-- likeness of two lent layouts: what it means and what the call answers
+pub mod Like
 pub mod Calls
 pub mod Theorems
+pub mod Examples
 pub mod laws

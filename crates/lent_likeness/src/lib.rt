@@ -1,70 +1,25 @@
-// Likeness of two lent layouts: the same rectangles and hf_mul.
+// Likeness of two lent layouts: the same varblocks, transform numbers and hf_mul included, and the same sigma.
 use lent_check::check::is_lent_layout;
+use lent_lists::finite::all_finite;
+use lent_lists::same::same_bytes;
+use lent_lists::same::same_words;
 use lent_sides::limits::in_limits;
 use lent_sides::limits::lengths_fit;
-use lent_sides::sizes::HIGH;
-use lent_sides::sizes::WIDE;
-use lent_sides::sizes::size_of;
 use refusal::Refusal;
 ghost use mathlib.Core.Path.{_≡_};
-ghost use mathlib.Core.Bool.{true, _&&_};
-ghost use lib.ListN.{length};
-ghost use Rattle.layout.specs.Like.{lentLayout, alike, alikeCell, alikeFrom};
+ghost use mathlib.Core.Bool.{_&&_};
+ghost use Prim.Native.Nat.{_*_};
+ghost use lib.Dec.{eqb};
 ghost use Rattle.lent_sides.specs.Limits.{inLimits, lengthsFit};
+ghost use Rattle.lent_lists.specs.Finite.{allFinite};
 ghost use Rattle.lent_check.specs.laws.Laws.{isLentLayout};
-ghost use Rattle.lent_sides.specs.laws.Sizes.{WIDES, HIGHS};
-ghost use Rattle.lent_likeness.specs.Calls.{answered, filled, likeOf};
+ghost use Rattle.lent_likeness.specs.Like.{filtered};
+ghost use Rattle.lent_likeness.specs.Calls.{answered, alike, likeOf};
 
 pub enum LikeAnswer {
     Alike,
     Unlike,
     Refused(Refusal),
-}
-
-// Two cells: corners of one size and hf_mul, or no corners.
-fn alike_cell(
-    wides: &[usize; 27],
-    highs: &[usize; 27],
-    kind: u8,
-    hf_mul: u32,
-    kind2: u8,
-    hf_mul2: u32,
-) -> bool
-    requires { ⌜ (now wides ≡ WIDES) × (now highs ≡ HIGHS) ⌝ }
-    ensures { λ r. ⌜ r ≡ alikeCell kind «hf_mul» kind2 «hf_mul2» ⌝ }
-{
-    if kind < 2 {
-        return kind2 < 2;
-    }
-    if kind2 < 2 {
-        return false;
-    }
-    if hf_mul != hf_mul2 {
-        return false;
-    }
-    let size = size_of(wides, highs, kind);
-    let size2 = size_of(wides, highs, kind2);
-    if size.wide != size2.wide {
-        return false;
-    }
-    size.high == size2.high
-}
-
-// All cells of two layouts of the same sides.
-fn alike_cells(kinds: &[u8], hf_mul: &[u32], kinds2: &[u8], hf_mul2: &[u32]) -> bool
-    requires { ⌜ (length (now «hf_mul») ≡ length (now kinds)) × (length (now kinds2) ≡ length (now kinds)) × (length (now «hf_mul2») ≡ length (now kinds)) ⌝ }
-    ensures { λ r. ⌜ r ≡ alikeFrom (now (kinds .entry)) (now («hf_mul» .entry)) (now (kinds2 .entry)) (now («hf_mul2» .entry)) (length (now (kinds .entry))) 0 ⌝ }
-{
-    let wides = WIDE;
-    let highs = HIGH;
-    let mut i = 0;
-    while i < kinds.len() {
-        if !alike_cell(&wides, &highs, kinds[i], hf_mul[i], kinds2[i], hf_mul2[i]) {
-            return false;
-        }
-        i += 1;
-    }
-    true
 }
 
 // Both layouts have sides within the limits.
@@ -77,21 +32,43 @@ fn both_sided(bw: usize, bh: usize, bw2: usize, bh2: usize) -> bool
     false
 }
 
-// Both are lent in full.
-fn both_filled(
+// Every sigma of both is finite.
+fn both_finite(sigma: &[u32], sigma2: &[u32]) -> bool
+    ensures { λ r. ⌜ r ≡ allFinite (now (sigma .entry)) && allFinite (now (sigma2 .entry)) ⌝ }
+{
+    if all_finite(sigma) {
+        return all_finite(sigma2);
+    }
+    false
+}
+
+// As many kinds, hf_mul and sigma as bw x bh cells.
+fn all_lengths_fit(bw: usize, bh: usize, kinds: usize, hf_mul: usize, sigma: usize) -> bool
+    ensures { λ r. ⌜ r ≡ lengthsFit bw bh kinds «hf_mul» && eqb sigma (bh * bw) ⌝ }
+{
+    if lengths_fit(bw, bh, kinds, hf_mul) {
+        return sigma == kinds;
+    }
+    false
+}
+
+// The lengths of both.
+fn both_lengths_fit(
     bw: usize,
     bh: usize,
-    kinds: &[u8],
-    hf_mul: &[u32],
+    kinds: usize,
+    hf_mul: usize,
+    sigma: usize,
     bw2: usize,
     bh2: usize,
-    kinds2: &[u8],
-    hf_mul2: &[u32],
+    kinds2: usize,
+    hf_mul2: usize,
+    sigma2: usize,
 ) -> bool
-    ensures { λ r. ⌜ r ≡ lengthsFit bw bh (length (now (kinds .entry))) (length (now («hf_mul» .entry))) && lengthsFit bw2 bh2 (length (now (kinds2 .entry))) (length (now («hf_mul2» .entry))) ⌝ }
+    ensures { λ r. ⌜ r ≡ (lengthsFit bw bh kinds «hf_mul» && eqb sigma (bh * bw)) && (lengthsFit bw2 bh2 kinds2 «hf_mul2» && eqb sigma2 (bh2 * bw2)) ⌝ }
 {
-    if lengths_fit(bw, bh, kinds.len(), hf_mul.len()) {
-        return lengths_fit(bw2, bh2, kinds2.len(), hf_mul2.len());
+    if all_lengths_fit(bw, bh, kinds, hf_mul, sigma) {
+        return all_lengths_fit(bw2, bh2, kinds2, hf_mul2, sigma2);
     }
     false
 }
@@ -115,19 +92,20 @@ fn both_layouts(
     false
 }
 
-// The same rectangles and hf_mul, in two layouts that are lent in full.
+// The same sides, kinds, hf_mul and sigma.
 fn alike_layouts(
     bw: usize,
     bh: usize,
     kinds: &[u8],
     hf_mul: &[u32],
+    sigma: &[u32],
     bw2: usize,
     bh2: usize,
     kinds2: &[u8],
     hf_mul2: &[u32],
+    sigma2: &[u32],
 ) -> bool
-    requires { ⌜ (filled (lentLayout bw bh (now kinds) (now «hf_mul»)) ≡ true) × (filled (lentLayout bw2 bh2 (now kinds2) (now «hf_mul2»)) ≡ true) ⌝ }
-    ensures { λ r. ⌜ r ≡ alike (lentLayout bw bh (now (kinds .entry)) (now («hf_mul» .entry))) (lentLayout bw2 bh2 (now (kinds2 .entry)) (now («hf_mul2» .entry))) ⌝ }
+    ensures { λ r. ⌜ r ≡ alike (filtered bw bh (now (kinds .entry)) (now («hf_mul» .entry)) (now (sigma .entry))) (filtered bw2 bh2 (now (kinds2 .entry)) (now («hf_mul2» .entry)) (now (sigma2 .entry))) ⌝ }
 {
     if bw != bw2 {
         return false;
@@ -135,32 +113,66 @@ fn alike_layouts(
     if bh != bh2 {
         return false;
     }
-    alike_cells(kinds, hf_mul, kinds2, hf_mul2)
+    if !same_bytes(kinds, kinds2) {
+        return false;
+    }
+    if !same_words(hf_mul, hf_mul2) {
+        return false;
+    }
+    same_words(sigma, sigma2)
 }
 
-// Whether two lent layouts are alike. Each refusal is tried over both before the next: sides (2), lengths (1), 18.
+// Whether two lent layouts are alike; sigma as bit patterns of f32. Each refusal is tried over both before the next: sides (2), a
+// sigma that is not finite (11), lengths (1), 18.
 pub fn alike(
     bw: usize,
     bh: usize,
     kinds: &[u8],
     hf_mul: &[u32],
+    sigma: &[u32],
     bw2: usize,
     bh2: usize,
     kinds2: &[u8],
     hf_mul2: &[u32],
+    sigma2: &[u32],
 ) -> LikeAnswer
-    ensures { λ r. ⌜ answered r ≡ likeOf (lentLayout bw bh (now (kinds .entry)) (now («hf_mul» .entry))) (lentLayout bw2 bh2 (now (kinds2 .entry)) (now («hf_mul2» .entry))) ⌝ }
+    ensures { λ r. ⌜ answered r ≡ likeOf (filtered bw bh (now (kinds .entry)) (now («hf_mul» .entry)) (now (sigma .entry))) (filtered bw2 bh2 (now (kinds2 .entry)) (now («hf_mul2» .entry)) (now (sigma2 .entry))) ⌝ }
 {
     if !both_sided(bw, bh, bw2, bh2) {
         return LikeAnswer::Refused(Refusal::Size);
     }
-    if !both_filled(bw, bh, kinds, hf_mul, bw2, bh2, kinds2, hf_mul2) {
+    if !both_finite(sigma, sigma2) {
+        return LikeAnswer::Refused(Refusal::Parameter);
+    }
+    if !both_lengths_fit(
+        bw,
+        bh,
+        kinds.len(),
+        hf_mul.len(),
+        sigma.len(),
+        bw2,
+        bh2,
+        kinds2.len(),
+        hf_mul2.len(),
+        sigma2.len(),
+    ) {
         return LikeAnswer::Refused(Refusal::Length);
     }
     if !both_layouts(bw, bh, kinds, hf_mul, bw2, bh2, kinds2, hf_mul2) {
         return LikeAnswer::Refused(Refusal::Layout);
     }
-    if alike_layouts(bw, bh, kinds, hf_mul, bw2, bh2, kinds2, hf_mul2) {
+    if alike_layouts(
+        bw,
+        bh,
+        kinds,
+        hf_mul,
+        sigma,
+        bw2,
+        bh2,
+        kinds2,
+        hf_mul2,
+        sigma2,
+    ) {
         return LikeAnswer::Alike;
     }
     LikeAnswer::Unlike

@@ -1,4 +1,4 @@
--- Document 01's marked examples, as rows of one list under one theorem.
+-- Document 01's marked examples and what document 02 adds to them, as rows of one list under one theorem.
 use mathlib.Core.Path.{_≡_}
 use mathlib.Core.Bool.{false}
 use mathlib.Core.List.{List, [], _∷_, _++_}
@@ -11,6 +11,10 @@ use Rattle.refusal.specs.Said.{saidAt, said}
 use Rattle.bits.specs.Bits.{Value}
 use Rattle.order_natural.specs.Natural.{natural}
 use Rattle.layout.specs.Varblocks.{varblock, varblocksOf, area}
+use Rattle.lent_likeness.specs.Like.{SameRectangles}
+use Rattle.lent_likeness.specs.Calls.{likeOf}
+use Rattle.lent_likeness.specs.Examples as likeness
+use Rattle.lent_likeness.specs.Examples.{hornuss}
 use Rattle.layout_filter.specs.declared.Filter.the-variants.{On}
 use Rattle.layout_filter.specs.Strength.{nearest}
 use Rattle.refusal.specs.Answer as answer
@@ -101,6 +105,10 @@ M11 = (map log g0 g1 g2 : List ℕ) → Room 1 1 map log g0 g1 g2
     ≡ leaves (Accepted 6) (getD map 300 0 ∷ getD map 618 0 ∷ getD map 558 0 ∷ getD map 559 0 ∷ getD map 307 0 ∷ getD map 307 0 ∷ drop 6 log)
     g0 (gains (gains g1 8 (2 ^ 32 - 2)) 2 2) g2
 
+-- M12, of document 02, No. 12: Hornuss and Dct8, one block each, are not alike now, though they have the same rectangles and so were alike before
+abbrev pub M12 : Type 0
+M12 = (likeOf hornuss likeness.dct8 ≡ gives false) × SameRectangles (hornuss .layout) (likeness.dct8 .layout)
+
 -- number and statement of a marked example
 pub record Row : Type 1 where
   pub number : ℕ
@@ -110,7 +118,7 @@ abbrev m : ℕ → Type 0 → Row
 m number says = record { number = number; says = says }
 
 unfoldable pub MARKED : List Row
-MARKED = m 1 M1 ∷ m 2 M2 ∷ m 3 M3 ∷ m 4 M4 ∷ m 5 M5 ∷ m 6 M6 ∷ m 7 M7 ∷ m 8 M8 ∷ m 9 M9 ∷ m 10 M10 ∷ m 11 M11 ∷ []
+MARKED = m 1 M1 ∷ m 2 M2 ∷ m 3 M3 ∷ m 4 M4 ∷ m 5 M5 ∷ m 6 M6 ∷ m 7 M7 ∷ m 8 M8 ∷ m 9 M9 ∷ m 10 M10 ∷ m 11 M11 ∷ m 12 M12 ∷ []
 
 -- each row of a list
 abbrev pub Each : List Row → Type 0

@@ -1,4 +1,4 @@
-// Call 5: the likeness of two layouts. Width and height of each; kinds and hf_mul of each.
+// Call 5: the likeness of two layouts. Width and height of each; kinds, hf_mul and sigma of each.
 use crate::answer::refuse;
 use crate::lent::length;
 use lent_likeness::LikeAnswer;
@@ -22,10 +22,12 @@ pub(crate) fn replay(body: &[u8], words: &[u32], out: &mut [usize; 48]) -> usize
         length(words, 1),
         bytes(body, words, 4, 0),
         list(words, 4, 1),
+        list(words, 4, 2),
         length(words, 2),
         length(words, 3),
-        bytes(body, words, 4, 2),
-        list(words, 4, 3),
+        bytes(body, words, 4, 3),
+        list(words, 4, 4),
+        list(words, 4, 5),
     );
     put(out, answer);
     4

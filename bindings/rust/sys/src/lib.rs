@@ -137,7 +137,7 @@ extern "C" {
         y: *mut usize,
     ) -> u32;
 
-    /// Whether two layouts have the same rectangles and hf_mul.
+    /// Whether two layouts have the same varblocks and the same sigma to the bit.
     pub fn netbuff_alike(
         bw: usize,
         bh: usize,
@@ -145,12 +145,16 @@ extern "C" {
         kinds_length: usize,
         hf_mul: *const i32,
         hf_mul_length: usize,
+        sigma: *const f32,
+        sigma_length: usize,
         bw2: usize,
         bh2: usize,
         kinds2: *const u8,
         kinds2_length: usize,
         hf_mul2: *const i32,
         hf_mul2_length: usize,
+        sigma2: *const f32,
+        sigma2_length: usize,
         alike: *mut bool,
         x: *mut usize,
         y: *mut usize,

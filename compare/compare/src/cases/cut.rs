@@ -96,16 +96,21 @@ pub fn short_layout(number: usize) -> Layout {
     }
 }
 
-/// A layout, mostly whole, seldom large.
-pub fn random_layout(rng: &mut Rng) -> Layout {
-    let most = rng.pick(&[4, 8, 8, 8, 40, 40, 70, 256]);
-    let (bw, bh) = (rng.between(1, most), rng.between(1, most.min(70)));
-    let favoured = rng.once_in(3).then(|| rng.below(27) as u8);
-    let mut layout = fill(rng, bw, bh, favoured).layout;
+/// A layout, damaged half of the time.
+fn random_layout(rng: &mut Rng) -> Layout {
+    let mut layout = whole_layout(rng);
     if rng.once_in(2) {
         damage(rng, &mut layout);
     }
     layout
+}
+
+/// A layout, seldom large.
+pub fn whole_layout(rng: &mut Rng) -> Layout {
+    let most = rng.pick(&[4, 8, 8, 8, 40, 40, 70, 256]);
+    let (bw, bh) = (rng.between(1, most), rng.between(1, most.min(70)));
+    let favoured = rng.once_in(3).then(|| rng.below(27) as u8);
+    fill(rng, bw, bh, favoured).layout
 }
 
 /// Sides outside the limits, or lengths that do not fit.

@@ -14,6 +14,7 @@ mod placing;
 mod reader;
 mod signed;
 mod stores;
+mod strengths;
 mod symbol_stream;
 mod transform;
 

@@ -98,13 +98,14 @@ fn any_mul(rng: &mut Rng) -> i32 {
 pub fn damage(rng: &mut Rng, layout: &mut Layout) {
     for _ in 0..rng.between(1, 2) {
         let cell = rng.below(layout.kinds.len().max(1));
-        let Some(kind) = layout.kinds.get_mut(cell) else {
+        let lists = (layout.kinds.get_mut(cell), layout.hf_mul.get_mut(cell));
+        let (Some(kind), Some(hf_mul)) = lists else {
             return;
         };
         match rng.below(3) {
             0 => *kind = rng.below(31) as u8,
             1 => *kind = rng.pick(&[0, 1, 2, 28, 29, 255]),
-            _ => layout.hf_mul[cell] = rng.pick(&[0, 1, -1, i32::MIN, i32::MAX, 2]),
+            _ => *hf_mul = rng.pick(&[0, 1, -1, i32::MIN, i32::MAX, 2]),
         }
     }
 }

@@ -1,17 +1,18 @@
-//! Document 01's examples, run through the Rust (where it has no such check, through the model of
+//! The papers' examples, run through the Rust (where it has no such check, through the model of
 //! the paper) and through Netbuff, held against the paper's words.
 
 mod coefficients;
 mod layouts;
+mod likeness;
 mod orders;
 mod reading;
 
 use std::fmt;
 
 use calls::{
-    Answer, CoefficientBuffers, CoefficientsCall, ColumnCount, ColumnCountCall, Contexts,
-    ContextsCall, CutCall, GroupBuffers, LayoutBuffers, LayoutCall, OrdersCall, Outcome, Store,
-    Transform,
+    AlikeCall, Answer, CoefficientBuffers, CoefficientsCall, ColumnCount, ColumnCountCall,
+    Contexts, ContextsCall, CutCall, GroupBuffers, LayoutBuffers, LayoutCall, OrdersCall, Outcome,
+    Store, Transform,
 };
 use jxl_vardct::oracle::Orders;
 
@@ -23,6 +24,7 @@ struct Calls {
     column_count: fn(&ColumnCountCall) -> Answer<ColumnCount>,
     layout: fn(&LayoutCall) -> Outcome<usize, LayoutBuffers>,
     cut: fn(&CutCall) -> Outcome<(usize, usize), GroupBuffers>,
+    alike: fn(&AlikeCall) -> Answer<bool>,
     contexts: fn(&ContextsCall) -> Outcome<usize, Contexts>,
     orders: fn(&OrdersCall) -> Outcome<usize, Store>,
     coefficients: fn(&CoefficientsCall, &Orders) -> Outcome<usize, CoefficientBuffers>,
@@ -33,6 +35,7 @@ const RUST: Calls = Calls {
     column_count: expected::column_count,
     layout: expected::layout,
     cut: paper::cut,
+    alike: paper::alike,
     contexts: expected::contexts,
     orders: expected::orders,
     coefficients: expected::coefficients,
@@ -43,6 +46,7 @@ const NETBUFF: Calls = Calls {
     column_count: |call| ours::column_count(call).answer,
     layout: ours::layout,
     cut: ours::cut,
+    alike: |call| ours::alike(call).answer,
     contexts: ours::contexts,
     orders: ours::orders,
     coefficients: |call, _| ours::coefficients(call),
@@ -94,6 +98,7 @@ struct Said {
 fn said(calls: &Calls) -> Vec<Said> {
     let parts = [
         layouts::said(calls),
+        likeness::said(calls),
         reading::said(calls),
         orders::said(calls),
         coefficients::said(calls),

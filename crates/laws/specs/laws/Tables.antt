@@ -7,7 +7,7 @@ use Prim.Native.Nat.{ℕ, zero, suc, _+_, _≤_, _<_}
 use native.Mathlib.Omega.{arith}
 use native.Mathlib.Nat.{not-suc-le-zero, le-of-suc-le-suc}
 use lib.Dec.{T}
-use lib.Ieee.Fits.{and-l, and-r}
+use lib.Ieee.Fits.{and-i, and-l, and-r}
 use lib.ListN.{length, getD}
 use Rattle.laws.specs.laws.Cases.{eq-or-ne}
 use Rattle.laws.specs.Tables.{each, every}
@@ -17,6 +17,10 @@ module _ {A : Type 0} (rule : A → Bool) where
   at-each [] t d k h = absurd (not-suc-le-zero h)
   at-each (x ∷ xs) t d zero h = and-l (rule x) (every rule xs) t
   at-each (x ∷ xs) t d (suc k) h = at-each xs (and-r (rule x) (every rule xs) t) d k (le-of-suc-le-suc h)
+
+  pub each-every : (xs : List A) (d : A) → ((k : ℕ) → k < length xs → T (rule (getD xs k d))) → T (every rule xs)
+  each-every [] d f = tt
+  each-every (x ∷ xs) d f = and-i (rule x) (every rule xs) (f 0 (omega arith)) (each-every xs d (λ k h. f (suc k) (omega arith)))
 
 -- A rule over the numbers o, o + 1, .., n of them.
 module _ (rule : ℕ → Bool) where

@@ -6,9 +6,9 @@ use native.Mathlib.Omega.{arith}
 use borrow.Author.Tests.{lt-ltb}
 use Rattle.layout.specs.Cut.{groups, groupX, groupY}
 use Rattle.layout.specs.laws.CutLaws.{cut-at, groupAt, group-x, group-y, group-lt, block-in}
-use Rattle.layout.specs.Like.{LentLayout}
+use Rattle.layout.specs.Lent.{LentLayout, HasVarblock}
 use Rattle.layout.specs.Varblocks.{Varblock}
-use Rattle.layout.specs.Groups.{HasVarblock, InOneGroup, cutGroup, moved}
+use Rattle.layout.specs.Groups.{InOneGroup, cutGroup, moved}
 
 index : (bw f : ℕ) → f ≡ groupY bw f * groups bw + groupX bw f
 unfolding groupX groupY

@@ -10,8 +10,7 @@ use borrow.Author.Tests.{leb-true, le-leb}
 use Rattle.laws.specs.laws.Cases.{eq-or-ne}
 use Rattle.layout.specs.Valid.{Cells}
 use Rattle.layout.specs.Varblocks.{Varblock, addVarblock, cornersRow, cornersFrom, varblocksOf}
-use Rattle.layout.specs.Like.{LentLayout, kindAt, hfMulAt}
-use Rattle.layout.specs.Groups.{HasVarblock}
+use Rattle.layout.specs.Lent.{LentLayout, kindAt, hfMulAt, HasVarblock}
 use Rattle.layout.specs.Listed.{Among, first, later}
 
 module _ (K M : Cells) (v : Varblock) where

@@ -9,8 +9,7 @@ use Rattle.dct_select.specs.laws.Sides.{wide-most, high-most}
 use Rattle.layout.specs.Grid.{blockAt}
 use Rattle.layout.specs.Valid.{Covers, Layout}
 use Rattle.layout.specs.Varblocks.{Varblock, varblock, varblocksOf}
-use Rattle.layout.specs.Like.{lentLayout}
-use Rattle.layout.specs.Groups.{HasVarblock}
+use Rattle.layout.specs.Lent.{lentLayout, HasVarblock}
 use Rattle.layout.specs.Listed.{Among}
 use Rattle.layout.specs.laws.Listed.{listed}
 

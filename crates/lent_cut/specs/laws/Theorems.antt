@@ -13,6 +13,7 @@ use Rattle.layout.specs.laws.CutLaws.{cut-layout, starts-x, starts-y}
 use Rattle.layout.specs.laws.Theorems.{layout-iff}
 use Rattle.lent_check.specs.declared.GroupSides.{GroupSides}
 use Rattle.refusal.specs.Answer.{Answer, gives, refuses, unless}
+use Rattle.refusal.specs.laws.Answer.{refusedWith}
 use Rattle.lent_check.specs.Calls.{checkOf}
 use Rattle.lent_sides.specs.Limits.{inLimits, lengthsFit}
 use Rattle.lent_sides.specs.laws.Limits.{lengths-fit}
@@ -21,21 +22,16 @@ use Rattle.lent_cut.specs.Calls.{Outcome, outcome, cutCheck, cutBy, cutO
 use Rattle.lent_check.specs.laws.Theorems.{checks}
 use Rattle.lent_cut.specs.laws.CutSteps.{Passed, passed, cut-done, cut-refused}
 
--- a refusal's number, 0 for a result
-abbrev numberOf : Answer GroupSides → ℕ
-numberOf (gives g) = 0
-numberOf (refuses s) = s .number
-
 -- The cut.
 module _ (bw bh : ℕ) (kinds hfMul : List ℕ) (g : ℕ) (outKinds outHfMul : List ℕ) where
   -- a layout is never refused with 18, at whatever position
   pub cut-not-18 : Layout bw bh kinds hfMul → (why : Said) → (cutOf bw bh kinds hfMul g outKinds outHfMul) .answer ≡ refuses why → why .number ≡ 18 → ⊥
   unfolding cutOf cutCheck
   cut-not-18 ok why e n = go (inLimits 256 bw bh) (hasGroup bw bh g) (lengthsFit bw bh (length kinds) (length hfMul)) (lengthsFit (groupBw bw g) (groupBh bw bh g) (length outKinds) (length outHfMul)) (isLayout bw bh kinds hfMul)
-      (layout-iff bw bh kinds hfMul (ok .kindsLength) (ok .hfMulLength) .1 ok) (ap numberOf e ∙ n)
+      (layout-iff bw bh kinds hfMul (ok .kindsLength) (ok .hfMulLength) .1 ok) (ap refusedWith e ∙ n)
     where
       go : (p q r s t : Bool) → t ≡ true
-          → numberOf ((cutBy (unless 2 p (unless 2 q (unless 1 r (unless 1 s (unless 18 t (gives tt)))))) (outcome (gives (groupSides (groupBw bw g) (groupBh bw bh g))) (cut bw bh g kinds) (cut bw bh g hfMul)) outKinds outHfMul) .answer) ≡ 18 → ⊥
+          → refusedWith ((cutBy (unless 2 p (unless 2 q (unless 1 r (unless 1 s (unless 18 t (gives tt)))))) (outcome (gives (groupSides (groupBw bw g) (groupBh bw bh g))) (cut bw bh g kinds) (cut bw bh g hfMul)) outKinds outHfMul) .answer) ≡ 18 → ⊥
       go false q r s t f z = let y : _≡_ {A = ℕ} 2 18 = z in omega arith
       go true false r s t f z = let y : _≡_ {A = ℕ} 2 18 = z in omega arith
       go true true false s t f z = let y : _≡_ {A = ℕ} 1 18 = z in omega arith

@@ -1,71 +1,21 @@
--- The ends of the likeness test, and its loop.
-use mathlib.Core.Path.{_≡_, ap, _∙_}
+-- The ends of the likeness test.
+use mathlib.Core.Path.{_≡_, refl, ap, sym, _∙_}
 use mathlib.Core.Bool.{Bool, true, false, _&&_}
-use mathlib.Core.Logic.{_⊎_, inl, inr}
-use mathlib.Core.List.{List}
-use Prim.Native.Nat.{ℕ, _+_, _-_, _*_, _≤_, _<_}
-use native.Mathlib.Omega.{arith}
-use lib.Dec.{ltb, leb, eqb}
-use lib.ListN.{length, getD}
-use borrow.Author.Tests.{lt-ltb, le-ltb, le-leb, lt-leb, eq-eqb, ne-eqb}
-use Rattle.laws.specs.laws.Cases.{le-or-lt, and-true}
+use mathlib.Core.Logic.{_↔_}
+use Prim.Native.Nat.{ℕ, _*_}
+use lib.Dec.{eqb}
+use lib.ListN.{length}
+use borrow.Author.Tests.{eqb-true, eq-eqb, ne-eqb}
+use Rattle.laws.specs.laws.Cases.{and-true}
 use Rattle.refusal.specs.Said.{saidAt}
-use Rattle.layout.specs.Kinds.{wideOf, highOf}
-use Rattle.layout.specs.laws.RowByRowSteps.{left-suc}
-use Rattle.layout.specs.Like.{LentLayout, bySort, alikeCorners, alikeCell, alikeFrom, alike}
 use Rattle.refusal.specs.Answer.{gives, refuses}
+use Rattle.lent_sides.specs.Limits.{lengthsFit}
 use Rattle.lent_sides.specs.laws.Limits.{lengths-fit}
-use Rattle.lent_check.specs.laws.Laws.{isLentLayout}
-use Rattle.lent_check.specs.laws.Laws.{lent-cells}
-use Rattle.lent_likeness.specs.Calls.{sided, filled, holdsLayout, likeOf}
-
-module _ (k m k′ m′ : ℕ) where
-  pub cell-plain : k < 2 → alikeCell k m k′ m′ ≡ ltb k′ 2
-  unfolding alikeCell
-  cell-plain h = go (le-or-lt 2 k′)
-    where
-      go : (2 ≤ k′) ⊎ (k′ < 2) → bySort (leb 2 k) (leb 2 k′) (alikeCorners k m k′ m′) ≡ ltb k′ 2
-      go (inl l) = rw (lt-leb 2 k h, le-leb 2 k′ l, le-ltb k′ 2 l)
-      go (inr l) = rw (lt-leb 2 k h, lt-leb 2 k′ l, lt-ltb k′ 2 l)
-
-  module _ (h : 2 ≤ k) where
-    pub cell-odd : k′ < 2 → alikeCell k m k′ m′ ≡ false
-    unfolding alikeCell
-    cell-odd l = rw (le-leb 2 k h, lt-leb 2 k′ l)
-
-    module _ (l : 2 ≤ k′) where
-      pub cell-mul : (m ≡ m′ → ⊥) → alikeCell k m k′ m′ ≡ false
-      unfolding alikeCell alikeCorners
-      cell-mul n = rw (le-leb 2 k h, le-leb 2 k′ l, ne-eqb m m′ n)
-
-      pub cell-wide : m ≡ m′ → (wideOf k ≡ wideOf k′ → ⊥) → alikeCell k m k′ m′ ≡ false
-      unfolding alikeCell alikeCorners
-      cell-wide e n = rw (le-leb 2 k h, le-leb 2 k′ l, eq-eqb m m′ e, ne-eqb (wideOf k) (wideOf k′) n)
-
-      pub cell-high : m ≡ m′ → wideOf k ≡ wideOf k′ → alikeCell k m k′ m′ ≡ eqb (highOf k) (highOf k′)
-      unfolding alikeCell alikeCorners
-      cell-high e f = rw (le-leb 2 k h, le-leb 2 k′ l, eq-eqb m m′ e, eq-eqb (wideOf k) (wideOf k′) f)
-
-module _ (kinds hfMul kinds′ hfMul′ : List ℕ) where
-  abbrev pub left : ℕ → Bool
-  left i = alikeFrom kinds hfMul kinds′ hfMul′ (length kinds - i) i
-
-  pub like-start : alikeFrom kinds hfMul kinds′ hfMul′ (length kinds) 0 ≡ left 0
-  like-start = ap (λ (n : ℕ). alikeFrom kinds hfMul kinds′ hfMul′ n 0) (let e : length kinds ≡ length kinds - 0 = omega arith in e)
-
-  step : (i : ℕ) → i < length kinds → left i ≡ alikeCell (getD kinds i 0) (getD hfMul i 0) (getD kinds′ i 0) (getD hfMul′ i 0) && left (i + 1)
-  unfolding alikeFrom
-  step i h = ap (λ (n : ℕ). alikeFrom kinds hfMul kinds′ hfMul′ n i) (left-suc i (length kinds) h)
-
-  pub like-next : (i : ℕ) → i < length kinds → alikeCell (getD kinds i 0) (getD hfMul i 0) (getD kinds′ i 0) (getD hfMul′ i 0) ≡ true → left i ≡ left (i + 1)
-  like-next i h e = step i h ∙ ap (λ (b : Bool). b && left (i + 1)) e
-
-  pub like-stop : (i : ℕ) → i < length kinds → alikeCell (getD kinds i 0) (getD hfMul i 0) (getD kinds′ i 0) (getD hfMul′ i 0) ≡ false → left i ≡ false
-  like-stop i h e = step i h ∙ ap (λ (b : Bool). b && left (i + 1)) e
-
-  pub like-end : (i : ℕ) → length kinds ≤ i → left i ≡ true
-  unfolding alikeFrom
-  like-end i h = ap (λ (n : ℕ). alikeFrom kinds hfMul kinds′ hfMul′ n i) (let e : length kinds - i ≡ 0 = omega arith in e)
+use Rattle.lent_check.specs.laws.Laws.{isLentLayout, lent-cells}
+use Rattle.lent_lists.specs.Same.{same}
+use Rattle.lent_lists.specs.laws.Same.{same-iff}
+use Rattle.lent_likeness.specs.Like.{FilteredLayout}
+use Rattle.lent_likeness.specs.Calls.{sided, strengthsFinite, allLengthsFit, holdsLayout, alike, likeOf}
 
 -- two tests, the second where the first holds
 module _ (r a b : Bool) (e : r ≡ a) where
@@ -75,55 +25,98 @@ module _ (r a b : Bool) (e : r ≡ a) where
   pub both-first : r ≡ false → false ≡ a && b
   both-first t = rw (← e, t)
 
+-- sigma is as long as the layout if it is as long as kinds
+pub sigma-length : (bw bh kinds hfMul sigma : ℕ) → lengthsFit bw bh kinds hfMul ≡ true → eqb sigma kinds ≡ lengthsFit bw bh kinds hfMul && eqb sigma (bh * bw)
+sigma-length bw bh kinds hfMul sigma e = rw (e, ← lengths-fit bw bh kinds hfMul e .0)
+
 -- a layout that is lent in full, as the code tests it
-abbrev pub isLent : LentLayout → Bool
-isLent L = isLentLayout (L .bw) (L .bh) (L .kinds) (L .hfMul)
+abbrev pub isLent : FilteredLayout → Bool
+isLent L = isLentLayout (L .layout .bw) (L .layout .bh) (L .layout .kinds) (L .layout .hfMul)
 
-is-lent : (L : LentLayout) → sided L ≡ true → filled L ≡ true → isLent L ≡ holdsLayout L
-is-lent L = lent-cells (L .bw) (L .bh) (L .kinds) (L .hfMul)
+is-lent : (L : FilteredLayout) → sided L ≡ true → allLengthsFit L ≡ true → isLent L ≡ holdsLayout L
+is-lent L a b =
+    lent-cells (L .layout .bw) (L .layout .bh) (L .layout .kinds) (L .layout .hfMul) a
+    (and-true (lengthsFit (L .layout .bw) (L .layout .bh) (length (L .layout .kinds)) (length (L .layout .hfMul))) _ b .0)
 
-module _ (L N : LentLayout) where
+module _ (L N : FilteredLayout) where
   pub like-size : (sided L && sided N) ≡ false → refuses (saidAt 2 0 0) ≡ likeOf L N
   unfolding likeOf
   like-size a = rw a
 
   module _ (a : (sided L && sided N) ≡ true) where
-    pub like-length : (filled L && filled N) ≡ false → refuses (saidAt 1 0 0) ≡ likeOf L N
+    pub like-float : (strengthsFinite L && strengthsFinite N) ≡ false → refuses (saidAt 11 0 0) ≡ likeOf L N
     unfolding likeOf
-    like-length b = rw (a, b)
+    like-float f = rw (a, f)
 
-    module _ (b : (filled L && filled N) ≡ true) where
-      pub like-fault : (holdsLayout L && holdsLayout N) ≡ false → refuses (saidAt 18 0 0) ≡ likeOf L N
+    module _ (f : (strengthsFinite L && strengthsFinite N) ≡ true) where
+      pub like-length : (allLengthsFit L && allLengthsFit N) ≡ false → refuses (saidAt 1 0 0) ≡ likeOf L N
       unfolding likeOf
-      like-fault c = rw (a, b, c)
+      like-length b = rw (a, f, b)
 
-      pub like-says : (holdsLayout L && holdsLayout N) ≡ true → (r : Bool) → alike L N ≡ r → gives r ≡ likeOf L N
-      unfolding likeOf
-      like-says c r e = rw (a, b, c, e)
+      module _ (b : (allLengthsFit L && allLengthsFit N) ≡ true) where
+        pub like-fault : (holdsLayout L && holdsLayout N) ≡ false → refuses (saidAt 18 0 0) ≡ likeOf L N
+        unfolding likeOf
+        like-fault c = rw (a, f, b, c)
 
-      pub both-lent : (isLent L && isLent N) ≡ (holdsLayout L && holdsLayout N)
-      both-lent =
-          let p = and-true (sided L) (sided N) a in
-          let q = and-true (filled L) (filled N) b in
-          rw (is-lent L (p .0) (q .0), is-lent N (p .1) (q .1))
+        pub like-says : (holdsLayout L && holdsLayout N) ≡ true → (r : Bool) → alike L N ≡ r → gives r ≡ likeOf L N
+        unfolding likeOf
+        like-says c r e = rw (a, f, b, c, e)
 
-  pub unlike-wide : (L .bw ≡ N .bw → ⊥) → false ≡ alike L N
+    pub both-lent : (allLengthsFit L && allLengthsFit N) ≡ true → (isLent L && isLent N) ≡ (holdsLayout L && holdsLayout N)
+    both-lent b =
+        let p = and-true (sided L) (sided N) a in
+        let q = and-true (allLengthsFit L) (allLengthsFit N) b in
+        rw (is-lent L (p .0) (q .0), is-lent N (p .1) (q .1))
+
+  -- the test of likeness, one thing after the other
+  pub unlike-bw : (L .layout .bw ≡ N .layout .bw → ⊥) → false ≡ alike L N
   unfolding alike
-  unlike-wide n = rw (ne-eqb (L .bw) (N .bw) n)
+  unlike-bw n = rw (ne-eqb (L .layout .bw) (N .layout .bw) n)
 
-  pub unlike-high : L .bw ≡ N .bw → (L .bh ≡ N .bh → ⊥) → false ≡ alike L N
+  module _ (e : L .layout .bw ≡ N .layout .bw) where
+    pub unlike-bh : (L .layout .bh ≡ N .layout .bh → ⊥) → false ≡ alike L N
+    unfolding alike
+    unlike-bh n = rw (eq-eqb (L .layout .bw) (N .layout .bw) e, ne-eqb (L .layout .bh) (N .layout .bh) n)
+
+    module _ (f : L .layout .bh ≡ N .layout .bh) where
+      pub unlike-kinds : same (L .layout .kinds) (N .layout .kinds) ≡ false → false ≡ alike L N
+      unfolding alike
+      unlike-kinds k = rw (eq-eqb (L .layout .bw) (N .layout .bw) e, eq-eqb (L .layout .bh) (N .layout .bh) f, k)
+
+      module _ (k : same (L .layout .kinds) (N .layout .kinds) ≡ true) where
+        pub unlike-hf-mul : same (L .layout .hfMul) (N .layout .hfMul) ≡ false → false ≡ alike L N
+        unfolding alike
+        unlike-hf-mul m = rw (eq-eqb (L .layout .bw) (N .layout .bw) e, eq-eqb (L .layout .bh) (N .layout .bh) f, k, m)
+
+        pub alike-sigma : same (L .layout .hfMul) (N .layout .hfMul) ≡ true → same (L .sigma) (N .sigma) ≡ alike L N
+        unfolding alike
+        alike-sigma m = rw (eq-eqb (L .layout .bw) (N .layout .bw) e, eq-eqb (L .layout .bh) (N .layout .bh) f, k, m)
+
+  -- it is the test of equality
+  pub alike-equal : (alike L N ≡ true) ↔ (L ≡ N)
   unfolding alike
-  unlike-high e n = rw (eq-eqb (L .bw) (N .bw) e, ne-eqb (L .bh) (N .bh) n)
+  alike-equal = (there, back)
+    where
+      there : alike L N ≡ true → L ≡ N
+      there e =
+          let p = and-true (eqb (L .layout .bw) (N .layout .bw)) _ e in
+          let q = and-true (eqb (L .layout .bh) (N .layout .bh)) _ (p .1) in
+          let r = and-true (same (L .layout .kinds) (N .layout .kinds)) _ (q .1) in
+          let s = and-true (same (L .layout .hfMul) (N .layout .hfMul)) (same (L .sigma) (N .sigma)) (r .1) in
+          rw (
+            eqb-true (L .layout .bw) (N .layout .bw) (p .0),
+            eqb-true (L .layout .bh) (N .layout .bh) (q .0),
+            same-iff (L .layout .kinds) (N .layout .kinds) .0 (r .0),
+            same-iff (L .layout .hfMul) (N .layout .hfMul) .0 (s .0),
+            same-iff (L .sigma) (N .sigma) .0 (s .1),
+          )
 
-  pub alike-cells : L .bw ≡ N .bw → L .bh ≡ N .bh → filled L ≡ true → alikeFrom (L .kinds) (L .hfMul) (N .kinds) (N .hfMul) (length (L .kinds)) 0 ≡ alike L N
-  unfolding alike
-  alike-cells e f l = rw (eq-eqb (L .bw) (N .bw) e, eq-eqb (L .bh) (N .bh) f, lengths-fit (L .bw) (L .bh) (length (L .kinds)) (length (L .hfMul)) l .0)
-
-  -- as many cells in each list
-  pub same-lengths : filled L ≡ true → filled N ≡ true → L .bw ≡ N .bw → L .bh ≡ N .bh
-      → (length (L .hfMul) ≡ length (L .kinds)) × (length (N .kinds) ≡ length (L .kinds)) × (length (N .hfMul) ≡ length (L .kinds))
-  same-lengths l n e f =
-      let p = lengths-fit (L .bw) (L .bh) (length (L .kinds)) (length (L .hfMul)) l in
-      let q = lengths-fit (N .bw) (N .bh) (length (N .kinds)) (length (N .hfMul)) n in
-      let m : N .bh * N .bw ≡ L .bh * L .bw = rw (e, f) in
-      (omega arith, omega arith, omega arith)
+      back : L ≡ N → alike L N ≡ true
+      back e = rw (
+        e,
+        eq-eqb (N .layout .bw) (N .layout .bw) refl,
+        eq-eqb (N .layout .bh) (N .layout .bh) refl,
+        same-iff (N .layout .kinds) (N .layout .kinds) .1 refl,
+        same-iff (N .layout .hfMul) (N .layout .hfMul) .1 refl,
+        same-iff (N .sigma) (N .sigma) .1 refl,
+      )

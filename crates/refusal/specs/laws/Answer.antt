@@ -1,5 +1,5 @@
 -- Laws on answers and on chains of checks.
-use mathlib.Core.Path.{_≡_, refl}
+use mathlib.Core.Path.{_≡_, refl, ap, sym}
 use mathlib.Core.Bool.{Bool, true, false}
 use Prim.Native.Nat.{ℕ}
 use native.Mathlib.Omega.{arith}
@@ -18,6 +18,16 @@ checked (Refused r) = refuses (said r)
 pub pass : {A : Type 0} (n : ℕ) (b : Bool) (next : Answer A) (a : A) → unless n b next ≡ gives a → (b ≡ true) × (next ≡ gives a)
 pass n true next a e = (refl, e)
 pass n false next a e = absurd (let z : _≡_ {A = ℕ} 0 1 = cc in omega arith)
+
+-- a refusal's number, 0 for a result
+abbrev pub refusedWith : {A : Type 0} → Answer A → ℕ
+refusedWith (gives a) = 0
+refusedWith (refuses s) = s .number
+
+-- a refusal with another number comes after a test that passed
+pub refused-later : {A : Type 0} (n : ℕ) (b : Bool) (next : Answer A) (s : Said) → (s .number ≡ n → ⊥) → unless n b next ≡ refuses s → (b ≡ true) × (next ≡ refuses s)
+refused-later n true next s other e = (refl, e)
+refused-later n false next s other e = absurd (other (sym (ap refusedWith e)))
 
 -- what is made of an answer's ends is made of the answer
 pub answered-by : {A O P : Type 0} (f : O → P) (a : Answer A) (refuse : Said → O) (work : A → O)

@@ -1,4 +1,4 @@
-use calls::{AlikeCall, CutCall, Layout};
+use calls::{AlikeCall, CutCall, FilteredLayout, Layout};
 use compare::cases::fill;
 use compare::rng::Rng;
 
@@ -62,13 +62,22 @@ fn cut(name: &str, layout: impl FnOnce() -> Layout + 'static) -> Bench {
     })
 }
 
+/// Filter strengths are all different, so that no two rows of blocks are the same.
+fn filtered(layout: Layout) -> FilteredLayout {
+    let sigma = (0..layout.blocks())
+        .map(|block| 0.5 + block as f32)
+        .collect();
+    FilteredLayout { layout, sigma }
+}
+
 fn likeness(name: &str, layout: impl FnOnce() -> Layout + 'static) -> Bench {
     Bench::new(name, move || {
-        let left = layout();
+        let left = filtered(layout());
         let right = left.clone();
         let call = AlikeCall { left, right };
+        assert_eq!(ours::alike(&call).answer, Ok(true), "all is looked at");
         Sides {
-            units: (call.left.blocks(), "block"),
+            units: (call.left.layout.blocks(), "block"),
             ours: Some(plain(move || ours::alike(&call).answer)),
             rust: None,
         }

@@ -62,10 +62,13 @@ pub fn cut(body: &mut Body, call: &CutCall, outcome: &Outcome<(usize, usize), Gr
 }
 
 pub fn alike(body: &mut Body, call: &AlikeCall, outcome: &Outcome<bool, ()>) {
-    body.sizes([call.left.bw, call.left.bh]);
-    body.sizes([call.right.bw, call.right.bh]);
-    layout_lists(body, &call.left);
-    layout_lists(body, &call.right);
+    for lent in [&call.left, &call.right] {
+        body.sizes([lent.layout.bw, lent.layout.bh]);
+    }
+    for lent in [&call.left, &call.right] {
+        layout_lists(body, &lent.layout);
+        body.list(&lent.sigma);
+    }
     body.answer(&outcome.answer);
     body.number(u32::from(outcome.answer == Ok(true)));
 }

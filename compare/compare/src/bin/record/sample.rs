@@ -41,8 +41,9 @@ pub fn file() -> Vec<u8> {
     file.sample(3, &LayoutCase, encode::layout, layouts, plain_layout);
     let groups = Quota::new(10_000, &[1, 2, 18]).of(20, 10, 250);
     file.sample(4, &CutCase, encode::cut, groups, plain_cut);
-    file.sample(5, &AlikeCase, encode::alike, groups, |call| {
-        sides_recorded(&call.left) && sides_recorded(&call.right)
+    let pairs = Quota::new(10_000, &[1, 2, 11, 18]).of(60, 10, 120);
+    file.sample(5, &AlikeCase, encode::alike, pairs, |call| {
+        sides_recorded(&call.left.layout) && sides_recorded(&call.right.layout)
     });
     let contexts = Quota::new(10_000, &[1, 3, 12]).of(40, 10, 250);
     file.sample(6, &ContextsCase, encode::contexts, contexts, |_| true);

@@ -1,0 +1,4 @@
+-- lists as they are lent: the same, and finite
+pub mod Same
+pub mod Finite
+pub mod laws

@@ -1,0 +1,25 @@
+/* Layouts that are lent, to the cut and to the likeness test. */
+#ifndef LENT_LAYOUT_H
+#define LENT_LAYOUT_H
+
+#include "host.h"
+
+/* A layout that is lent: the sides that are said, and lists that mostly have their lengths. */
+struct lent_layout {
+    struct sides sides;
+    uint8_t *kinds;
+    int32_t *hf_mul;
+    size_t kinds_length, hf_mul_length;
+};
+
+/* Sides of a layout, mostly small. */
+struct sides take_sides(struct input *in);
+
+/* Lends a grid as a layout; once in 16 times it is said to have a side outside the limits. */
+struct lent_layout lend_layout(struct input *in, const struct grid *grid);
+
+/* What 2 and 1 ask of kinds and hf_mul. */
+bool sides_in_limits(struct sides sides);
+bool lengths_fit(const struct lent_layout *layout);
+
+#endif
