@@ -58,7 +58,7 @@ static void fill_filtered(struct input *in, struct filtered_grid *filled, struct
         filled->sigma[cell] = spread_finite(in);
 }
 
-/* The first corner from a cell on, or of one block alone; where there is none, the cell itself. */
+/* The first corner from a cell on, of one block if asked; where there is none, the cell itself. */
 static size_t corner_from(const struct grid *grid, size_t cell, bool of_one_block)
 {
     size_t cells = grid->sides.wide * grid->sides.high;

@@ -18,7 +18,7 @@ struct sides take_sides(struct input *in);
 /* Lends a grid as a layout; once in 16 times it is said to have a side outside the limits. */
 struct lent_layout lend_layout(struct input *in, const struct grid *grid);
 
-/* What 2 and 1 ask of kinds and hf_mul. */
+/* What 2 asks of the sides, and 1 of the lengths of kinds and hf_mul. */
 bool sides_in_limits(struct sides sides);
 bool lengths_fit(const struct lent_layout *layout);
 

@@ -44,7 +44,7 @@ enum plant {
     OTHER_DEFAULT,
     /* Likeness: what is compared, and which numbers are looked at. */
     ZEROS_ALIKE,
-    TRANSFORMS_ALIKE,
+    TRANSFORMS_NOT_SEEN,
     SECOND_NOT_SEEN,
     SURPLUS_NOT_SEEN,
     LARGE_AS_11,
@@ -162,7 +162,7 @@ enum { CELLS_MOST = 1 << 18 };
 /* Kinds without their transforms of one block: Dct8 stands for all of these. */
 static const uint8_t *one_for_all(const uint8_t *kinds, size_t length, uint8_t kept[CELLS_MOST])
 {
-    if (planted() != TRANSFORMS_ALIKE || length > CELLS_MOST)
+    if (planted() != TRANSFORMS_NOT_SEEN || length > CELLS_MOST)
         return kinds;
     for (size_t k = 0; k < length; k++) {
         bool one_block = (kinds[k] >= 2 && kinds[k] <= 5) || (kinds[k] >= 14 && kinds[k] <= 19);

@@ -426,8 +426,8 @@ uint32_t netbuff_cut(size_t bw, size_t bh, const uint8_t *kinds, size_t kinds_le
  *
  * Lengths that fit: bw * bh of each layout for its kinds, hf_mul and sigma. Refused: 2, 11 (sigma
  * holds a NaN or an infinity; every number that is lent is looked at, those beyond bw * bh too), 1,
- * 18, each tried over both layouts before the next. A layout that netbuff_layout accepted, with its
- * sigma, is never refused, and it is like itself.
+ * 18, each tried over both layouts before the next. Two layouts that netbuff_layout accepted, each
+ * with its sigma, are never refused, and each is like itself.
  */
 uint32_t netbuff_alike(size_t bw, size_t bh, const uint8_t *kinds, size_t kinds_length,
                        const int32_t *hf_mul, size_t hf_mul_length, const float *sigma,

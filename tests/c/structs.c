@@ -284,7 +284,7 @@ static void try_cut(void)
     hold_lent(CUT);
 }
 
-/* Blocks with finite filter strengths, some with one that is none. */
+/* Blocks with finite filter strengths, some with one that is not finite. */
 static struct netbuff_layout_output any_filtered(uint8_t *kinds, int32_t *hf_mul, float *sigma)
 {
     static const float not_finite[3] = {INFINITY, -INFINITY, NAN};

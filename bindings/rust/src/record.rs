@@ -302,8 +302,8 @@ impl FilteredLayout<'_> {
 
 /// Whether two layouts have the same varblocks (the same corners, and at each the same transform
 /// number and hf_mul) and the same filter strengths to the bit. Layouts of different sides are not
-/// alike, and +0.0 is not like −0.0. What the layout call accepted is never refused, and it is like
-/// itself.
+/// alike, and +0.0 is not like −0.0. Two layouts that the layout call accepted are never refused, and
+/// each is like itself.
 ///
 /// # Errors
 ///

@@ -276,7 +276,7 @@ fn alike_try(left: FilteredLayout, right: FilteredLayout) -> Result<bool> {
     answer
 }
 
-const EVEN: FilteredLayout = FilteredLayout {
+const SOUND: FilteredLayout = FilteredLayout {
     layout: WIDE,
     sigma: &[0.5, 0.0],
 };
@@ -314,7 +314,7 @@ fn likeness_refuses_sides_then_strengths_then_lengths_then_what_is_no_layout() {
         (of(WIDE, &[0.5]), Refusal::Length),
         (of(WIDE, &[]), Refusal::Length),
     ] {
-        assert_eq!(alike_try(EVEN, wrong), Err(refusal), "{wrong:?}");
+        assert_eq!(alike_try(SOUND, wrong), Err(refusal), "{wrong:?}");
     }
     for (kinds, hf_mul) in NO_LAYOUTS {
         let sides = TWO;
@@ -323,23 +323,23 @@ fn likeness_refuses_sides_then_strengths_then_lengths_then_what_is_no_layout() {
             kinds,
             hf_mul,
         };
-        let refused = alike_try(EVEN, of(wrong, &[0.5, 0.0]));
+        let refused = alike_try(SOUND, of(wrong, &[0.5, 0.0]));
         assert_eq!(refused, Err(Refusal::Layout));
     }
 }
 
 #[test]
 fn likeness_tries_each_refusal_over_both_layouts_before_the_next() {
-    let endless = of(WIDE, &[f32::NAN, 0.0]);
+    let not_finite = of(WIDE, &[f32::NAN, 0.0]);
     let (large, short, free) = (
-        of(sided(257), EVEN.sigma),
-        of(SHORT, EVEN.sigma),
-        of(FREE, EVEN.sigma),
+        of(sided(257), SOUND.sigma),
+        of(SHORT, SOUND.sigma),
+        of(FREE, SOUND.sigma),
     );
-    assert_eq!(alike_try(endless, large), Err(Refusal::Size));
+    assert_eq!(alike_try(not_finite, large), Err(Refusal::Size));
     assert_eq!(alike_try(short, large), Err(Refusal::Size));
-    assert_eq!(alike_try(short, endless), Err(Refusal::Parameter));
-    assert_eq!(alike_try(free, endless), Err(Refusal::Parameter));
+    assert_eq!(alike_try(short, not_finite), Err(Refusal::Parameter));
+    assert_eq!(alike_try(free, not_finite), Err(Refusal::Parameter));
     assert_eq!(alike_try(free, short), Err(Refusal::Length));
 }
 
@@ -380,14 +380,14 @@ fn likeness_tells_varblocks_and_bits_of_strengths_apart() {
     };
     let first = of(one(&[2], &[7]), &[0.0]);
     assert_eq!(alike_try(first, first), Ok(true));
-    assert_eq!(alike_try(EVEN, EVEN), Ok(true));
+    assert_eq!(alike_try(SOUND, SOUND), Ok(true));
     let least = [f32::from_bits(1)];
     for other in [
         of(one(&[3], &[7]), &[0.0]),
         of(one(&[2], &[8]), &[0.0]),
         of(one(&[2], &[7]), &[-0.0]),
         of(one(&[2], &[7]), &least),
-        EVEN,
+        SOUND,
     ] {
         assert_eq!(alike_try(first, other), Ok(false), "{other:?}");
     }
@@ -396,7 +396,7 @@ fn likeness_tells_varblocks_and_bits_of_strengths_apart() {
         hf_mul: &[1, 1],
         ..WIDE
     };
-    assert_eq!(alike_try(EVEN, of(two, EVEN.sigma)), Ok(false));
+    assert_eq!(alike_try(SOUND, of(two, SOUND.sigma)), Ok(false));
 }
 
 #[test]

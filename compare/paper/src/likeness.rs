@@ -45,6 +45,7 @@ mod tests {
     use calls::Refusal;
 
     use super::*;
+    use crate::record::rectangles;
 
     const DCT8: u8 = 2;
     const HORNUSS: u8 = 3;
@@ -81,9 +82,11 @@ mod tests {
         answer
     }
 
+    /// Before No. 12 their rectangles alone were compared.
     #[test]
-    fn hornuss_is_not_like_dct8() {
+    fn hornuss_is_not_like_dct8_though_it_has_the_same_rectangle() {
         let (dct8, hornuss) = (row(&[DCT8], &[0.0]), row(&[HORNUSS], &[0.0]));
+        assert_eq!(rectangles(&dct8.layout), rectangles(&hornuss.layout));
         assert_eq!(answer(&dct8, &hornuss), Ok(false));
         assert_eq!(answer(&dct8, &dct8), Ok(true));
         assert_eq!(answer(&hornuss, &hornuss), Ok(true));

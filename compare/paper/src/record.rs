@@ -55,7 +55,7 @@ pub fn kind_sides(kind: u8) -> Option<(usize, usize)> {
 /// The rectangles of a layout: x, y, width, height and hf_mul of each corner, row by row.
 type Rectangles = Vec<(usize, usize, usize, usize, i32)>;
 
-fn rectangles(layout: &Layout) -> Rectangles {
+pub(crate) fn rectangles(layout: &Layout) -> Rectangles {
     let bw = layout.bw;
     let corners = layout.kinds.iter().zip(&layout.hf_mul).enumerate();
     corners

@@ -5,7 +5,6 @@ use Prim.Native.Nat.{ℕ, _+_, _*_}
 use lib.Ieee.{Float}
 use Rattle.layout.specs.Grid.{blockAt}
 use Rattle.layout.specs.Varblocks.{Varblock, varblocksOf}
-use Rattle.lent_likeness.specs.Like.{FilteredLayout, filtered}
 use Rattle.layout_sizes.specs.Blocks.{bwIn, bhIn}
 use Rattle.layout_filter.specs.Strength.{sigmaOf}
 use Rattle.layout_call.specs.Call.{Inputs, inputs, layoutOf}
@@ -32,7 +31,3 @@ module _ (i : Inputs) (kinds hfMul sigma : List ℕ) where
   -- +0.0 with the filter off
   abbrev pub strengthAt : ℕ → ℕ → ℕ → ℕ → Float
   strengthAt cx cy x y = sigmaOf (i .filter) (i .scale) (blockAt (layoutOf i kinds hfMul sigma .hfMul) (bwOf i) cx cy) (i .lookups) (blockAt (i .sharpness) (bwOf i) x y)
-
-  -- the layout that is left, with its filter strengths
-  abbrev pub layoutLeft : FilteredLayout
-  layoutLeft = filtered (bwOf i) (bhOf i) (layoutOf i kinds hfMul sigma .kinds) (layoutOf i kinds hfMul sigma .hfMul) (layoutOf i kinds hfMul sigma .sigma)

@@ -10,4 +10,3 @@ pub mod Sigma
 pub mod Unread
 pub mod Columns
 pub mod Types
-pub mod Likeness

@@ -31,7 +31,7 @@ allLengthsFit L =
 abbrev pub holdsLayout : FilteredLayout → Bool
 holdsLayout L = isLayout (L .layout .bw) (L .layout .bh) (L .layout .kinds) (L .layout .hfMul)
 
--- the same sides and the same lists: for what 18 lets pass, the same varblocks and sigma bits (Theorems: like-yes, like-no)
+-- the same sides and the same lists: of two that no check refuses, the same varblocks and sigma bits (Theorems: like-yes, like-no)
 unfoldable pub alike : FilteredLayout → FilteredLayout → Bool
 alike L N =
     eqb (L .layout .bw) (N .layout .bw)

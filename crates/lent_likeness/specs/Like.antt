@@ -15,7 +15,7 @@ pub record FilteredLayout : Type 0 where
 abbrev pub filtered : ℕ → ℕ → List ℕ → List ℕ → List ℕ → FilteredLayout
 filtered bw bh kinds hfMul sigma = record { layout = lentLayout bw bh kinds hfMul; sigma = sigma }
 
--- What document 01 asks for: a rectangle w x h with its corner at (x, y) and hf_mul m, whatever its transform number.
+-- What document 01 asked for, before No. 12: a rectangle w x h with its corner at (x, y) and hf_mul m, whatever its transform number.
 pub record HasRectangle (L : LentLayout) (x y w h m : ℕ) : Type 0 where
   pub inX : x < L .bw
   pub inY : y < L .bh

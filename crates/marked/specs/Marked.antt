@@ -13,8 +13,7 @@ use Rattle.order_natural.specs.Natural.{natural}
 use Rattle.layout.specs.Varblocks.{varblock, varblocksOf, area}
 use Rattle.lent_likeness.specs.Like.{SameRectangles}
 use Rattle.lent_likeness.specs.Calls.{likeOf}
-use Rattle.lent_likeness.specs.Examples as likeness
-use Rattle.lent_likeness.specs.Examples.{hornuss}
+use Rattle.lent_likeness.specs.Examples.{oneDct8, oneHornuss}
 use Rattle.layout_filter.specs.declared.Filter.the-variants.{On}
 use Rattle.layout_filter.specs.Strength.{nearest}
 use Rattle.refusal.specs.Answer as answer
@@ -107,7 +106,7 @@ M11 = (map log g0 g1 g2 : List ℕ) → Room 1 1 map log g0 g1 g2
 
 -- M12, of document 02, No. 12: Hornuss and Dct8, one block each, are not alike now, though they have the same rectangles and so were alike before
 abbrev pub M12 : Type 0
-M12 = (likeOf hornuss likeness.dct8 ≡ gives false) × SameRectangles (hornuss .layout) (likeness.dct8 .layout)
+M12 = (likeOf oneHornuss oneDct8 ≡ gives false) × SameRectangles (oneHornuss .layout) (oneDct8 .layout)
 
 -- number and statement of a marked example
 pub record Row : Type 1 where

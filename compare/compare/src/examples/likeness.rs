@@ -10,7 +10,7 @@ pub fn said(calls: &Calls) -> Vec<Said> {
     let dct8 = |sigma: &[f32]| blocks(1, DCT8, sigma);
     let examples = [
         (
-            "02, No. 12: Hornuss and Dct8",
+            "M12 (02, No. 12): Hornuss and Dct8",
             [blocks(1, HORNUSS, &[0.0]), dct8(&[0.0])],
             "no",
         ),

@@ -1,9 +1,9 @@
 use mathlib.Core.Path.{_≡_, _∙_, sym}
-use mathlib.Core.Bool.{Bool, true, false, _&&_}
+use mathlib.Core.Bool.{true, _&&_}
 use borrow.Author.Tests.{not-true, not-false}
 use Rattle.refusal.specs.Answer.{gives}
 use Rattle.lent_likeness.specs.Like.{FilteredLayout, filtered}
-use Rattle.lent_likeness.specs.Calls.{sided, strengthsFinite, allLengthsFit, holdsLayout, alike, likeOf}
+use Rattle.lent_likeness.specs.Calls.{sided, strengthsFinite, allLengthsFit, holdsLayout, likeOf}
 use Rattle.lent_likeness.specs.laws.LikeSteps.{like-size, like-float, like-length, like-fault, like-says, both-lent}
 use borrow.Author.Needs.{needs}
 use Rattle.lent_likeness.proofs.alike.Statement.{statement}

@@ -1,23 +1,23 @@
--- Layouts with the same varblocks have the same rectangles, and are the same as they are lent.
+-- Layouts with the same varblocks have the same rectangles, and where they have a block at all, they are lent as the same.
 use mathlib.Core.Path.{_≡_, refl, ap, sym, _∙_}
 use mathlib.Core.Logic.{_⊎_, inl, inr}
 use Prim.Native.Nat.{ℕ, _+_, _*_, _-_, _≤_, _<_}
 use native.Mathlib.Omega.{arith}
-use lib.ListN.{length, getD}
+use lib.ListN.{getD}
 use lib.Seq.{ext-getD}
 use Rattle.laws.specs.laws.Cases.{le-or-lt}
 use Rattle.layout.specs.Kinds.{wideOf, highOf}
 use Rattle.layout.specs.laws.Grid.{cell-at}
 use Rattle.layout.specs.Valid.{Layout}
-use Rattle.layout.specs.Varblocks.{Varblock, varblock}
-use Rattle.layout.specs.Lent.{LentLayout, lentLayout, kindAt, hfMulAt, HasVarblock}
+use Rattle.layout.specs.Varblocks.{varblock}
+use Rattle.layout.specs.Lent.{LentLayout, kindAt, hfMulAt, HasVarblock}
 use Rattle.lent_likeness.specs.Like.{SameVarblocks, HasRectangle, SameRectangles}
 
 -- what 18 lets pass
-abbrev pub LaidOut : LentLayout → Type 0
+abbrev LaidOut : LentLayout → Type 0
 LaidOut L = Layout (L .bw) (L .bh) (L .kinds) (L .hfMul)
 
-pub varblocks-turned : (L N : LentLayout) → SameVarblocks L N → SameVarblocks N L
+varblocks-turned : (L N : LentLayout) → SameVarblocks L N → SameVarblocks N L
 unfolding SameVarblocks
 varblocks-turned L N s v = (s v .1, s v .0)
 
@@ -27,7 +27,7 @@ module _ (L N : LentLayout) (same : SameVarblocks L N) (x y : ℕ) (inX : x < L 
   unfolding SameVarblocks
   there = same (varblock x y (kindAt L x y - 2) (hfMulAt L x y)) .0 (record { inX = inX; inY = inY; isType = omega arith; isHfMul = refl })
 
-  pub same-corner : (x < N .bw) × (y < N .bh) × (kindAt N x y ≡ kindAt L x y) × (hfMulAt N x y ≡ hfMulAt L x y)
+  same-corner : (x < N .bw) × (y < N .bh) × (kindAt N x y ≡ kindAt L x y) × (hfMulAt N x y ≡ hfMulAt L x y)
   same-corner = let t : kindAt N x y ≡ 2 + (kindAt L x y - 2) = there .isType in (there .inX, there .inY, omega arith, there .isHfMul)
 
 one-way : (L N : LentLayout) → SameVarblocks L N → (x y w h m : ℕ) → HasRectangle L x y w h m → HasRectangle N x y w h m
@@ -57,7 +57,7 @@ module _ (L N : LentLayout) (here : LaidOut L) (there : LaidOut N) (same : SameR
       let p = f .inX in let q = f .inY in
       (omega arith, omega arith)
 
-  pub not-wider : 1 ≤ L .bw → 1 ≤ L .bh → (L .bw ≤ N .bw) × (L .bh ≤ N .bh)
+  not-wider : 1 ≤ L .bw → 1 ≤ L .bh → (L .bw ≤ N .bw) × (L .bh ≤ N .bh)
   not-wider i j = let p = inside (L .bw - 1) (L .bh - 1) (omega arith) (omega arith) in (omega arith, omega arith)
 
 -- Two layouts of the same sides: cell for cell.
@@ -83,7 +83,7 @@ module _ (L N : LentLayout) (here : LaidOut L) (there : LaidOut N) (same : SameV
   long : N .bh * N .bw ≡ L .bh * L .bw
   long = rw (wide, high)
 
-  pub same-lists : (L .kinds ≡ N .kinds) × (L .hfMul ≡ N .hfMul)
+  same-lists : (L .kinds ≡ N .kinds) × (L .hfMul ≡ N .hfMul)
   same-lists = (
     ext-getD 0 (L .kinds) (N .kinds) (here .kindsLength ∙ sym long ∙ sym (there .kindsLength)) (λ i h. cells-at i (let z = here .kindsLength in omega arith) .0),
     ext-getD 0 (L .hfMul) (N .hfMul) (here .hfMulLength ∙ sym long ∙ sym (there .hfMulLength)) (λ i h. cells-at i (let z = here .hfMulLength in omega arith) .1),

@@ -2,14 +2,13 @@
 use mathlib.Core.Path.{_≡_, refl, ap, sym, _∙_}
 use mathlib.Core.Bool.{Bool, true, false, _&&_, and-comm, false≢true}
 use mathlib.Core.Logic.{_↔_, _⊎_, inl, inr}
-use Prim.Native.Nat.{ℕ, _*_, _<_}
+use Prim.Native.Nat.{ℕ, _*_}
 use native.Mathlib.Omega.{arith}
-use lib.Dec.{T, eqb}
-use lib.ListN.{length, getD}
+use lib.ListN.{length}
 use lib.Ieee.Bits.{is-true}
 use borrow.Author.Tests.{eqb-true, eq-eqb}
 use Rattle.laws.specs.laws.Cases.{and-true}
-use Rattle.laws.specs.laws.Tables.{at-each, each-every}
+use Rattle.laws.specs.laws.Tables.{at-each, each-every, some-fails}
 use Rattle.refusal.specs.Said.{saidAt}
 use Rattle.refusal.specs.Answer.{gives, refuses, unless}
 use Rattle.refusal.specs.laws.Answer.{pass, refusedWith, refused-later}
@@ -17,7 +16,6 @@ use Rattle.layout.specs.laws.Theorems.{layout-iff}
 use Rattle.lent_sides.specs.Limits.{Sided, lengthsFit}
 use Rattle.lent_sides.specs.laws.Limits.{in-limits, lengths-fit, fit-lengths, limits-in}
 use Rattle.lent_lists.specs.Finite.{finitePattern, allFinite}
-use Rattle.lent_lists.specs.laws.Finite.{some-not-finite}
 use Rattle.lent_likeness.specs.Like.{FilteredLayout, SameVarblocks, Alike, SameRectangles}
 use Rattle.lent_likeness.specs.Calls.{sided, strengthsFinite, allLengthsFit, holdsLayout, alike, likeOf}
 use Rattle.lent_likeness.specs.Theorems.{Sound, NotFinite}
@@ -53,6 +51,17 @@ module _ (L : FilteredLayout) where
 
     sound-layout : holdsLayout L ≡ true
     sound-layout = layout-iff (L .layout .bw) (L .layout .bh) (L .layout .kinds) (L .layout .hfMul) (s .layout .kindsLength) (s .layout .hfMulLength) .1 (s .layout)
+
+  -- not all finite: one of them is not
+  one-not-finite : strengthsFinite L ≡ false → NotFinite L
+  one-not-finite e = let s = some-fails finitePattern (L .sigma) 0 e in record { place = s .0; lent = s .1; notFinite = s .2 }
+
+  not-finite : NotFinite L → strengthsFinite L ≡ false
+  not-finite n = go (strengthsFinite L) refl
+    where
+      go : (b : Bool) → strengthsFinite L ≡ b → b ≡ false
+      go true e = absurd (let t = at-each finitePattern (L .sigma) (rw e tt) 0 (n .place) (n .lent) in rw (n .notFinite) at t)
+      go false e = refl
 
 module _ (L N : FilteredLayout) where
   tests : (r : Bool) → likeOf L N ≡ gives r → Sound L × Sound N × (alike L N ≡ r)
@@ -138,22 +147,12 @@ module _ (L N : FilteredLayout) where
 
 -- 11 exactly if the sides are within the limits and one of the sigma that either is lent is not finite
 module _ (L N : FilteredLayout) where
-  not-finite : (O : FilteredLayout) → NotFinite O → strengthsFinite O ≡ false
-  not-finite O n = go (strengthsFinite O) refl
-    where
-      go : (b : Bool) → strengthsFinite O ≡ b → b ≡ false
-      go true e = absurd (let t = at-each finitePattern (O .sigma) (rw e tt) 0 (n .place) (n .lent) in rw (n .notFinite) at t)
-      go false e = refl
-
   which : strengthsFinite L && strengthsFinite N ≡ false → NotFinite L ⊎ NotFinite N
   which e = go (strengthsFinite L) refl e
     where
-      some : (O : FilteredLayout) → strengthsFinite O ≡ false → NotFinite O
-      some O f = let s = some-not-finite (O .sigma) f in record { place = s .0; lent = s .1; notFinite = s .2 }
-
       go : (b : Bool) → strengthsFinite L ≡ b → b && strengthsFinite N ≡ false → NotFinite L ⊎ NotFinite N
-      go true a f = inr (some N f)
-      go false a f = inl (some L a)
+      go true a f = inr (one-not-finite N f)
+      go false a f = inl (one-not-finite L a)
 
   both-not : NotFinite L ⊎ NotFinite N → strengthsFinite L && strengthsFinite N ≡ false
   both-not (inl n) = rw (not-finite L n)

@@ -1,18 +1,17 @@
 -- A pattern is finite if without its sign it is below that of infinity; and the loop over many.
 use mathlib.Core.Path.{_≡_, refl, ap, sym, _∙_}
-use mathlib.Core.Bool.{Bool, true, false, not, _&&_, and-assoc, and-true as true-last, cond, false≢true}
+use mathlib.Core.Bool.{Bool, true, false, not, _&&_, and-assoc, and-true as true-last, cond}
 use mathlib.Core.Logic.{_⊎_, inl, inr}
-use mathlib.Core.List.{List, [], _∷_}
-use Prim.Native.Nat.{ℕ, zero, suc, _+_, _*_, _/_, _%_, _^_, _≤_, _<_}
-use native.Mathlib.Numerals.{add-one}
+use mathlib.Core.List.{List}
+use Prim.Native.Nat.{ℕ, zero, suc, _+_, _/_, _%_, _^_, _≤_, _<_}
 use native.Mathlib.Omega.{arith}
 use lib.Dec.{leb, ltb, eqb}
-use lib.ListN.{length, getD, drop, drop-of-length-le}
-use lib.Seq.{drop-cons}
+use lib.ListN.{length, getD, drop}
 use lib.Ieee.{binary32, ofFields, ofBits, odd}
 use lib.Ieee.Scale.{finite}
 use borrow.Author.Tests.{lt-ltb, le-ltb, eq-eqb, ne-eqb}
 use Rattle.laws.specs.laws.Cases.{le-or-lt}
+use Rattle.laws.specs.laws.Tables.{every-step, every-done}
 use Rattle.lent_lists.specs.Finite.{finitePattern, allFinite}
 
 odd-finite : (d : ℕ) (s : Bool) (q k l : ℕ) → finite (odd d s q k l) ≡ true
@@ -42,16 +41,6 @@ finite-below s = go (le-or-lt 2139095040 (s % 2147483648)) ∙ sym (fields-finit
     go (inl h) = rw (le-ltb (s % 2147483648) 2139095040 h, eq-eqb (s % 2147483648 / 8388608) 255 (omega arith))
     go (inr h) = rw (lt-ltb (s % 2147483648) 2139095040 h, ne-eqb (s % 2147483648 / 8388608) 255 (λ e. omega arith))
 
--- where not all are finite one is not
-pub some-not-finite : (xs : List ℕ) → allFinite xs ≡ false → (k : ℕ) × (k < length xs) × (finitePattern (getD xs k 0) ≡ false)
-some-not-finite [] e = absurd (false≢true (sym e))
-some-not-finite (x ∷ xs) e = go (finitePattern x) refl (λ f. some-not-finite xs f)
-  where
-    go : (b : Bool) → finitePattern x ≡ b → (allFinite xs ≡ false → (k : ℕ) × (k < length xs) × (finitePattern (getD xs k 0) ≡ false))
-        → (k : ℕ) × (k < length (x ∷ xs)) × (finitePattern (getD (x ∷ xs) k 0) ≡ false)
-    go false f rest = (0, omega arith, f)
-    go true f rest = let r = rest (rw f at e) in (suc (r .0), omega (arith, r .1), r .2)
-
 -- the loop: k patterns are finite, or not, and what follows decides with them
 module _ (xs : List ℕ) where
   abbrev pub SoFar : Bool → ℕ → Type 0
@@ -59,10 +48,8 @@ module _ (xs : List ℕ) where
 
   pub so-far-next : (so r : Bool) (k : ℕ) → k < length xs → r ≡ so && finitePattern (getD xs k 0) → SoFar so k → SoFar r (k + 1)
   so-far-next so r k h e s =
-      let n : allFinite (drop k xs) ≡ finitePattern (getD xs k 0) && allFinite (drop (k + 1) xs) = rw (drop-cons xs k 0 h, add-one k) in
+      let n = every-step finitePattern xs 0 k h in
       (omega arith, ap (λ (t : Bool). t && allFinite (drop (k + 1) xs)) e ∙ and-assoc so (finitePattern (getD xs k 0)) _ ∙ ap (λ (t : Bool). so && t) (sym n) ∙ s .1)
 
   pub so-far-end : (so : Bool) (k : ℕ) → length xs ≤ k → SoFar so k → so ≡ allFinite xs
-  so-far-end so k h s =
-      let n : allFinite (drop k xs) ≡ true = rw (drop-of-length-le xs {i = k} h) in
-      sym (true-last so) ∙ ap (λ (t : Bool). so && t) (sym n) ∙ s .1
+  so-far-end so k h s = sym (true-last so) ∙ ap (λ (t : Bool). so && t) (sym (every-done finitePattern xs k h)) ∙ s .1

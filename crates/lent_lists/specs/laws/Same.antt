@@ -28,15 +28,6 @@ same-itself (x ∷ l) = rw (eq-eqb x x refl) (same-itself l)
 pub same-iff : (a b : List ℕ) → (same a b ≡ true) ↔ (a ≡ b)
 same-iff a b = (same-equal a b, λ e. rw e (same-itself b))
 
-pub same-turned : (a b : List ℕ) → same a b ≡ same b a
-same-turned a b = both (same a b) (same b a) refl refl
-  where
-    both : (p q : Bool) → same a b ≡ p → same b a ≡ q → p ≡ q
-    both true true e f = refl
-    both false false e f = refl
-    both true false e f = absurd (false≢true (sym f ∙ same-iff b a .1 (sym (same-equal a b e))))
-    both false true e f = absurd (false≢true (sym e ∙ same-iff a b .1 (sym (same-equal b a f))))
-
 pub other-length : (a b : List ℕ) → (length a ≡ length b → ⊥) → same a b ≡ false
 other-length a b n = go (same a b) refl
   where

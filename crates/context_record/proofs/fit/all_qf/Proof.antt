@@ -1,7 +1,8 @@
 use borrow.Author.Tests.{le-leb, lt-leb}
 use Rattle.laws.specs.Tables.{every}
 use Rattle.context_record.specs.Record.{qfFit}
-use Rattle.context_record.specs.laws.Every.{every-passes, every-fails, every-done}
+use Rattle.context_record.specs.laws.Every.{every-passes, every-fails}
+use Rattle.laws.specs.laws.Tables.{every-done}
 use borrow.Author.Needs.{needs}
 use native.Mathlib.Omega.{arith}
 use mathlib.Core.Path.{_≡_, _∙_, sym}

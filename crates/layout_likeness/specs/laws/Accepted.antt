@@ -1,6 +1,6 @@
 -- Layouts that the layout call accepted: likeness refuses none of them, and each is like itself (document 02, No. 12).
 use mathlib.Core.Path.{_≡_}
-use mathlib.Core.Bool.{true}
+use mathlib.Core.Bool.{Bool, true}
 use mathlib.Core.List.{List}
 use Prim.Native.Nat.{ℕ, _<_}
 use native.Mathlib.Omega.{arith}
@@ -12,11 +12,12 @@ use Rattle.layout_sizes.specs.laws.Bounds.{bw-least, bw-most, bh-least, bh-most
 use Rattle.lent_lists.specs.Finite.{finitePattern}
 use Rattle.lent_likeness.specs.Calls.{likeOf}
 use Rattle.lent_likeness.specs.Theorems.{Sound}
-use Rattle.lent_likeness.specs.laws.Theorems.{like-itself}
+use Rattle.lent_likeness.specs.laws.Theorems.{like-itself, like-answers}
 use Rattle.layout_call.specs.Call.{Inputs, layoutOf}
-use Rattle.layout_accepted.specs.Outcome.{bwOf, bhOf, layoutLeft}
+use Rattle.layout_accepted.specs.Outcome.{bwOf, bhOf}
 use Rattle.layout_accepted.specs.laws.Theorems.{accepted-read, accepted-layout, accepted-covered}
 use Rattle.layout_accepted.specs.laws.Sigma.{accepted-sigmas, accepted-finite}
+use Rattle.layout_likeness.specs.Left.{layoutLeft}
 
 module _ (i : Inputs) (kinds hfMul sigma : List ℕ) (n : ℕ) (e : layoutOf i kinds hfMul sigma .answer ≡ gives n) where
   -- every sigma that is left is finite
@@ -45,3 +46,10 @@ module _ (i : Inputs) (kinds hfMul sigma : List ℕ) (n : ℕ) (e : layoutOf i k
 
   pub accepted-like : likeOf (layoutLeft i kinds hfMul sigma) (layoutLeft i kinds hfMul sigma) ≡ gives true
   accepted-like = like-itself (layoutLeft i kinds hfMul sigma) accepted-sound
+
+-- of two accepted layouts likeness says yes or no
+pub accepted-answered : (i j : Inputs) (kinds hfMul sigma kinds′ hfMul′ sigma′ : List ℕ) (n m : ℕ)
+    → layoutOf i kinds hfMul sigma .answer ≡ gives n → layoutOf j kinds′ hfMul′ sigma′ .answer ≡ gives m
+    → (r : Bool) × (likeOf (layoutLeft i kinds hfMul sigma) (layoutLeft j kinds′ hfMul′ sigma′) ≡ gives r)
+accepted-answered i j kinds hfMul sigma kinds′ hfMul′ sigma′ n m e f =
+    like-answers (layoutLeft i kinds hfMul sigma) (layoutLeft j kinds′ hfMul′ sigma′) (accepted-sound i kinds hfMul sigma n e) (accepted-sound j kinds′ hfMul′ sigma′ m f)

@@ -1,0 +1,3 @@
+-- likeness of accepted layouts
+pub mod Left
+pub mod laws

@@ -1,0 +1,1 @@
+// Likeness of layouts that the layout call accepted. No code.
