@@ -34,8 +34,8 @@ holdsLayout L = isLayout (L .layout .bw) (L .layout .bh) (L .layout .kinds) (L .
 -- the same sides and the same lists: of two that no check refuses, the same varblocks and sigma bits (Theorems: like-yes, like-no)
 unfoldable pub alike : FilteredLayout → FilteredLayout → Bool
 alike L N =
-    eqb (L .layout .bw) (N .layout .bw)
-    && (eqb (L .layout .bh) (N .layout .bh) && (same (L .layout .kinds) (N .layout .kinds) && (same (L .layout .hfMul) (N .layout .hfMul) && same (L .sigma) (N .sigma))))
+    (eqb (L .layout .bw) (N .layout .bw) && eqb (L .layout .bh) (N .layout .bh))
+    && (same (L .layout .kinds) (N .layout .kinds) && (same (L .layout .hfMul) (N .layout .hfMul) && same (L .sigma) (N .sigma)))
 
 -- each number is tried over both layouts before the next
 unfoldable pub likeOf : FilteredLayout → FilteredLayout → Answer Bool

@@ -11,10 +11,11 @@ ghost use mathlib.Core.Bool.{_&&_};
 ghost use Prim.Native.Nat.{_*_};
 ghost use lib.Dec.{eqb};
 ghost use Rattle.lent_sides.specs.Limits.{inLimits, lengthsFit};
+ghost use Rattle.lent_lists.specs.Same.{same};
 ghost use Rattle.lent_lists.specs.Finite.{allFinite};
 ghost use Rattle.lent_check.specs.laws.Laws.{isLentLayout};
 ghost use Rattle.lent_likeness.specs.Like.{filtered};
-ghost use Rattle.lent_likeness.specs.Calls.{answered, alike, likeOf};
+ghost use Rattle.lent_likeness.specs.Calls.{answered, likeOf};
 
 pub enum LikeAnswer {
     Alike,
@@ -92,27 +93,27 @@ fn both_layouts(
     false
 }
 
-// The same sides, kinds, hf_mul and sigma.
-fn alike_layouts(
-    bw: usize,
-    bh: usize,
+// The same sides.
+fn same_sides(bw: usize, bh: usize, bw2: usize, bh2: usize) -> bool
+    ensures { λ r. ⌜ r ≡ eqb bw bw2 && eqb bh bh2 ⌝ }
+{
+    if bw == bw2 {
+        return bh == bh2;
+    }
+    false
+}
+
+// The same kinds, hf_mul and sigma.
+fn same_lists(
     kinds: &[u8],
     hf_mul: &[u32],
     sigma: &[u32],
-    bw2: usize,
-    bh2: usize,
     kinds2: &[u8],
     hf_mul2: &[u32],
     sigma2: &[u32],
 ) -> bool
-    ensures { λ r. ⌜ r ≡ alike (filtered bw bh (now (kinds .entry)) (now («hf_mul» .entry)) (now (sigma .entry))) (filtered bw2 bh2 (now (kinds2 .entry)) (now («hf_mul2» .entry)) (now (sigma2 .entry))) ⌝ }
+    ensures { λ r. ⌜ r ≡ same (now (kinds .entry)) (now (kinds2 .entry)) && (same (now («hf_mul» .entry)) (now («hf_mul2» .entry)) && same (now (sigma .entry)) (now (sigma2 .entry))) ⌝ }
 {
-    if bw != bw2 {
-        return false;
-    }
-    if bh != bh2 {
-        return false;
-    }
     if !same_bytes(kinds, kinds2) {
         return false;
     }
@@ -161,18 +162,10 @@ pub fn alike(
     if !both_layouts(bw, bh, kinds, hf_mul, bw2, bh2, kinds2, hf_mul2) {
         return LikeAnswer::Refused(Refusal::Layout);
     }
-    if alike_layouts(
-        bw,
-        bh,
-        kinds,
-        hf_mul,
-        sigma,
-        bw2,
-        bh2,
-        kinds2,
-        hf_mul2,
-        sigma2,
-    ) {
+    if !same_sides(bw, bh, bw2, bh2) {
+        return LikeAnswer::Unlike;
+    }
+    if same_lists(kinds, hf_mul, sigma, kinds2, hf_mul2, sigma2) {
         return LikeAnswer::Alike;
     }
     LikeAnswer::Unlike

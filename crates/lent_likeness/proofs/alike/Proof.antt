@@ -1,10 +1,10 @@
 use mathlib.Core.Path.{_≡_, _∙_, sym}
-use mathlib.Core.Bool.{true, _&&_}
+use mathlib.Core.Bool.{Bool, true, false, _&&_}
 use borrow.Author.Tests.{not-true, not-false}
 use Rattle.refusal.specs.Answer.{gives}
 use Rattle.lent_likeness.specs.Like.{FilteredLayout, filtered}
-use Rattle.lent_likeness.specs.Calls.{sided, strengthsFinite, allLengthsFit, holdsLayout, likeOf}
-use Rattle.lent_likeness.specs.laws.LikeSteps.{like-size, like-float, like-length, like-fault, like-says, both-lent}
+use Rattle.lent_likeness.specs.Calls.{sided, strengthsFinite, allLengthsFit, holdsLayout, alike, likeOf}
+use Rattle.lent_likeness.specs.laws.LikeSteps.{like-size, like-float, like-length, like-fault, like-says, both-lent, unlike-sides, alike-lists}
 use borrow.Author.Needs.{needs}
 use Rattle.lent_likeness.proofs.alike.Statement.{statement}
 use Rattle.lent_likeness.proofs.alike.Tie as tie
@@ -31,11 +31,12 @@ layouts c =
     let s = c .before .before .before .before .before .before in
     sym (both-lent (one s) (two s) (sides (c .before .before .before .before .before)) (lengths (c .before))) ∙ sym (c .both-layouts .ensures)
 
-says : (c : tie.After-alike-layouts) → let s = c .before .before .before .before .before .before .before .before in gives (c .alike-layouts .result) ≡ likeOf (one s) (two s)
+-- past them likeness says what its test says
+says : (c : tie.Else4) → let s = c .before .before .before .before .before .before .before in (r : Bool) → alike (one s) (two s) ≡ r → gives r ≡ likeOf (one s) (two s)
 says c =
-    let d = c .before .before .before in
+    let d = c .before .before in
     let s = d .before .before .before .before .before in
-    like-says (one s) (two s) (sides (d .before .before .before .before)) (strengths (d .before .before)) (lengths d) (layouts (c .before .before) ∙ not-false _ (c .before .if4 .left)) (c .alike-layouts .result) (sym (c .alike-layouts .ensures))
+    like-says (one s) (two s) (sides (d .before .before .before .before)) (strengths (d .before .before)) (lengths d) (layouts (c .before) ∙ not-false _ (c .if4 .left))
 
 returns : tie.Need-returns
 returns c = let s = c .before in like-size (one s) (two s) (sym (s .both-sided .ensures) ∙ not-true _ (c .if1 .taken))
@@ -58,12 +59,24 @@ returns-4 c =
     like-fault (one s) (two s) (sides (d .before .before .before .before)) (strengths (d .before .before)) (lengths d) (layouts (c .before) ∙ not-true _ (c .if4 .taken))
 
 returns-5 : tie.Need-returns-5
-returns-5 c = rw (← c .if5 .taken) (says (c .before))
+returns-5 c =
+    let d = c .before .before in
+    let s = d .before .before .before .before .before .before .before in
+    says d false (unlike-sides (one s) (two s) (sym (c .before .same-sides .ensures) ∙ not-true _ (c .if5 .taken)))
+
+-- the test where the sides are the same
+lists : (c : tie.After-same-lists) → let s = c .before .before .before .before .before .before .before .before .before .before in alike (one s) (two s) ≡ c .same-lists .result
+lists c =
+    let s = c .before .before .before .before .before .before .before .before .before .before in
+    alike-lists (one s) (two s) (sym (c .before .before .same-sides .ensures) ∙ not-false _ (c .before .if5 .left)) ∙ sym (c .same-lists .ensures)
 
 returns-6 : tie.Need-returns-6
-returns-6 c = rw (← c .if5 .left) (says (c .before))
+returns-6 c = says (c .before .before .before .before) true (lists (c .before) ∙ c .if6 .taken)
+
+returns-7 : tie.Need-returns-7
+returns-7 c = says (c .before .before .before .before) false (lists (c .before) ∙ c .if6 .left)
 
 pub alike-spec : {M : Type 1} → statement M
 alike-spec =
     tie.close (tie.spec (λ c κs. search needs) returns (λ c κs. search needs) returns-2 (λ c κs. search needs) returns-3
-    (λ c κs. search needs) returns-4 (λ c κs. search needs) returns-5 returns-6)
+    (λ c κs. search needs) returns-4 (λ c κs. search needs) returns-5 (λ c κs. search needs) returns-6 returns-7)

@@ -5,7 +5,7 @@ use mathlib.Core.Logic.{_↔_}
 use Prim.Native.Nat.{ℕ, _*_}
 use lib.Dec.{eqb}
 use lib.ListN.{length}
-use borrow.Author.Tests.{eqb-true, eq-eqb, ne-eqb}
+use borrow.Author.Tests.{eqb-true, eq-eqb}
 use Rattle.laws.specs.laws.Cases.{and-true}
 use Rattle.refusal.specs.Said.{saidAt}
 use Rattle.refusal.specs.Answer.{gives, refuses}
@@ -68,29 +68,15 @@ module _ (L N : FilteredLayout) where
         let q = and-true (allLengthsFit L) (allLengthsFit N) b in
         rw (is-lent L (p .0) (q .0), is-lent N (p .1) (q .1))
 
-  -- the test of likeness, one thing after the other
-  pub unlike-bw : (L .layout .bw ≡ N .layout .bw → ⊥) → false ≡ alike L N
+  -- the test of likeness: the sides, then the lists
+  pub unlike-sides : eqb (L .layout .bw) (N .layout .bw) && eqb (L .layout .bh) (N .layout .bh) ≡ false → alike L N ≡ false
   unfolding alike
-  unlike-bw n = rw (ne-eqb (L .layout .bw) (N .layout .bw) n)
+  unlike-sides e = rw e
 
-  module _ (e : L .layout .bw ≡ N .layout .bw) where
-    pub unlike-bh : (L .layout .bh ≡ N .layout .bh → ⊥) → false ≡ alike L N
-    unfolding alike
-    unlike-bh n = rw (eq-eqb (L .layout .bw) (N .layout .bw) e, ne-eqb (L .layout .bh) (N .layout .bh) n)
-
-    module _ (f : L .layout .bh ≡ N .layout .bh) where
-      pub unlike-kinds : same (L .layout .kinds) (N .layout .kinds) ≡ false → false ≡ alike L N
-      unfolding alike
-      unlike-kinds k = rw (eq-eqb (L .layout .bw) (N .layout .bw) e, eq-eqb (L .layout .bh) (N .layout .bh) f, k)
-
-      module _ (k : same (L .layout .kinds) (N .layout .kinds) ≡ true) where
-        pub unlike-hf-mul : same (L .layout .hfMul) (N .layout .hfMul) ≡ false → false ≡ alike L N
-        unfolding alike
-        unlike-hf-mul m = rw (eq-eqb (L .layout .bw) (N .layout .bw) e, eq-eqb (L .layout .bh) (N .layout .bh) f, k, m)
-
-        pub alike-sigma : same (L .layout .hfMul) (N .layout .hfMul) ≡ true → same (L .sigma) (N .sigma) ≡ alike L N
-        unfolding alike
-        alike-sigma m = rw (eq-eqb (L .layout .bw) (N .layout .bw) e, eq-eqb (L .layout .bh) (N .layout .bh) f, k, m)
+  pub alike-lists : eqb (L .layout .bw) (N .layout .bw) && eqb (L .layout .bh) (N .layout .bh) ≡ true
+      → alike L N ≡ same (L .layout .kinds) (N .layout .kinds) && (same (L .layout .hfMul) (N .layout .hfMul) && same (L .sigma) (N .sigma))
+  unfolding alike
+  alike-lists e = rw e
 
   -- it is the test of equality
   pub alike-equal : (alike L N ≡ true) ↔ (L ≡ N)
@@ -99,13 +85,13 @@ module _ (L N : FilteredLayout) where
     where
       there : alike L N ≡ true → L ≡ N
       there e =
-          let p = and-true (eqb (L .layout .bw) (N .layout .bw)) _ e in
-          let q = and-true (eqb (L .layout .bh) (N .layout .bh)) _ (p .1) in
-          let r = and-true (same (L .layout .kinds) (N .layout .kinds)) _ (q .1) in
+          let p = and-true (eqb (L .layout .bw) (N .layout .bw) && eqb (L .layout .bh) (N .layout .bh)) _ e in
+          let q = and-true (eqb (L .layout .bw) (N .layout .bw)) (eqb (L .layout .bh) (N .layout .bh)) (p .0) in
+          let r = and-true (same (L .layout .kinds) (N .layout .kinds)) _ (p .1) in
           let s = and-true (same (L .layout .hfMul) (N .layout .hfMul)) (same (L .sigma) (N .sigma)) (r .1) in
           rw (
-            eqb-true (L .layout .bw) (N .layout .bw) (p .0),
-            eqb-true (L .layout .bh) (N .layout .bh) (q .0),
+            eqb-true (L .layout .bw) (N .layout .bw) (q .0),
+            eqb-true (L .layout .bh) (N .layout .bh) (q .1),
             same-iff (L .layout .kinds) (N .layout .kinds) .0 (r .0),
             same-iff (L .layout .hfMul) (N .layout .hfMul) .0 (s .0),
             same-iff (L .sigma) (N .sigma) .0 (s .1),
