@@ -1,4 +1,4 @@
--- The coefficient call (document 01, Coefficients and Refused).
+-- The coefficient call (document 01, Coefficients and Refused; document 02, No. 8).
 use mathlib.Core.Bool.{Bool}
 use mathlib.Core.List.{List, [], _∷_}
 use Prim.Native.Nat.{ℕ}
@@ -6,12 +6,12 @@ use lib.ListN.{length, getD}
 use Rattle.refusal.specs.declared.Said.{Said}
 use Rattle.refusal.specs.Said.{said}
 use Rattle.refusal.specs.Answer.{Answer, gives, refuses, answeredBy}
-use Rattle.bits.specs.Bits.{Read, Value, Ended, readBits}
+use Rattle.bits.specs.Bits.{Read, readBits}
 use Rattle.coded_numbers.specs.Exponent.{exponent}
 use Rattle.coeff_call.specs.declared.CoeffAnswer.{CoeffAnswer}
 use Rattle.coeff_call.specs.declared.CoeffAnswer.the-variants.{Accepted, Refused}
 use Rattle.coeff_group.specs.PassGroup.{PassGroup}
-use Rattle.coeff_group.specs.Group.{PerChannel, Reading, going, refused, leftOf}
+use Rattle.coeff_group.specs.Group.{PerChannel, Reading, going, refused}
 use Rattle.coeff_group.specs.Work.{presetMapOf, readingBy}
 use Rattle.coeff_checks.specs.Checks as checks
 use Rattle.coeff_preset.specs.Preset.{presetOf}
@@ -77,9 +77,9 @@ presetMap L preset = presetMapOf (L .passGroup) (L .clusterMap) preset
 unfoldable pub reading : Lent → ℕ → Reading
 reading L preset = readingBy (L .passGroup) (L .clusterMap) (L .shift) (L .symbols) (L .log) (L .grids) preset
 
--- symbols read; 15 to 17 keep what was added and logged
+-- symbols read; 15 to 17 and 24 keep what was added and logged
 abbrev pub outcomeOf : Reading → Outcome
-outcomeOf (going us at log grids rows left) = record { answer = gives at; log = log; grids = grids }
+outcomeOf (going us at log grids rows) = record { answer = gives at; log = log; grids = grids }
 outcomeOf (refused why at log grids) = record { answer = refuses (said (why at)); log = log; grids = grids }
 
 -- a refusal that writes nothing
@@ -94,11 +94,3 @@ withPreset L bits = answeredBy (presetOf (L .presets) bits) (refuse L) (λ prese
 
 unfoldable pub call : Lent → Outcome
 call L = answeredBy (beforeWork L) (refuse L) (λ u. withPreset L (presetBits L))
-
--- counts that were not used up, in all, of a call that comes to its work
-abbrev pub leftoverAt : Lent → Read ℕ → ℕ
-leftoverAt L (Ended at) = 0
-leftoverAt L (Value preset at) = leftOf (reading L preset)
-
-abbrev pub leftover : Lent → ℕ
-leftover L = leftoverAt L (presetBits L)

@@ -1,6 +1,6 @@
 -- Reading a pass group: its varblocks in turn (document 01, Coefficients; `write_hf_coeff`).
 use mathlib.Core.List.{List, [], _∷_}
-use Prim.Native.Nat.{ℕ, _+_}
+use Prim.Native.Nat.{ℕ}
 use lib.ListN.{getD, set, replicate}
 use Rattle.refusal.specs.declared.Refusal.{Refusal}
 use Rattle.layout.specs.Varblocks.{Varblock}
@@ -16,22 +16,22 @@ PerChannel = List (List ℕ)
 abbrev pub zeroRows : PerChannel
 zeroRows = replicate 32 0 ∷ replicate 32 0 ∷ replicate 32 0 ∷ []
 
--- going: symbols left, symbols read, log, grids, rows of counts, counts left over so far
+-- going: symbols left, symbols read, log, grids, rows of counts
 pub data Reading : Type 0 where
-  going : (us : List ℕ) (at : ℕ) (log : List ℕ) (grids rows : PerChannel) (left : ℕ) → Reading
+  going : (us : List ℕ) (at : ℕ) (log : List ℕ) (grids rows : PerChannel) → Reading
   refused : (why : ℕ → Refusal) (at : ℕ) (log : List ℕ) (grids : PerChannel) → Reading
 
 -- a channel c that was walked
-abbrev pub after : ℕ → PerChannel → PerChannel → ℕ → Walked → Reading
-after c grids rows left (done us at log g n) = going us at log (set grids c g) rows (left + n)
-after c grids rows left (stopped why at log g) = refused why at log (set grids c g)
+abbrev pub after : ℕ → PerChannel → PerChannel → Walked → Reading
+after c grids rows (done us at log g) = going us at log (set grids c g) rows
+after c grids rows (stopped why at log g) = refused why at log (set grids c g)
 
 module _ (shift clusters : ℕ) (presetMap : List ℕ) where
   unfoldable pub readItem : Item → Reading → Reading
-  readItem it (going us at log grids rows left) =
+  readItem it (going us at log grids rows) =
       let c = it .channel in
       let row = getD rows c [] in
-      after c grids (set rows c (newRow it row us)) left (counted shift clusters presetMap it row us at log (getD grids c []))
+      after c grids (set rows c (newRow it row us)) (counted shift clusters presetMap it row us at log (getD grids c []))
   readItem it (refused why at log grids) = refused why at log grids
 
   unfoldable pub readItems : List Item → Reading → Reading
@@ -45,8 +45,3 @@ module _ (shift clusters : ℕ) (presetMap : List ℕ) where
     unfoldable pub readGroup : List Varblock → Reading → Reading
     readGroup [] r = r
     readGroup (v ∷ vs) r = readGroup vs (readVarblock v r)
-
--- what was left over of the counts, in all
-abbrev pub leftOf : Reading → ℕ
-leftOf (going us at log grids rows left) = left
-leftOf (refused why at log grids) = 0

@@ -13,4 +13,4 @@ abbrev pub presetMapOf : PassGroup → List ℕ → ℕ → List ℕ
 presetMapOf P clusterMap n = take (495 * clustersOf P) (drop (495 * clustersOf P * n) clusterMap)
 
 abbrev pub readingBy : PassGroup → (clusterMap : List ℕ) (shift : ℕ) (symbols log : List ℕ) → PerChannel → ℕ → Reading
-readingBy P clusterMap shift symbols log G n = readGroup shift (clustersOf P) (presetMapOf P clusterMap n) P (varblocks P) (going symbols 0 log G zeroRows 0)
+readingBy P clusterMap shift symbols log G n = readGroup shift (clustersOf P) (presetMapOf P clusterMap n) P (varblocks P) (going symbols 0 log G zeroRows)

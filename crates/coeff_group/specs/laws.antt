@@ -9,6 +9,7 @@ pub mod Channel
 pub mod Channels
 pub mod Step
 pub mod Due
+pub mod Used
 pub mod WorkLaws
 pub mod Symbols
 pub mod Cells

@@ -13,6 +13,7 @@ pub mod walk;
 ghost use mathlib.Core.Path.{_≡_};
 ghost use mathlib.Core.Bool.{cond};
 ghost use Prim.Native.Nat.{_≤_};
+ghost use Rattle.coeff_walk.specs.UsedUp.{CountUsed};
 ghost use Rattle.coeff_walk.specs.laws.Outcome.{WalkShown};
 ghost use Rattle.coeff_walk.specs.laws.Lent.{spotSmall, lentFits, placesRead};
 
@@ -57,7 +58,7 @@ fn lent_fits(
 
 // The coefficients behind a count of `count`: refused where what is lent does not fit. `list` is the channel's without its
 // first places, which are the low-frequency cells, `at` the symbols read, `first_prev` whether the count is at most four
-// for each block, `coeff_map` the 458 entries of the cluster map.
+// for each block, `coeff_map` the 458 entries of the cluster map. Done only with the count used up.
 pub fn read_places(
     list: &[u16],
     spot: Spot,
@@ -70,7 +71,7 @@ pub fn read_places(
     log: &mut [u8],
     grid: &mut [u32],
 ) -> WalkEnd
-    ensures { λ r. ⌜ WalkShown r (now (log .exit)) (now (grid .exit)) (placesRead spot (now (list .entry)) (now (symbols .entry)) at count «first_prev» (now («coeff_map» .entry)) shift (now (log .entry)) (now (grid .entry))) ⌝ }
+    ensures { λ r. ⌜ WalkShown r (now (log .exit)) (now (grid .exit)) (placesRead spot (now (list .entry)) (now (symbols .entry)) at count «first_prev» (now («coeff_map» .entry)) shift (now (log .entry)) (now (grid .entry))) × CountUsed count (now (symbols .entry)) at r ⌝ }
 {
     if !lent_fits(spot, list.len(), at, coeff_map.len(), shift, log.len()) {
         return WalkEnd::Stopped(Refusal::Length);

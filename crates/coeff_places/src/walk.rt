@@ -11,6 +11,7 @@ ghost use mathlib.Core.Path.{_≡_};
 ghost use Prim.Native.Nat.{_+_, _-_, _/_, _*_, _%_, _^_, _≤_, _<_};
 ghost use lib.ListN.{length, getD, drop};
 ghost use Rattle.coeff_walk.specs.Walk.{FREQ, NUM-NONZERO, flag, gain, walk};
+ghost use Rattle.coeff_walk.specs.UsedUp.{CountUsed};
 ghost use Rattle.coeff_walk.specs.laws.Outcome.{WalkReady, WalkShown, spotCells};
 ghost use Rattle.coeff_walk.specs.laws.Runs.{ZerosReady, Zeros};
 
@@ -53,8 +54,8 @@ fn flag_of(u: u32) -> usize
     1
 }
 
-// The coefficients of a list's places, until `count` of them were not 0; with the two tables of contexts. Each place is
-// done in the same way, whatever its symbol.
+// The coefficients of a list's places, until `count` of them were not 0; stopped where the places end before. With the two
+// tables of contexts. Each place is done in the same way, whatever its symbol.
 fn walk_dense(
     nonzeros: &[u8; 63],
     frequencies: &[u8; 63],
@@ -96,7 +97,10 @@ fn walk_dense(
         at += 1;
         k += 1;
     }
-    WalkEnd::Done(at)
+    if left == 0 {
+        return WalkEnd::Done(at);
+    }
+    WalkEnd::Stopped(Refusal::CountRemaining(at))
 }
 
 // Skips the zeros from place `from` on, below place `stop`: logs each, and tells the place behind them. A 0 leaves the
@@ -229,17 +233,17 @@ fn walk_sparse(
         prev = 1;
         k += 1;
     }
-    if end <= k {
-        return WalkEnd::Done(at + k);
-    }
     if left == 0 {
         return WalkEnd::Done(at + k);
+    }
+    if end <= k {
+        return WalkEnd::Stopped(Refusal::CountRemaining(at + k));
     }
     WalkEnd::Stopped(Refusal::SymbolsEnd(at + k))
 }
 
 // The same, by the way that suits the count: sparse, that is at most a quarter of the places, or dense. A list has two numbers
-// for each place.
+// for each place. A walk that is done has used its count up.
 pub(crate) fn walk_places(
     nonzeros: &[u8; 63],
     frequencies: &[u8; 63],
@@ -255,7 +259,7 @@ pub(crate) fn walk_places(
     grid: &mut [u32],
 ) -> WalkEnd
     requires { ⌜ (now nonzeros ≡ NUM-NONZERO) × (now frequencies ≡ FREQ) × WalkReady spot (now list) at count «first_prev» (length (now «coeff_map»)) shift (length (now log)) ⌝ }
-    ensures { λ r. ⌜ WalkShown r (now (log .exit)) (now (grid .exit)) (walk shift (2 ^ (spot .exponent)) (now («coeff_map» .entry)) (spotCells spot (now (list .entry))) 0 «first_prev» count (drop at (now (symbols .entry))) at (now (log .entry)) (now (grid .entry))) ⌝ }
+    ensures { λ r. ⌜ WalkShown r (now (log .exit)) (now (grid .exit)) (walk shift (2 ^ (spot .exponent)) (now («coeff_map» .entry)) (spotCells spot (now (list .entry))) 0 «first_prev» count (drop at (now (symbols .entry))) at (now (log .entry)) (now (grid .entry))) × CountUsed count (now (symbols .entry)) at r ⌝ }
 {
     if list.len() / 8 < count {
         return walk_dense(

@@ -7,5 +7,7 @@ pub mod Counts
 pub mod Lent
 pub mod Items
 pub mod Kept
+pub mod Used
+pub mod Remaining
 pub mod Contexts
 pub mod Walks

@@ -66,7 +66,7 @@ module _ (shift clusters : ℕ) (presetMap : List ℕ) where
   -- along `readItem`: the channel's grid and row are there, and the row has the blocks that are looked at and rewritten
   abbrev pub ItemInside : Item → Reading → Type 0
   ItemInside it (refused why at log grids) = Unit
-  ItemInside it (going us at log grids rows left) =
+  ItemInside it (going us at log grids rows) =
       (it .channel < length grids)
       × (it .channel < length rows)
       × (it .x < length (getD rows (it .channel) []))
@@ -87,4 +87,4 @@ module _ (shift clusters : ℕ) (presetMap : List ℕ) where
 abbrev pub ReadingInside : Lent → ℕ → Type 0
 ReadingInside L preset =
     (495 * clustersOf (L .passGroup) * preset + 495 * clustersOf (L .passGroup) ≤ length (L .clusterMap))
-    × GroupInside (L .shift) (clustersOf (L .passGroup)) (presetMap L preset) (L .passGroup) (varblocks (L .passGroup)) (going (L .symbols) 0 (L .log) (L .grids) zeroRows 0)
+    × GroupInside (L .shift) (clustersOf (L .passGroup)) (presetMap L preset) (L .passGroup) (varblocks (L .passGroup)) (going (L .symbols) 0 (L .log) (L .grids) zeroRows)

@@ -1,9 +1,11 @@
 -- what is proved from the definitions
 pub mod Demand3
+pub mod Correspond
 pub mod Wanted
 pub mod Chain
 pub mod LowCells
 pub mod SymbolsRead
+pub mod CountsUsed
 pub mod Surplus
 pub mod Witness
 pub mod FullWitness

@@ -57,7 +57,7 @@ returns-3 c =
     let n = to-preset-map-of (c .before .before .before .before .before .before) .before .before .chosen2 .given in
     let g = c .before .before .before .before .before .before .before .before .before .read-group in
     let l = g .last .1 .1 .1 .1 .1 .1 .1 .1 .1 .1 .1 .1 in
-    call-done (lentAt (to-start (to-shared-slice-known7 (to-preset-map-of (c .before .before .before .before .before .before) .before .before .before .before .before .before .before)))) (passed (to-preset-map-of (c .before .before .before .before .before .before) .before .before .before .before .before)) (to-preset-map-of (c .before .before .before .before .before .before) .before .before .before .before .read-preset .result) (to-preset-map-of (c .before .before .before .before .before .before) .before .before .before .before .read-preset .ensures) (n .0 .0) (n .1) (g .result) (c .answer .result) (l .0) (l .1 .0) (l .1 .1 .0) (l .1 .1 .1 .0) (c .answer .ensures) (rw (to-preset-map-of (c .before .before .before .before .before .before) .preset-map-of .ensures) at (g .ensures))
+    call-done (lentAt (to-start (to-shared-slice-known7 (to-preset-map-of (c .before .before .before .before .before .before) .before .before .before .before .before .before .before)))) (passed (to-preset-map-of (c .before .before .before .before .before .before) .before .before .before .before .before)) (to-preset-map-of (c .before .before .before .before .before .before) .before .before .before .before .read-preset .result) (to-preset-map-of (c .before .before .before .before .before .before) .before .before .before .before .read-preset .ensures) (n .0 .0) (n .1) (g .result) (c .answer .result) (l .0) (l .1 .0) (l .1 .1 .0) (l .1 .1 .1 .0) (c .answer .ensures) (rw (to-preset-map-of (c .before .before .before .before .before .before) .preset-map-of .ensures) at (g .ensures .0))
 
 pub write-hf-coeff-spec : {M : Type 1} → statement M
 write-hf-coeff-spec =

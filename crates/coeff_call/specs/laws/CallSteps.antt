@@ -69,7 +69,7 @@ answerBy (walk.Done at) = Accepted at
 answerBy (walk.Stopped why) = Refused why
 
 outcome-by : (r : WalkEnd) (log : List ℕ) (G : PerChannel) (R : Reading) → GroupShown r log G R → record { answer = answered (answerBy r); log = log; grids = G } ≡ outcomeOf R
-outcome-by r log G (going us at log₁ G₁ rows left) d = rw (d .answer, d .logged, d .cells)
+outcome-by r log G (going us at log₁ G₁ rows) d = rw (d .answer, d .logged, d .cells)
 outcome-by r log G (refused why at log₁ G₁) d = rw (d .answer, d .logged, d .cells)
 
 -- the group is read, with the preset that was chosen

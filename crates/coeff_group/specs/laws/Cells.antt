@@ -117,6 +117,23 @@ adds-shape s G (x ∷ cs) (d ∷ ds) =
     let a = adds-shape s (add s G x d) cs ds in let b = add-shape s G x d in
     record { count = a .count ∙ b .count; sizes = λ c. a .sizes c ∙ b .sizes c }
 
+-- 32-bit numbers stay so
+gain-below : (s : ℕ) (g : List ℕ) (p d q : ℕ) → getD g q 0 < 2 ^ 32 → getD (gain s g p d) q 0 < 2 ^ 32
+gain-below s g p zero q h = h
+gain-below s g p (suc d) q h = set-below g p ((getD g p 0 + unpackSigned (suc d) * 2 ^ s % 2 ^ 32) % 2 ^ 32) q (2 ^ 32) (omega arith) h
+
+put-words : (G : PerChannel) (c : ℕ) (g : List ℕ) → ((p : ℕ) → getD g p 0 < 2 ^ 32) → ((d p : ℕ) → inCell G d p < 2 ^ 32) → (d p : ℕ) → inCell (set G c g) d p < 2 ^ 32
+put-words [] c g f h d p = h d p
+put-words (x ∷ G) zero g f h zero p = f p
+put-words (x ∷ G) zero g f h (suc d) p = h (suc d) p
+put-words (x ∷ G) (suc c) g f h zero p = h zero p
+put-words (x ∷ G) (suc c) g f h (suc d) p = put-words G c g f (λ e q. h (suc e) q) d p
+
+pub adds-words : (s : ℕ) (G : PerChannel) (cs : List GridCell) (ds : List ℕ) → ((c p : ℕ) → inCell G c p < 2 ^ 32) → (c p : ℕ) → inCell (adds s G cs ds) c p < 2 ^ 32
+adds-words s G cs [] h = h
+adds-words s G [] (d ∷ ds) h = h
+adds-words s G (x ∷ cs) (d ∷ ds) h = adds-words s (add s G x d) cs ds (put-words G (x .0) (gain s (getD G (x .0) []) (x .1) d) (λ p. gain-below s (getD G (x .0) []) (x .1) d p (h (x .0) p)) h)
+
 -- a cell is changed only where a symbol is added
 gain-off : (s : ℕ) (g : List ℕ) (p d q : ℕ) → (q ≡ p → ⊥) → getD (gain s g p d) q 0 ≡ getD g q 0
 gain-off s g p zero q n = refl

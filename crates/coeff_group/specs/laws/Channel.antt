@@ -21,19 +21,21 @@ use Rattle.order_natural.specs.Places.{paired}
 use Rattle.order_natural.specs.laws.Flat.{length-paired}
 use Rattle.coeff_walk.specs.laws.PlaceLaws.{length-places}
 use Rattle.coeff_walk.specs.laws.Items.{itemAt, ItemReady, counted-15, counted-16}
-use Rattle.coeff_walk.specs.laws.Kept.{KeptBy, counted-kept}
+use Rattle.coeff_walk.specs.UsedUp.{CountsUsed}
+use Rattle.coeff_walk.specs.laws.Kept.{CountFirst, KeptBy, counted-kept}
 use Rattle.coeff_group.specs.Group.{PerChannel, Reading, going, after, readItem}
 use Rattle.coeff_group.specs.laws.Steps.{InGrid, rowBy, Shown}
 use Rattle.coeff_group.specs.laws.Plans.{inChannel, itemBy, channelWalked, Planned}
 use Rattle.coeff_group.specs.declared.plan.Plan.{Plan}
 use Rattle.order_store.specs.Store.{stretch}
 
--- what the reading of the n-th channel walked hands back: how it ended, and its count over the varblock's blocks; whatever rows the reading
--- has for the other channels, and whatever was left over of the counts before
+-- what the reading of the n-th channel walked hands back: how it ended, and its count over the varblock's blocks, whatever rows the reading
+-- has for the other channels; its count is used up
 pub record ChannelShown (p : Plan) (group : GroupSides) (clusters : ℕ) (presetMap store symbols : List ℕ) (at shift : ℕ) (rows : PerChannel) (log : List ℕ) (G : PerChannel) (n : ℕ) (w : WalkEnd) (count : ℕ) (log₁ : List ℕ) (G₁ : PerChannel) : Type 0 where
-  pub shown : (R : PerChannel) (left : ℕ) → getD R (channelWalked n) [] ≡ getD rows (channelWalked n) []
+  pub shown : (R : PerChannel) → getD R (channelWalked n) [] ≡ getD rows (channelWalked n) []
       → Shown symbols (at + 64 * 2 ^ (p .shape .exponent)) w (rowBy R (channelWalked n) (p .shape .x) (p .shape .wide) count) log₁ G₁
-      (readItem shift clusters presetMap (itemBy p group store n (channelWalked n)) (going (drop at symbols) at log G R left))
+      (readItem shift clusters presetMap (itemBy p group store n (channelWalked n)) (going (drop at symbols) at log G R))
+  pub used : CountsUsed 1 symbols at w
 
 -- the channel's number decides nothing in its reading
 counted-in : (shift clusters : ℕ) (presetMap : List ℕ) (c : ℕ) (it : Item) (row us : List ℕ) (at : ℕ) (log g : List ℕ)
@@ -66,11 +68,11 @@ module _ (shift clusters : ℕ) (presetMap : List ℕ) (c : ℕ) (it : Item) (ro
       first (yes h) = small h (decLe (getD symbols at 0) (63 * it .blocks))
       first (no h) = absurd (never SymbolsEnd at log (getD G c []) (counted-15 shift clusters presetMap it row symbols at log (getD G c []) (omega arith)))
 
-  module _ (most : ℕ) (R : PerChannel) (left : ℕ) (same : getD R c [] ≡ row) where
+  module _ (most : ℕ) (R : PerChannel) (same : getD R c [] ≡ row) where
     abbrev stepped : Reading
-    stepped = readItem shift clusters presetMap (inChannel c it) (going (drop at symbols) at log G R left)
+    stepped = readItem shift clusters presetMap (inChannel c it) (going (drop at symbols) at log G R)
 
-    stepped-is : stepped ≡ after c G (set R c (newRow (inChannel c it) row (drop at symbols))) left w
+    stepped-is : stepped ≡ after c G (set R c (newRow (inChannel c it) row (drop at symbols))) w
     unfolding readItem
     stepped-is = rw (same, counted-in shift clusters presetMap c it row (drop at symbols) at log (getD G c []))
 
@@ -78,8 +80,8 @@ module _ (shift clusters : ℕ) (presetMap : List ℕ) (c : ℕ) (it : Item) (ro
     item-stops : isStopped r ≡ true → (rows₁ : PerChannel) → Shown symbols most r rows₁ log₁ G₁ stepped
     item-stops e rows₁ = rw stepped-is (go w refl)
       where
-        go : (x : Walked) → w ≡ x → Shown symbols most r rows₁ log₁ G₁ (after c G (set R c (newRow (inChannel c it) row (drop at symbols))) left x)
-        go (done us at′ log′ g n) q = absurd (let a : r ≡ Done at′ = got .answer ∙ ap answerOf q in let z : isStopped r ≡ false = ap isStopped a in let y : _≡_ {A = ℕ} 0 1 = cc in omega arith)
+        go : (x : Walked) → w ≡ x → Shown symbols most r rows₁ log₁ G₁ (after c G (set R c (newRow (inChannel c it) row (drop at symbols))) x)
+        go (done us at′ log′ g) q = absurd (let a : r ≡ Done at′ = got .answer ∙ ap answerOf q in let z : isStopped r ≡ false = ap isStopped a in let y : _≡_ {A = ℕ} 0 1 = cc in omega arith)
         go (stopped why at′ log′ g) q = record {
           it = record {
             answer = got .answer ∙ ap answerOf q;
@@ -96,11 +98,11 @@ module _ (shift clusters : ℕ) (presetMap : List ℕ) (c : ℕ) (it : Item) (ro
         rows-are : set R c (newRow (inChannel c it) row (drop at symbols)) ≡ rowBy R c (it .x) (it .wide) (countOver (getD symbols at 0) (it .blocks))
         rows-are = rw (drop-cons symbols at 0 (read-count e .0), same)
 
-        go : (x : Walked) → w ≡ x → KeptBy (suc (length (it .cells))) (drop at symbols) at log (getD G c []) x
-            → Shown symbols most r (rowBy R c (it .x) (it .wide) (countOver (getD symbols at 0) (it .blocks))) log₁ G₁ (after c G (set R c (newRow (inChannel c it) row (drop at symbols))) left x)
+        go : (x : Walked) → w ≡ x → KeptBy CountFirst (suc (length (it .cells))) (drop at symbols) at log (getD G c []) x
+            → Shown symbols most r (rowBy R c (it .x) (it .wide) (countOver (getD symbols at 0) (it .blocks))) log₁ G₁ (after c G (set R c (newRow (inChannel c it) row (drop at symbols))) x)
         go (stopped why at′ log′ g) q k =
             absurd (let a : r ≡ Stopped (why at′) = got .answer ∙ ap answerOf q in let z : isStopped r ≡ true = ap isStopped a in let y : _≡_ {A = ℕ} 0 1 = cc in omega arith)
-        go (done us at′ log′ g n) q k =
+        go (done us at′ log′ g) q k =
             let m = k .most in let f = k .read in
             record {
               it = record {
@@ -156,22 +158,24 @@ module _ (p : Plan) (group : GroupSides) (clusters : ℕ) (presetMap store symbo
     pub channel-count : isStopped r ≡ false → (at < length symbols) × (getD symbols at 0 ≤ 63 * K)
     channel-count = read-count shift clusters presetMap c it (getD rows c []) symbols at log G r log₁ G₁ got
 
-    module _ (R : PerChannel) (left : ℕ) (same : getD R (channelWalked n) [] ≡ getD rows (channelWalked n) []) where
+    module _ (R : PerChannel) (same : getD R (channelWalked n) [] ≡ getD rows (channelWalked n) []) where
       here : getD R c [] ≡ getD rows c []
       here = rw ec same
 
     -- the reading stopped in this channel
-    pub channel-stops : isStopped r ≡ true → (count : ℕ) → ChannelShown p group clusters presetMap store symbols at shift rows log G n r count log₁ G₁
-    channel-stops e count = record {
-      shown = λ R left same. subst (λ (i : Item). Shown symbols (at + 64 * K) r (rowBy R (channelWalked n) (p .shape .x) (p .shape .wide) count) log₁ G₁ (readItem shift clusters presetMap i (going (drop at symbols) at log G R left))) same-item
-          (item-stops shift clusters presetMap c it (getD rows c []) symbols at log G r log₁ G₁ got (at + 64 * K) R left (here R left same) e (rowBy R (channelWalked n) (p .shape .x) (p .shape .wide) count));
+    pub channel-stops : CountsUsed 1 symbols at r → isStopped r ≡ true → (count : ℕ) → ChannelShown p group clusters presetMap store symbols at shift rows log G n r count log₁ G₁
+    channel-stops used e count = record {
+      shown = λ R same. subst (λ (i : Item). Shown symbols (at + 64 * K) r (rowBy R (channelWalked n) (p .shape .x) (p .shape .wide) count) log₁ G₁ (readItem shift clusters presetMap i (going (drop at symbols) at log G R))) same-item
+          (item-stops shift clusters presetMap c it (getD rows c []) symbols at log G r log₁ G₁ got (at + 64 * K) R (here R same) e (rowBy R (channelWalked n) (p .shape .x) (p .shape .wide) count));
+      used = used;
     }
 
     -- the channel was read
-    pub channel-goes : isStopped r ≡ false → (count : ℕ) → count ≡ countOver (getD symbols at 0) K → ChannelShown p group clusters presetMap store symbols at shift rows log G n r count log₁ G₁
-    channel-goes e count ev =
+    pub channel-goes : CountsUsed 1 symbols at r → isStopped r ≡ false → (count : ℕ) → count ≡ countOver (getD symbols at 0) K → ChannelShown p group clusters presetMap store symbols at shift rows log G n r count log₁ G₁
+    channel-goes used e count ev =
         let l = item-size (p .shape) (group .bw) (getD (p .«block_contexts») n 0) order long in
         record {
-          shown = λ R left same. subst (λ (i : Item). Shown symbols (at + 64 * K) r (rowBy R (channelWalked n) (p .shape .x) (p .shape .wide) count) log₁ G₁ (readItem shift clusters presetMap i (going (drop at symbols) at log G R left))) same-item
-              (rw (ev, ← ec) (item-goes shift clusters presetMap c it (getD rows c []) symbols at log G r log₁ G₁ got (at + 64 * K) R left (here R left same) e (omega (arith, pow-pos (p .shape .exponent))) (omega arith)));
+          shown = λ R same. subst (λ (i : Item). Shown symbols (at + 64 * K) r (rowBy R (channelWalked n) (p .shape .x) (p .shape .wide) count) log₁ G₁ (readItem shift clusters presetMap i (going (drop at symbols) at log G R))) same-item
+              (rw (ev, ← ec) (item-goes shift clusters presetMap c it (getD rows c []) symbols at log G r log₁ G₁ got (at + 64 * K) R (here R same) e (omega (arith, pow-pos (p .shape .exponent))) (omega arith)));
+          used = used;
         }

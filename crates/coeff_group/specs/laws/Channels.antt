@@ -21,15 +21,13 @@ use Rattle.coeff_group.specs.declared.plan.Plan.{Plan}
 module _ (symbols : List ℕ) where
   -- what is known of a reading that goes on
   pub record On (most : ℕ) (w : WalkEnd) (rows : PerChannel) (log : List ℕ) (G : PerChannel) (R : Reading) : Type 0 where
-    pub left : ℕ
-    pub is : R ≡ going (drop (readBy w) symbols) (readBy w) log G rows left
+    pub is : R ≡ going (drop (readBy w) symbols) (readBy w) log G rows
     pub few : readBy w ≤ most
 
   pub shown-on : (most : ℕ) (w : WalkEnd) (rows : PerChannel) (log : List ℕ) (G : PerChannel) (R : Reading) → Shown symbols most w rows log G R → isStopped w ≡ false → On most w rows log G R
-  shown-on most w rows log G (going us at log′ G′ rows′ left) s e =
+  shown-on most w rows log G (going us at log′ G′ rows′) s e =
       let q : readBy w ≡ at = ap readBy (s .it .answer) in
       record {
-        left = left;
         is = rw (q, s .it .rest, s .it .counts, s .it .logged, s .it .cells);
         few = rw q (s .it .few);
       }
@@ -38,14 +36,14 @@ module _ (symbols : List ℕ) where
 
   -- of one that stopped no rows are told
   pub shown-stopped : (most : ℕ) (w : WalkEnd) (rows rows₁ : PerChannel) (log : List ℕ) (G : PerChannel) (R : Reading) → Shown symbols most w rows log G R → isStopped w ≡ true → Shown symbols most w rows₁ log G R
-  shown-stopped most w rows rows₁ log G (going us at log′ G′ rows′ left) s e =
+  shown-stopped most w rows rows₁ log G (going us at log′ G′ rows′) s e =
       absurd (let a : isStopped w ≡ false = ap isStopped (s .it .answer) in let y : _≡_ {A = ℕ} 0 1 = cc in omega arith)
   shown-stopped most w rows rows₁ log G (refused why at log′ G′) s e = record { it = s .it }
 
   -- a reading that stopped stays so
   shown-stop : (shift clusters : ℕ) (presetMap : List ℕ) (its : List Item) (most more : ℕ) (w : WalkEnd) (rows rows₁ : PerChannel) (log : List ℕ) (G : PerChannel) (R : Reading)
       → Shown symbols most w rows log G R → isStopped w ≡ true → Shown symbols more w rows₁ log G (readItems shift clusters presetMap its R)
-  shown-stop shift clusters presetMap its most more w rows rows₁ log G (going us at log′ G′ rows′ left) s e =
+  shown-stop shift clusters presetMap its most more w rows rows₁ log G (going us at log′ G′ rows′) s e =
       absurd (let a : isStopped w ≡ false = ap isStopped (s .it .answer) in let y : _≡_ {A = ℕ} 0 1 = cc in omega arith)
   shown-stop shift clusters presetMap its most more w rows rows₁ log G (refused why at log′ G′) s e = rw (read-refused shift clusters presetMap its why at log′ G′) (record { it = s .it })
 
@@ -58,8 +56,7 @@ module _ (p : Plan) (group : GroupSides) (clusters : ℕ) (presetMap store symbo
 
   -- what is still due: the channels from the n-th walked on, from where the reading stands, give the whole
   pub record ChannelsDue (n at : ℕ) (rows : PerChannel) (log : List ℕ) (G : PerChannel) : Type 0 where
-    pub left : ℕ
-    pub due : readItems shift clusters presetMap (drop n items) (going (drop at symbols) at log G rows left) ≡ whole
+    pub due : readItems shift clusters presetMap (drop n items) (going (drop at symbols) at log G rows) ≡ whole
     pub few : at + 64 * K * (3 - n) ≤ at₀ + 192 * K
 
   next-item : (n : ℕ) → n < 3 → drop n items ≡ itemBy p group store n (channelWalked n) ∷ drop (n + 1) items
@@ -93,7 +90,7 @@ module _ (p : Plan) (group : GroupSides) (clusters : ℕ) (presetMap store symbo
     rows = rewritten p counts rows₀ n
 
     abbrev before : Reading
-    before = going (drop at symbols) at log G rows (d .left)
+    before = going (drop at symbols) at log G rows
 
     abbrev stepped : Reading
     stepped = readItem shift clusters presetMap (itemBy p group store n (channelWalked n)) before
@@ -104,7 +101,7 @@ module _ (p : Plan) (group : GroupSides) (clusters : ℕ) (presetMap store symbo
 
     module _ (w : WalkEnd) (count : ℕ) (log₁ : List ℕ) (G₁ : PerChannel) (t : ChannelShown p group clusters presetMap store symbols at shift rows₀ log G n w count log₁ G₁) where
       shown : Shown symbols (at + 64 * K) w (rowBy rows (channelWalked n) (p .shape .x) (p .shape .wide) count) log₁ G₁ stepped
-      shown = t .shown rows (d .left) (row-kept p counts rows₀ n hn)
+      shown = t .shown rows (row-kept p counts rows₀ n hn)
 
       -- the reading stopped in this channel
       pub channels-stop : isStopped w ≡ true → (most : ℕ) (rows₁ : PerChannel) → Shown symbols most w rows₁ log₁ G₁ whole
@@ -122,12 +119,11 @@ module _ (p : Plan) (group : GroupSides) (clusters : ℕ) (presetMap store symbo
           let f = o .few in
           let s = next-room n K hn in
           rw (ea, j) (record {
-            left = o .left;
             due = ap (readItems shift clusters presetMap (drop (n + 1) items)) (sym (o .is)) ∙ due-now;
             few = omega arith;
           })
 
 -- before the first channel
-pub channels-start : (p : Plan) (group : GroupSides) (clusters : ℕ) (presetMap store symbols : List ℕ) (at₀ shift : ℕ) (rows : PerChannel) (log : List ℕ) (G : PerChannel) (left : ℕ)
-    → ChannelsDue p group clusters presetMap store symbols at₀ shift (readItems shift clusters presetMap (itemsBy p group store) (going (drop at₀ symbols) at₀ log G (three rows) left)) 0 at₀ (three rows) log G
-channels-start p group clusters presetMap store symbols at₀ shift rows log G left = record { left = left; due = refl; few = omega arith }
+pub channels-start : (p : Plan) (group : GroupSides) (clusters : ℕ) (presetMap store symbols : List ℕ) (at₀ shift : ℕ) (rows : PerChannel) (log : List ℕ) (G : PerChannel)
+    → ChannelsDue p group clusters presetMap store symbols at₀ shift (readItems shift clusters presetMap (itemsBy p group store) (going (drop at₀ symbols) at₀ log G (three rows))) 0 at₀ (three rows) log G
+channels-start p group clusters presetMap store symbols at₀ shift rows log G = record { due = refl; few = omega arith }

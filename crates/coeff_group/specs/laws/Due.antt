@@ -34,15 +34,15 @@ use Rattle.coeff_group.specs.laws.Channels.{shown-on}
 use Rattle.coeff_group.specs.laws.Plans.{planBy, itemsBy, Planned}
 
 abbrev pub walkOf : Reading → WalkEnd
-walkOf (going us at log grids rows left) = Done at
+walkOf (going us at log grids rows) = Done at
 walkOf (refused why at log grids) = Stopped (why at)
 
 abbrev pub logBy : Reading → List ℕ
-logBy (going us at log grids rows left) = log
+logBy (going us at log grids rows) = log
 logBy (refused why at log grids) = log
 
 abbrev pub gridsBy : Reading → PerChannel
-gridsBy (going us at log grids rows left) = grids
+gridsBy (going us at log grids rows) = grids
 gridsBy (refused why at log grids) = grids
 
 -- what is handed back of a reading
@@ -92,7 +92,7 @@ rowFrom P x y = cornersRow (K P) (M P) (P .bw - x) x y (rowsFrom P (y + 1))
 
 -- the whole reading
 abbrev pub wholeOf : ℕ → ℕ → List ℕ → PassGroup → List ℕ → List ℕ → PerChannel → Reading
-wholeOf shift clusters presetMap P symbols log G = readGroup shift clusters presetMap P (varblocks P) (going symbols 0 log G zeroRows 0)
+wholeOf shift clusters presetMap P symbols log G = readGroup shift clusters presetMap P (varblocks P) (going symbols 0 log G zeroRows)
 
 -- the symbols of a planned varblock at most
 few-is : (P : PassGroup) (x y at₀ : ℕ) (p : Plan) → p ≡ planAt P x y → K P x y - 2 < 27 → at₀ + 192 * 2 ^ (p .shape .exponent) ≡ at₀ + 192 * (wide (K P x y - 2) * high (K P x y - 2))
@@ -157,8 +157,7 @@ module _ (P : PassGroup) (clusters presetMap shift log : ℕ) (r : GroupReady P 
 
 -- what is still due: the varblocks vs, from where the reading stands, give the whole
 pub record Due (shift clusters : ℕ) (presetMap : List ℕ) (P : PassGroup) (symbols : List ℕ) (most : ℕ) (whole : Reading) (vs : List layout.Varblock) (at₀ : ℕ) (rows : PerChannel) (log : List ℕ) (G : PerChannel) : Type 0 where
-  pub left : ℕ
-  pub due : readGroup shift clusters presetMap P vs (going (drop at₀ symbols) at₀ log G rows left) ≡ whole
+  pub due : readGroup shift clusters presetMap P vs (going (drop at₀ symbols) at₀ log G rows) ≡ whole
   pub three : length rows ≡ 3
   pub room : at₀ + 192 * area vs ≤ most
 
@@ -208,24 +207,23 @@ module _ (shift clusters : ℕ) (presetMap : List ℕ) (P : PassGroup) (symbols 
 
     module _ (x y : ℕ) (l : List layout.Varblock) (d : Dues (cornerAt P x y ∷ l) at₀ rows log G) (its : List Item) (is : its ≡ channelItems P (cornerAt P x y))
         (w : WalkEnd) (rows₁ : PerChannel) (log₁ : List ℕ) (G₁ : PerChannel) (few : ℕ) (le : few ≡ at₀ + 192 * (wide (K P x y - 2) * high (K P x y - 2)))
-        (shown : (left : ℕ) → Shown symbols few w rows₁ log₁ G₁ (readItems shift clusters presetMap its (going (drop at₀ symbols) at₀ log G rows left))) where
+        (shown : Shown symbols few w rows₁ log₁ G₁ (readItems shift clusters presetMap its (going (drop at₀ symbols) at₀ log G rows))) where
       abbrev R : Reading
-      R = readItems shift clusters presetMap its (going (drop at₀ symbols) at₀ log G rows (d .left))
+      R = readItems shift clusters presetMap its (going (drop at₀ symbols) at₀ log G rows)
 
       -- what follows the varblock gives the whole
       due-after : readGroup shift clusters presetMap P l R ≡ whole
       unfolding readGroup
-      due-after = ap (λ (i : List Item). readGroup shift clusters presetMap P l (readItems shift clusters presetMap i (going (drop at₀ symbols) at₀ log G rows (d .left)))) is ∙ d .due
+      due-after = ap (λ (i : List Item). readGroup shift clusters presetMap P l (readItems shift clusters presetMap i (going (drop at₀ symbols) at₀ log G rows))) is ∙ d .due
 
       -- the varblock was read
       due-step : isStopped w ≡ false → length rows₁ ≡ 3 → Dues l (readBy w) rows₁ log₁ G₁
       unfolding area
       due-step e three =
-          let o = shown-on symbols few w rows₁ log₁ G₁ R (shown (d .left)) e in
+          let o = shown-on symbols few w rows₁ log₁ G₁ R shown e in
           let m = d .room in
           let f = o .few in
           record {
-            left = o .left;
             due = ap (readGroup shift clusters presetMap P l) (sym (o .is)) ∙ due-after;
             three = three;
             room = omega arith;
@@ -233,10 +231,10 @@ module _ (shift clusters : ℕ) (presetMap : List ℕ) (P : PassGroup) (symbols 
 
       -- the reading stopped in it
       due-stop : isStopped w ≡ true → GroupShown w log₁ G₁ whole
-      due-stop e = go R refl (shown (d .left))
+      due-stop e = go R refl shown
         where
           go : (Q : Reading) → R ≡ Q → Shown symbols few w rows₁ log₁ G₁ Q → GroupShown w log₁ G₁ whole
-          go (going us at₁ log′ G′ rows′ left) q s = absurd (let a : isStopped w ≡ false = ap isStopped (s .it .answer) in let z : _≡_ {A = ℕ} 0 1 = cc in omega arith)
+          go (going us at₁ log′ G′ rows′) q s = absurd (let a : isStopped w ≡ false = ap isStopped (s .it .answer) in let z : _≡_ {A = ℕ} 0 1 = cc in omega arith)
           go (refused why at₁ log′ G′) q s =
               let f : refused why at₁ log′ G′ ≡ whole = sym (group-refused shift clusters presetMap P l why at₁ log′ G′) ∙ ap (readGroup shift clusters presetMap P l) (sym q) ∙ due-after in
               record { answer = s .it .answer ∙ ap walkOf f; logged = sym (s .it .logged) ∙ ap logBy f; cells = sym (s .it .cells) ∙ ap gridsBy f }
@@ -246,7 +244,7 @@ module _ (shift clusters : ℕ) (presetMap : List ℕ) (P : PassGroup) (symbols 
     unfolding cornersFrom readGroup
     due-end y h d =
         let e : P .bh - y ≡ 0 = omega arith in
-        let f : going (drop at₀ symbols) at₀ log G rows (d .left) ≡ whole = rw e at (d .due) in
+        let f : going (drop at₀ symbols) at₀ log G rows ≡ whole = rw e at (d .due) in
         record { answer = ap walkOf f; logged = ap logBy f; cells = ap gridsBy f }
 
 -- a corner of the group, planned as p
@@ -274,7 +272,7 @@ module _ (shift clusters : ℕ) (presetMap : List ℕ) (P : PassGroup) (symbols 
       )
 
   module _ (w : WalkEnd) (rows₁ : PerChannel) (log₁ : List ℕ) (G₁ : PerChannel)
-      (shown : (left : ℕ) → Shown symbols (at₀ + 192 * 2 ^ (p .shape .exponent)) w rows₁ log₁ G₁ (readItems shift clusters presetMap (itemsBy p (groupAt P) (P .store)) (going (drop at₀ symbols) at₀ log G rows left))) where
+      (shown : Shown symbols (at₀ + 192 * 2 ^ (p .shape .exponent)) w rows₁ log₁ G₁ (readItems shift clusters presetMap (itemsBy p (groupAt P) (P .store)) (going (drop at₀ symbols) at₀ log G rows))) where
     its : itemsBy p (groupAt P) (P .store) ≡ channelItems P (cornerAt P x y)
     its = ap (λ (q : Plan). itemsBy q (groupAt P) (P .store)) ep ∙ items-are P clusters (length presetMap) shift room ready x y hx hy corner
 
@@ -295,4 +293,4 @@ pub due-start : (shift clusters : ℕ) (presetMap : List ℕ) (P : PassGroup) (s
 due-start shift clusters presetMap P symbols log G lay =
     let e : P .bh - 0 ≡ P .bh = omega arith in
     let f = layout-area (P .bw) (P .bh) (P .kinds) (P .hfMul) lay in
-    record { left = 0; due = rw e; three = refl; room = rw e (omega arith) }
+    record { due = rw e; three = refl; room = rw e (omega arith) }

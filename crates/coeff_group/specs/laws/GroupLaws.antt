@@ -10,7 +10,7 @@ use Rattle.coeff_group.specs.Group.{PerChannel, Reading, going, refused,
 
 -- symbols read
 abbrev pub readOf : Reading → ℕ
-readOf (going us at log grids rows left) = at
+readOf (going us at log grids rows) = at
 readOf (refused why at log grids) = at
 
 module _ (shift clusters : ℕ) (presetMap : List ℕ) where

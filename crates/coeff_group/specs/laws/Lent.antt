@@ -16,6 +16,7 @@ use Rattle.order_store.specs.declared.Stretch.{Stretch}
 use Rattle.order_store.specs.Store.{PLACES, firstOf}
 use Rattle.order_store.specs.LookedUp.{stretchFrom, stretchAt}
 use Rattle.coeff_walk.specs.declared.WalkEnd.the-variants.{Stopped}
+use Rattle.coeff_walk.specs.laws.Used.{not-done}
 use Rattle.coeff_group.specs.declared.plan.Plan.{Plan}
 use Rattle.coeff_group.specs.Group.{PerChannel, Reading, going, refused, readItems}
 use Rattle.coeff_group.specs.laws.Rewritten.{three, VarblockShown}
@@ -45,11 +46,11 @@ varblockFits p group clusters presetMapLength listLength at shift logLength =
     && eqb listLength (128 * 2 ^ (p .shape .exponent))
     && leb (192 * 2 ^ (p .shape .exponent)) (logLength - at))
 
--- the reading of a varblock, `left` of the counts before being left over; nothing is read where what is lent does not fit
-abbrev pub plannedRead : Plan → GroupSides → (clusters : ℕ) (presetMap store : List ℕ) (rows : PerChannel) (symbols : List ℕ) (at shift : ℕ) (log : List ℕ) (G : PerChannel) (left : ℕ) → Reading
-plannedRead p group clusters presetMap store rows symbols at shift log G left =
+-- the reading of a varblock; nothing is read where what is lent does not fit
+abbrev pub plannedRead : Plan → GroupSides → (clusters : ℕ) (presetMap store : List ℕ) (rows : PerChannel) (symbols : List ℕ) (at shift : ℕ) (log : List ℕ) (G : PerChannel) → Reading
+plannedRead p group clusters presetMap store rows symbols at shift log G =
     cond (varblockFits p group clusters (length presetMap) (stretchAt (length store) (p .order) 0 .len) at shift (length log))
-    (readItems shift clusters presetMap (itemsBy p group store) (going (drop at symbols) at log G (three rows) left))
+    (readItems shift clusters presetMap (itemsBy p group store) (going (drop at symbols) at log G (three rows)))
     (refused (λ n. Length) at log G)
 
 -- a list that is not empty is there
@@ -165,15 +166,15 @@ module _ (p : Plan) (group : GroupSides) (clusters : ℕ) (presetMap store : Lis
   abbrev fitting : Bool
   fitting = varblockFits p group clusters (length presetMap) (stretchAt (length store) (p .order) 0 .len) at shift (length log)
 
-  abbrev whole : ℕ → Reading
-  whole left = readItems shift clusters presetMap (itemsBy p group store) (going (drop at symbols) at log G (three rows) left)
+  abbrev whole : Reading
+  whole = readItems shift clusters presetMap (itemsBy p group store) (going (drop at symbols) at log G (three rows))
 
-  pub varblock-refused : fitting ≡ false → (most left : ℕ) → VarblockShown p symbols most (Stopped Length) (0 ∷ 0 ∷ 0 ∷ []) rows log G (plannedRead p group clusters presetMap store rows symbols at shift log G left)
-  varblock-refused e most left = rw e (record { shown = record { it = record { answer = refl; logged = refl; cells = refl } }; none = λ stops. refl; counted = λ long. refl })
+  pub varblock-refused : fitting ≡ false → VarblockShown p symbols at (Stopped Length) (0 ∷ 0 ∷ 0 ∷ []) rows log G (plannedRead p group clusters presetMap store rows symbols at shift log G)
+  varblock-refused e = rw e (record { shown = record { it = record { answer = refl; logged = refl; cells = refl } }; used = λ to f. absurd (not-done Length to f); none = λ stops. refl; counted = λ long. refl })
 
-  pub varblock-reads : fitting ≡ true → (left : ℕ) → whole left ≡ plannedRead p group clusters presetMap store rows symbols at shift log G left
-  varblock-reads e left = rw e
+  pub varblock-reads : fitting ≡ true → whole ≡ plannedRead p group clusters presetMap store rows symbols at shift log G
+  varblock-reads e = rw e
 
   pub varblock-is : Planned p group clusters presetMap store shift → at + 192 * 2 ^ (p .shape .exponent) ≤ length log
-      → (left : ℕ) → plannedRead p group clusters presetMap store rows symbols at shift log G left ≡ whole left
-  varblock-is r m left = rw (planned-fits p group clusters presetMap store at shift (length log) r m)
+      → plannedRead p group clusters presetMap store rows symbols at shift log G ≡ whole
+  varblock-is r m = rw (planned-fits p group clusters presetMap store at shift (length log) r m)

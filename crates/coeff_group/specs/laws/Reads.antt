@@ -40,33 +40,32 @@ abbrev pub Sized : List Item → Type 0
 Sized its = (it : Item) → In it its → length (it .cells) ≡ 63 * it .blocks
 
 pub data End : Type 0 where
-  ends : (us : List ℕ) (rows : PerChannel) (left : ℕ) → End
+  ends : (us : List ℕ) (rows : PerChannel) → End
   stops : (why : ℕ → Refusal) → End
 
 abbrev pub readBy : End → ℕ → List ℕ → PerChannel → Reading
-readBy (ends us rows left) at log G = going us at log G rows left
+readBy (ends us rows) at log G = going us at log G rows
 readBy (stops why) at log G = refused why at log G
 
 abbrev pub longer : List ℕ → End → End
-longer vs (ends us rows left) = ends (us ++ vs) rows left
+longer vs (ends us rows) = ends (us ++ vs) rows
 longer vs (stops why) = stops why
 
 abbrev pub Goes : End → Type 0
-Goes (ends us rows left) = Unit
+Goes (ends us rows) = Unit
 Goes (stops why) = ⊥
 
--- of a reading that ended, with dss at the places and k symbols read: where no count has anything left, its symbols are those sent for dss
-pub record Taken (us : List ℕ) (left k : ℕ) (dss : List (List ℕ)) (us′ : List ℕ) (left′ : ℕ) : Type 0 where
+-- of a reading that ended, with dss at the places and k symbols read: its symbols are those sent for dss
+pub record Taken (us : List ℕ) (k : ℕ) (dss : List (List ℕ)) (us′ : List ℕ) : Type 0 where
   pub read : length us ≡ k + length us′
-  pub least : left ≤ left′
-  pub used : left′ ≡ left → us ≡ sent dss ++ us′
+  pub used : us ≡ sent dss ++ us′
   pub words : Words us → Words (joined dss)
 
-abbrev pub Tells : List ℕ → ℕ → ℕ → List (List ℕ) → End → Type 0
-Tells us left k dss (ends us′ rows left′) = Taken us left k dss us′ left′
-Tells us left k dss (stops why) = Stop (length us) k why
+abbrev pub Tells : List ℕ → ℕ → List (List ℕ) → End → Type 0
+Tells us k dss (ends us′ rows) = Taken us k dss us′
+Tells us k dss (stops why) = Stop (length us) k why
 
-pub record Reads (its : List Item) (us : List ℕ) (left : ℕ) (F : ℕ → ℕ → List ℕ → PerChannel → Reading) (F′ : List ℕ → ℕ → ℕ → List ℕ → PerChannel → Reading) : Type 0 where
+pub record Reads (its : List Item) (us : List ℕ) (F : ℕ → ℕ → List ℕ → PerChannel → Reading) (F′ : List ℕ → ℕ → ℕ → List ℕ → PerChannel → Reading) : Type 0 where
   pub clusters : List ℕ
   pub dss : List (List ℕ)
   pub end : End
@@ -75,7 +74,7 @@ pub record Reads (its : List Item) (us : List ℕ) (left : ℕ) (F : ℕ → ℕ
       → F′ vs s at log G ≡ readBy (longer vs end) (at + length clusters) (sets log at clusters) (adds s G (readCells its) (joined dss))
   pub all : Long its dss
   pub few : length clusters ≤ symbolsIn its
-  pub tells : Tells us left (length clusters) dss end
+  pub tells : Tells us (length clusters) dss end
 
 -- no symbol at any place
 abbrev nones : List Item → List (List ℕ)
@@ -106,9 +105,9 @@ adds-nones s (it ∷ its) G =
     ∙ rw (gains-none s (getD G (it .channel) []) (it .cells)) (set-getD G (it .channel) [])
 
 -- refused before the first place
-refused-here : (its : List Item) (us : List ℕ) (left : ℕ) (ks : List ℕ) (why : ℕ → Refusal) (F : ℕ → ℕ → List ℕ → PerChannel → Reading) (F′ : List ℕ → ℕ → ℕ → List ℕ → PerChannel → Reading)
-    → ((s at : ℕ) (log : List ℕ) (G : PerChannel) → F s at log G ≡ refused why (at + length ks) (sets log at ks) G) → length ks ≤ symbolsIn its → Stop (length us) (length ks) why → Reads its us left F F′
-refused-here its us left ks why F F′ e f t = record {
+refused-here : (its : List Item) (us : List ℕ) (ks : List ℕ) (why : ℕ → Refusal) (F : ℕ → ℕ → List ℕ → PerChannel → Reading) (F′ : List ℕ → ℕ → ℕ → List ℕ → PerChannel → Reading)
+    → ((s at : ℕ) (log : List ℕ) (G : PerChannel) → F s at log G ≡ refused why (at + length ks) (sets log at ks) G) → length ks ≤ symbolsIn its → Stop (length us) (length ks) why → Reads its us F F′
+refused-here its us ks why F F′ e f t = record {
   clusters = ks;
   dss = nones its;
   end = stops why;
@@ -119,18 +118,16 @@ refused-here its us left ks why F F′ e f t = record {
   tells = t;
 }
 
-tells-on : (n k₁ left m k : ℕ) (us ds us₁ : List ℕ) (dss : List (List ℕ)) (e : End) → walks.Taken n us m ds us₁ k₁ → Tells us₁ (left + k₁) k dss e → Tells (n ∷ us) left (suc (m + k)) (ds ∷ dss) e
+tells-on : (n m k : ℕ) (us ds us₁ : List ℕ) (dss : List (List ℕ)) (e : End) → walks.Taken n us m ds us₁ → Tells us₁ k dss e → Tells (n ∷ us) (suc (m + k)) (ds ∷ dss) e
 unfolding sent
-tells-on n k₁ left m k us ds us₁ dss (ends us′ rows left′) w t =
-    let a = w .read in let b = t .read in let c = t .least in
+tells-on n m k us ds us₁ dss (ends us′ rows) w t =
+    let a = w .read in let b = t .read in
     record {
       read = omega arith;
-      least = omega arith;
-      used = λ e. let d = w .due in let z : n ≡ nonZeros ds = omega arith in
-          ap₂ (λ (i : ℕ) (l : List ℕ). i ∷ l) z (w .rest ∙ rw (z, t .used (omega arith)) (sym (append-assoc (upTo (nonZeros ds) ds) (sent dss) us′)));
+      used = ap₂ (λ (i : ℕ) (l : List ℕ). i ∷ l) (w .due) (w .rest ∙ rw (w .due, t .used) (sym (append-assoc (upTo (nonZeros ds) ds) (sent dss) us′)));
       words = λ h. let q = w .words (h .1) in words-both ds (joined dss) (q .0) (t .words (q .1));
     }
-tells-on n k₁ left m k us ds us₁ dss (stops why) w t =
+tells-on n m k us ds us₁ dss (stops why) w t =
     walks.stop-later (suc m) (length us₁) k (suc (length us)) (suc (m + k)) why (omega (arith, w .read)) (omega arith) t
 
 module _ (clusters : ℕ) (presetMap : List ℕ) where
@@ -140,10 +137,10 @@ module _ (clusters : ℕ) (presetMap : List ℕ) where
   read-refused s (it ∷ its) why at log G = read-refused s its why at log G
 
   abbrev Claim : List Item → Type 0
-  Claim its = (us : List ℕ) (rows : PerChannel) (left : ℕ)
-      → Reads its us left (λ s at log G. readItems s clusters presetMap its (going us at log G rows left)) (λ vs s at log G. readItems s clusters presetMap its (going (us ++ vs) at log G rows left))
+  Claim its = (us : List ℕ) (rows : PerChannel)
+      → Reads its us (λ s at log G. readItems s clusters presetMap its (going us at log G rows)) (λ vs s at log G. readItems s clusters presetMap its (going (us ++ vs) at log G rows))
 
-  module _ (it : Item) (its : List Item) (ih : Claim its) (n : ℕ) (us : List ℕ) (rows : PerChannel) (left : ℕ) where
+  module _ (it : Item) (its : List Item) (ih : Claim its) (n : ℕ) (us : List ℕ) (rows : PerChannel) where
     abbrev c : ℕ
     c = it .channel
 
@@ -157,7 +154,7 @@ module _ (clusters : ℕ) (presetMap : List ℕ) where
     W vs s at log g = walk s (it .blocks) (coeffMapOf clusters presetMap it) (it .cells) 0 (cond (leb n (4 * it .blocks)) 1 0) n vs at log g
 
     abbrev on : (b : Bool) → List ℕ → ℕ → ℕ → List ℕ → PerChannel → Reading
-    on b vs s at log G = readItems s clusters presetMap its (after c G rows₁ left (cond b (W vs s (at + 1) (set log at k) (getD G c [])) (stopped Count (at + 1) (set log at k) (getD G c []))))
+    on b vs s at log G = readItems s clusters presetMap its (after c G rows₁ (cond b (W vs s (at + 1) (set log at k) (getD G c [])) (stopped Count (at + 1) (set log at k) (getD G c []))))
 
     module _ (ks ds : List ℕ) (long : length ds ≡ length (it .cells)) where
       grids : ℕ → PerChannel → PerChannel
@@ -172,14 +169,14 @@ module _ (clusters : ℕ) (presetMap : List ℕ) where
 
       by-end : (e : walks.End) → ((s at : ℕ) (log g : List ℕ) → W us s at log g ≡ walks.walkedBy e (at + length ks) (sets log at ks) (gains s g (it .cells) ds))
           → (walks.Goes e → (vs : List ℕ) (s at : ℕ) (log g : List ℕ) → W (us ++ vs) s at log g ≡ walks.walkedBy (walks.longer vs e) (at + length ks) (sets log at ks) (gains s g (it .cells) ds))
-          → length ks ≤ length (it .cells) → walks.Tells n us (length ks) ds e → Reads (it ∷ its) (n ∷ us) left (on true us) (λ vs. on true (us ++ vs))
+          → length ks ≤ length (it .cells) → walks.Tells n us (length ks) ds e → Reads (it ∷ its) (n ∷ us) (on true us) (λ vs. on true (us ++ vs))
       by-end (walks.stops why) is further few t = record {
         clusters = k ∷ ks;
         dss = ds ∷ nones its;
         end = stops why;
         is = λ s at log G.
             let z : at + 1 + length ks ≡ at + suc (length ks) = omega arith in
-            ap (λ (w : Walked). readItems s clusters presetMap its (after c G rows₁ left w)) (is s (at + 1) (set log at k) (getD G c []))
+            ap (λ (w : Walked). readItems s clusters presetMap its (after c G rows₁ w)) (is s (at + 1) (set log at k) (getD G c []))
             ∙ read-refused s its why (at + 1 + length ks) (sets (set log at k) (at + 1) ks) (set G c (gains s (getD G c []) (it .cells) ds))
             ∙ rw (z, add-one at) (ap (refused why (at + suc (length ks)) (sets (set log at k) (suc at) ks))
             (sym (adds-nones s its (set G c (gains s (getD G c []) (it .cells) ds))) ∙ cells-step s it its G ds (joined (nones its)) long));
@@ -188,80 +185,79 @@ module _ (clusters : ℕ) (presetMap : List ℕ) where
         few = omega arith;
         tells = walks.stop-later 1 (length us) (length ks) (suc (length us)) (suc (length ks)) why (omega arith) (omega arith) t;
       }
-      by-end (walks.ends us₁ k₁) is further few t =
-          let q = ih us₁ rows₁ (left + k₁) in
+      by-end (walks.ends us₁) is further few t =
+          let q = ih us₁ rows₁ in
           let m = q .few in
           record {
             clusters = k ∷ (ks ++ q .clusters);
             dss = ds ∷ q .dss;
             end = q .end;
             is = λ s at log G.
-                ap (λ (w : Walked). readItems s clusters presetMap its (after c G rows₁ left w)) (is s (at + 1) (set log at k) (getD G c []))
+                ap (λ (w : Walked). readItems s clusters presetMap its (after c G rows₁ w)) (is s (at + 1) (set log at k) (getD G c []))
                 ∙ q .is s (at + 1 + length ks) (sets (set log at k) (at + 1) ks) (set G c (gains s (getD G c []) (it .cells) ds)) ∙ both s at log G (q .end) (q .clusters) (joined (q .dss));
             further = λ h vs s at log G.
-                ap (λ (w : Walked). readItems s clusters presetMap its (after c G rows₁ left w)) (further tt vs s (at + 1) (set log at k) (getD G c []))
+                ap (λ (w : Walked). readItems s clusters presetMap its (after c G rows₁ w)) (further tt vs s (at + 1) (set log at k) (getD G c []))
                 ∙ q .further h vs s (at + 1 + length ks) (sets (set log at k) (at + 1) ks) (set G c (gains s (getD G c []) (it .cells) ds)) ∙ both s at log G (longer vs (q .end)) (q .clusters) (joined (q .dss));
             all = (long, q .all);
             few = omega (arith, length-append ks (q .clusters));
-            tells = rw (length-append ks (q .clusters)) (tells-on n k₁ left (length ks) (length (q .clusters)) us ds us₁ (q .dss) (q .end) t (q .tells));
+            tells = rw (length-append ks (q .clusters)) (tells-on n (length ks) (length (q .clusters)) us ds us₁ (q .dss) (q .end) t (q .tells));
           }
 
-    by-count : (b : Bool) → Reads (it ∷ its) (n ∷ us) left (on b us) (λ vs. on b (us ++ vs))
+    by-count : (b : Bool) → Reads (it ∷ its) (n ∷ us) (on b us) (λ vs. on b (us ++ vs))
     by-count true =
         let r = run (it .blocks) (coeffMapOf clusters presetMap it) (it .cells) 0 (cond (leb n (4 * it .blocks)) 1 0) n us in
         by-end (r .clusters) (r .ds) (r .all) (r .end) (r .is) (r .further) (r .few) (r .tells)
     by-count false =
-        refused-here (it ∷ its) (n ∷ us) left (k ∷ []) Count _ _
+        refused-here (it ∷ its) (n ∷ us) (k ∷ []) Count _ _
         (λ s at log G. read-refused s its Count (at + 1) (set log at k) (set G c (getD G c [])) ∙ ap (refused Count (at + 1) (set log at k)) (set-getD G c [])) (omega arith)
         (walks.count refl (omega arith))
 
   next : (it : Item) (its : List Item) → Claim its → Claim (it ∷ its)
   unfolding readItems readItem counted
-  next it its ih [] rows left =
-      refused-here (it ∷ its) [] left [] SymbolsEnd _ _
+  next it its ih [] rows =
+      refused-here (it ∷ its) [] [] SymbolsEnd _ _
       (λ s at log G. let z : at + 0 ≡ at = omega arith in
       read-refused s its SymbolsEnd at log (set G (it .channel) (getD G (it .channel) [])) ∙ rw z (ap (refused SymbolsEnd at log) (set-getD G (it .channel) []))) (omega arith) (walks.symbolsEnd refl refl)
-  next it its ih (n ∷ us) rows left = by-count it its ih n us rows left (leb n (63 * it .blocks))
+  next it its ih (n ∷ us) rows = by-count it its ih n us rows (leb n (63 * it .blocks))
 
   pub reads : (its : List Item) → Claim its
   unfolding readItems readCells sent
-  reads [] us rows left =
+  reads [] us rows =
       record {
         clusters = [];
         dss = [];
-        end = ends us rows left;
+        end = ends us rows;
         is = λ s at log G. let z : at + 0 ≡ at = omega arith in rw z;
         further = λ h vs s at log G. let z : at + 0 ≡ at = omega arith in rw z;
         all = tt;
         few = omega arith;
-        tells = record { read = omega arith; least = omega arith; used = λ e. refl; words = λ h. tt };
+        tells = record { read = omega arith; used = refl; words = λ h. tt };
       }
-  reads (it ∷ its) us rows left = next it its (reads its) us rows left
+  reads (it ∷ its) us rows = next it its (reads its) us rows
 
   -- Symbols that are sent are read.
-  pub record Sent (its : List Item) (dss : List (List ℕ)) (s at : ℕ) (log : List ℕ) (G rows : PerChannel) (left : ℕ) : Type 0 where
+  pub record Sent (its : List Item) (dss : List (List ℕ)) (s at : ℕ) (log : List ℕ) (G rows : PerChannel) : Type 0 where
     pub at′ : ℕ
     pub log′ : List ℕ
     pub rows′ : PerChannel
-    pub is : readItems s clusters presetMap its (going (sent dss) at log G rows left) ≡ going [] at′ log′ (adds s G (readCells its) (joined dss)) rows′ left
+    pub is : readItems s clusters presetMap its (going (sent dss) at log G rows) ≡ going [] at′ log′ (adds s G (readCells its) (joined dss)) rows′
 
-  pub read-sent : (its : List Item) (dss : List (List ℕ)) → Long its dss → Sized its → (s at : ℕ) (log : List ℕ) (G rows : PerChannel) (left : ℕ) → Sent its dss s at log G rows left
+  pub read-sent : (its : List Item) (dss : List (List ℕ)) → Long its dss → Sized its → (s at : ℕ) (log : List ℕ) (G rows : PerChannel) → Sent its dss s at log G rows
   unfolding readItems readItem counted sent
-  read-sent [] [] l z s at log G rows left = record { at′ = at; log′ = log; rows′ = rows; is = refl }
-  read-sent [] (ds ∷ dss) l z s at log G rows left = absurd l
-  read-sent (it ∷ its) [] l z s at log G rows left = absurd l
-  read-sent (it ∷ its) (ds ∷ dss) l z s at log G rows left =
+  read-sent [] [] l z s at log G rows = record { at′ = at; log′ = log; rows′ = rows; is = refl }
+  read-sent [] (ds ∷ dss) l z s at log G rows = absurd l
+  read-sent (it ∷ its) [] l z s at log G rows = absurd l
+  read-sent (it ∷ its) (ds ∷ dss) l z s at log G rows =
       let c = it .channel in
       let n = nonZeros ds in
       let a = l .0 in let b = z it (here refl) in
       let w = walk-sent s (it .blocks) (coeffMapOf clusters presetMap it) (it .cells) ds 0 (cond (leb n (4 * it .blocks)) 1 0) n (sent dss) (at + 1)
       (set log at (countCluster clusters presetMap it (getD rows c []))) (getD G c []) a refl (omega arith) (few-le n (4 * it .blocks)) in
       let H = set G c (gains s (getD G c []) (it .cells) ds) in
-      let r = read-sent its dss (l .1) (λ t i. z t (there i)) s (w .at′) (w .log′) H (set rows c (newRow it (getD rows c []) (n ∷ []))) left in
-      let e : left + 0 ≡ left = omega arith in
+      let r = read-sent its dss (l .1) (λ t i. z t (there i)) s (w .at′) (w .log′) H (set rows c (newRow it (getD rows c []) (n ∷ []))) in
       record {
         at′ = r .at′;
         log′ = r .log′;
         rows′ = r .rows′;
-        is = rw (le-leb n (63 * it .blocks) (omega (arith, nonZeros-le ds)), w .is, e) (r .is ∙ ap (λ (X : PerChannel). going [] (r .at′) (r .log′) X (r .rows′) left) (cells-step s it its G ds (joined dss) a));
+        is = rw (le-leb n (63 * it .blocks) (omega (arith, nonZeros-le ds)), w .is) (r .is ∙ ap (λ (X : PerChannel). going [] (r .at′) (r .log′) X (r .rows′)) (cells-step s it its G ds (joined dss) a));
       }

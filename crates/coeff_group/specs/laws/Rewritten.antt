@@ -2,12 +2,13 @@
 use mathlib.Core.Path.{_≡_, refl, ap, sym, subst, _∙_}
 use mathlib.Core.Bool.{Bool, true, false, true≢false}
 use mathlib.Core.List.{List, [], _∷_}
-use Prim.Native.Nat.{ℕ, zero, suc, _+_, _≤_, _<_}
+use Prim.Native.Nat.{ℕ, zero, suc, _+_, _*_, _^_, _≤_, _<_}
 use native.Mathlib.Omega.{arith}
 use lib.ListN.{length, getD, set}
 use lib.Seq.{getD-set-same, getD-set-other}
 use Rattle.coeff_walk.specs.declared.WalkEnd.{WalkEnd}
 use Rattle.coeff_walk.specs.laws.Outcome.{isStopped}
+use Rattle.coeff_walk.specs.UsedUp.{CountsUsed}
 use Rattle.laws.specs.Lists.{fillFrom}
 use Rattle.coeff_group.specs.declared.plan.Plan.{Plan}
 use Rattle.coeff_group.specs.Group.{PerChannel, Reading, going, refused}
@@ -27,12 +28,14 @@ rewritten p countsOver rows (suc n) =
 
 -- what the counts of channels 0, 1, 2 come to over a varblock's blocks: what its reading leaves in their rows at its x x; 0 beside a refusal
 abbrev pub countsBy : ℕ → Reading → List ℕ
-countsBy x (going us at log grids rows left) = getD (getD rows 0 []) x 0 ∷ getD (getD rows 1 []) x 0 ∷ getD (getD rows 2 []) x 0 ∷ []
+countsBy x (going us at log grids rows) = getD (getD rows 0 []) x 0 ∷ getD (getD rows 1 []) x 0 ∷ getD (getD rows 2 []) x 0 ∷ []
 countsBy x (refused why at log grids) = 0 ∷ 0 ∷ 0 ∷ []
 
--- what the reading R of a varblock hands back: how it ended, the counts, log and grids; the rows are rewritten by the counts
-pub record VarblockShown (p : Plan) (symbols : List ℕ) (most : ℕ) (w : WalkEnd) (countsOver : List ℕ) (rows : PerChannel) (log : List ℕ) (G : PerChannel) (R : Reading) : Type 0 where
-  pub shown : Shown symbols most w (rewritten p countsOver rows 3) log G R
+-- what the reading R of a varblock, behind `at` symbols, hands back: how it ended, the counts, log and grids; the rows are rewritten by the counts
+pub record VarblockShown (p : Plan) (symbols : List ℕ) (at : ℕ) (w : WalkEnd) (countsOver : List ℕ) (rows : PerChannel) (log : List ℕ) (G : PerChannel) (R : Reading) : Type 0 where
+  pub shown : Shown symbols (at + 192 * 2 ^ (p .shape .exponent)) w (rewritten p countsOver rows 3) log G R
+  -- each channel's count is used up
+  pub used : CountsUsed 3 symbols at w
   pub none : isStopped w ≡ true → countsOver ≡ 0 ∷ 0 ∷ 0 ∷ []
   -- of rows that have a number in that x, as rows of 32 do
   pub counted : ((c : ℕ) → c < 3 → p .shape .x < length (getD rows c [])) → countsOver ≡ countsBy (p .shape .x) R
@@ -69,7 +72,7 @@ row-first row x (suc n) v h l = row-before (set row x v) (x + 1) n v x (omega ar
 module _ (p : Plan) (symbols : List ℕ) (most : ℕ) (w : WalkEnd) (log : List ℕ) (G : PerChannel) where
   pub counts-none : (rows : PerChannel) (R : Reading) → Shown symbols most w rows log G R → isStopped w ≡ true → 0 ∷ 0 ∷ 0 ∷ [] ≡ countsBy (p .shape .x) R
   counts-none rows (refused why at log′ G′) s e = refl
-  counts-none rows (going us at log′ G′ rows′ left) s e = absurd (let f = s .it .answer in let z : _≡_ {A = Bool} true false = sym e ∙ ap isStopped f in true≢false z)
+  counts-none rows (going us at log′ G′ rows′) s e = absurd (let f = s .it .answer in let z : _≡_ {A = Bool} true false = sym e ∙ ap isStopped f in true≢false z)
 
   module _ (countsOver : List ℕ) (rows : PerChannel) (some : 1 ≤ p .shape .wide) (inside : (c : ℕ) → c < 3 → p .shape .x < length (getD rows c [])) where
     at-x : (c : ℕ) → c < 3 → getD (fillFrom (getD rows c []) (p .shape .x) (p .shape .wide) (getD countsOver c 0)) (p .shape .x) 0 ≡ getD countsOver c 0
@@ -84,7 +87,7 @@ module _ (p : Plan) (symbols : List ℕ) (most : ℕ) (w : WalkEnd) (log : List 
 
     pub counts-read : (R : Reading) → length countsOver ≡ 3 → Shown symbols most w (rewritten p countsOver rows 3) log G R → isStopped w ≡ false → countsOver ≡ countsBy (p .shape .x) R
     counts-read (refused why at log′ G′) e s f = absurd (let g = s .it .answer in let z : _≡_ {A = Bool} true false = sym (ap isStopped g) ∙ f in true≢false z)
-    counts-read (going us at log′ G′ rows′ left) e s f =
+    counts-read (going us at log′ G′ rows′) e s f =
         rw (s .it .counts, at-x 0 (omega arith), at-x 1 (omega arith), at-x 2 (omega arith)) (listed countsOver e)
 
 -- three rows as a list of three

@@ -17,24 +17,24 @@ use Rattle.coeff_group.specs.laws.Channels.{shown-stopped}
 
 module _ (p : Plan) (group : GroupSides) (clusters : ℕ) (presetMap store : List ℕ) (rows : PerChannel) (symbols : List ℕ) (at shift : ℕ) (log : List ℕ) (G : PerChannel)
     (planned : Planned p group clusters presetMap store shift) (room : at + 192 * 2 ^ (p .shape .exponent) ≤ length log) (three : length rows ≡ 3) (w : WalkEnd) (counts log₁ : List ℕ) (G₁ : PerChannel)
-    (told : (left : ℕ) → VarblockShown p symbols (at + 192 * 2 ^ (p .shape .exponent)) w counts rows log₁ G₁ (plannedRead p group clusters presetMap store rows symbols at shift log G left)) where
+    (told : VarblockShown p symbols at w counts rows log₁ G₁ (plannedRead p group clusters presetMap store rows symbols at shift log G)) where
   abbrev most : ℕ
   most = at + 192 * 2 ^ (p .shape .exponent)
 
-  abbrev whole : ℕ → Reading
-  whole left = readItems shift clusters presetMap (itemsBy p group store) (going (drop at symbols) at log G rows left)
+  abbrev whole : Reading
+  whole = readItems shift clusters presetMap (itemsBy p group store) (going (drop at symbols) at log G rows)
 
-  shown : (left : ℕ) → Shown symbols most w (rewritten p counts rows 3) log₁ G₁ (whole left)
-  shown left =
+  shown : Shown symbols most w (rewritten p counts rows 3) log₁ G₁ whole
+  shown =
       subst (Shown symbols most w (rewritten p counts rows 3) log₁ G₁)
-      (varblock-is p group clusters presetMap store rows symbols at shift log G planned room left
-      ∙ ap (λ (r : PerChannel). readItems shift clusters presetMap (itemsBy p group store) (going (drop at symbols) at log G r left)) (three-is rows three))
-      (told left .shown)
+      (varblock-is p group clusters presetMap store rows symbols at shift log G planned room
+      ∙ ap (λ (r : PerChannel). readItems shift clusters presetMap (itemsBy p group store) (going (drop at symbols) at log G r)) (three-is rows three))
+      (told .shown)
 
   -- the reading stopped in it
-  pub step-stops : isStopped w ≡ true → (left : ℕ) → Shown symbols most w rows log₁ G₁ (whole left)
-  step-stops e left = shown-stopped symbols most w (rewritten p counts rows 3) rows log₁ G₁ (whole left) (shown left) e
+  pub step-stops : isStopped w ≡ true → Shown symbols most w rows log₁ G₁ whole
+  step-stops e = shown-stopped symbols most w (rewritten p counts rows 3) rows log₁ G₁ whole shown e
 
   -- it was read
-  pub step-goes : (rows₁ : PerChannel) → rows₁ ≡ rewritten p counts rows 3 → (length rows₁ ≡ 3) × ((left : ℕ) → Shown symbols most w rows₁ log₁ G₁ (whole left))
-  step-goes rows₁ e = (ap length e, λ left. subst (λ (r : PerChannel). Shown symbols most w r log₁ G₁ (whole left)) (sym e) (shown left))
+  pub step-goes : (rows₁ : PerChannel) → rows₁ ≡ rewritten p counts rows 3 → (length rows₁ ≡ 3) × Shown symbols most w rows₁ log₁ G₁ whole
+  step-goes rows₁ e = (ap length e, subst (λ (r : PerChannel). Shown symbols most w r log₁ G₁ whole) (sym e) shown)

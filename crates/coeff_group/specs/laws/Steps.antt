@@ -37,7 +37,7 @@ pub record Ends (w : WalkEnd) (log : List ℕ) (G : PerChannel) (why : ℕ → R
   pub cells : G′ ≡ G
 
 abbrev pub ShownBy : List ℕ → ℕ → WalkEnd → PerChannel → List ℕ → PerChannel → Reading → Type 0
-ShownBy symbols most w rows log G (going us at log′ G′ rows′ left) = Going symbols most w rows log G us at log′ G′ rows′
+ShownBy symbols most w rows log G (going us at log′ G′ rows′) = Going symbols most w rows log G us at log′ G′ rows′
 ShownBy symbols most w rows log G (refused why at log′ G′) = Ends w log G why at log′ G′
 
 -- what the code holds of a reading

@@ -8,6 +8,7 @@ use lib.ListN.{length}
 use Rattle.coeff_walk.specs.Walk.{FREQ, NUM-NONZERO}
 use Rattle.coeff_walk.specs.laws.Counts.{shifted-left}
 use Rattle.coeff_walk.specs.laws.Lent.{lentFits, fits-ready}
+use Rattle.coeff_walk.specs.laws.Used.{not-done}
 use Rattle.coeff_places.proofs.read_places.Statement.{statement}
 use Rattle.coeff_places.proofs.read_places.Tie as tie
 
@@ -27,13 +28,13 @@ below : (c : tie.Else2) → to-start (c .before .before) .args .count ≤ 63 * 2
 below c = omega (arith, c .if2 .left, shifted-left 63 (to-start (c .before .before) .args .spot .exponent) (omega arith) (small (c .before .before)))
 
 returns : tie.Need-returns
-returns c = rw (sym (c .before .lent-fits .ensures) ∙ not-true (c .before .lent-fits .result) (c .if1 .taken)) (record { answer = refl; logged = refl; cells = refl })
+returns c = rw (sym (c .before .lent-fits .ensures) ∙ not-true (c .before .lent-fits .result) (c .if1 .taken)) (record { answer = refl; logged = refl; cells = refl }, λ to f. absurd (not-done _ to f))
 
 returns-2 : tie.Need-returns-2
 returns-2 c =
     let a = to-start (c .before .before) .args in
     rw (fitting (c .before .before), lt-leb (a .count) (63 * 2 ^ (a .spot .exponent)) (omega (arith, c .if2 .taken, shifted-left 63 (a .spot .exponent) (omega arith) (small (c .before .before)))))
-    (record { answer = refl; logged = refl; cells = refl })
+    (record { answer = refl; logged = refl; cells = refl }, λ to f. absurd (not-done _ to f))
 
 walk-places-requires : tie.Need-walk-places-requires
 unfolding NUM-NONZERO FREQ
@@ -44,7 +45,7 @@ walk-places-requires c κs =
 returns-3 : tie.Need-returns-3
 returns-3 c =
     let a = to-start (c .before .before .before .before .before .before .before .before .before .before .before .before) .args in
-    rw (fitting (c .before .before .before .before .before .before .before .before .before .before .before .before), le-leb (a .count) (63 * 2 ^ (a .spot .exponent)) (below (c .before .before .before .before .before .before .before .before .before .before)), sym (c .before .before .before .before .before .before .before .to-usize .ensures .0)) (c .before .before .before .before .walk-places .ensures)
+    rw (fitting (c .before .before .before .before .before .before .before .before .before .before .before .before), le-leb (a .count) (63 * 2 ^ (a .spot .exponent)) (below (c .before .before .before .before .before .before .before .before .before .before)), sym (c .before .before .before .before .before .before .before .to-usize .ensures .0)) (c .before .before .before .before .walk-places .ensures .0, c .before .before .before .before .walk-places .ensures .1)
 
 pub read-places-spec : {M : Type 1} → statement M
 read-places-spec =

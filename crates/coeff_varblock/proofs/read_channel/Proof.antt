@@ -33,7 +33,7 @@ count-read c =
     let a = to-start (to-list-of (to-read-in-grid (c .before .before .before)) .before .before .before) .args in
     let w = to-read-in-grid (c .before .before .before) .read-in-grid in
     let z = w .last .1 .1 .1 .1 .1 .1 .1 .1 .1 .1 .1 in
-    channel-count (a .t3) (a .group) (a .clusters) (a .preset-map .now) (a .store .now) (a .symbols .now) (a .shift) (to-start (to-list-of (to-read-in-grid (c .before .before .before)) .before .before .before) .pre .2) (a .n) (a .at) (a .rows .now) (a .log .now) (a .g0 .now ∷ a .g1 .now ∷ a .g2 .now ∷ []) (to-start (to-list-of (to-read-in-grid (c .before .before .before)) .before .before .before) .pre .0) (to-start (to-list-of (to-read-in-grid (c .before .before .before)) .before .before .before) .pre .3) (to-list-of (to-read-in-grid (c .before .before .before)) .before .before .before .channel-walked .result) (to-list-of (to-read-in-grid (c .before .before .before)) .before .before .before .channel-walked .ensures .0) (to-list-of (to-read-in-grid (c .before .before .before)) .before .before .before .channel-walked .ensures .1) (to-list-of (to-read-in-grid (c .before .before .before)) .list-of .result .now) (list-at (to-list-of (to-read-in-grid (c .before .before .before)))) (w .result) (z .0) (z .1 .0 ∷ z .1 .1 .0 ∷ z .1 .1 .1 .0 ∷ []) (w .ensures) (sym (c .before .is-stopped .ensures) ∙ c .if1 .left)
+    channel-count (a .t3) (a .group) (a .clusters) (a .preset-map .now) (a .store .now) (a .symbols .now) (a .shift) (to-start (to-list-of (to-read-in-grid (c .before .before .before)) .before .before .before) .pre .2) (a .n) (a .at) (a .rows .now) (a .log .now) (a .g0 .now ∷ a .g1 .now ∷ a .g2 .now ∷ []) (to-start (to-list-of (to-read-in-grid (c .before .before .before)) .before .before .before) .pre .0) (to-start (to-list-of (to-read-in-grid (c .before .before .before)) .before .before .before) .pre .3) (to-list-of (to-read-in-grid (c .before .before .before)) .before .before .before .channel-walked .result) (to-list-of (to-read-in-grid (c .before .before .before)) .before .before .before .channel-walked .ensures .0) (to-list-of (to-read-in-grid (c .before .before .before)) .before .before .before .channel-walked .ensures .1) (to-list-of (to-read-in-grid (c .before .before .before)) .list-of .result .now) (list-at (to-list-of (to-read-in-grid (c .before .before .before)))) (w .result) (z .0) (z .1 .0 ∷ z .1 .1 .0 ∷ z .1 .1 .1 .0 ∷ []) (w .ensures .0) (sym (c .before .is-stopped .ensures) ∙ c .if1 .left)
 
 list-of-requires : tie.Need-list-of-requires
 list-of-requires c κs = let a = to-start (c .before .before) .args in (c .before .before .channel-walked .ensures .0, lists-end (a .store .now) (to-start (c .before .before) .pre .2 .whole) (a .t3 .order) (to-start (c .before .before) .pre .2 .listed) (a .lists) (to-start (c .before .before) .pre .1))
@@ -46,7 +46,7 @@ returns c =
     let a = to-start (to-list-of (to-read-in-grid (c .before .before .before)) .before .before .before) .args in
     let w = to-read-in-grid (c .before .before .before) .read-in-grid in
     let z = w .last .1 .1 .1 .1 .1 .1 .1 .1 .1 .1 .1 in
-    channel-stops (a .t3) (a .group) (a .clusters) (a .preset-map .now) (a .store .now) (a .symbols .now) (a .shift) (to-start (to-list-of (to-read-in-grid (c .before .before .before)) .before .before .before) .pre .2) (a .n) (a .at) (a .rows .now) (a .log .now) (a .g0 .now ∷ a .g1 .now ∷ a .g2 .now ∷ []) (to-start (to-list-of (to-read-in-grid (c .before .before .before)) .before .before .before) .pre .0) (to-start (to-list-of (to-read-in-grid (c .before .before .before)) .before .before .before) .pre .3) (to-list-of (to-read-in-grid (c .before .before .before)) .before .before .before .channel-walked .result) (to-list-of (to-read-in-grid (c .before .before .before)) .before .before .before .channel-walked .ensures .0) (to-list-of (to-read-in-grid (c .before .before .before)) .before .before .before .channel-walked .ensures .1) (to-list-of (to-read-in-grid (c .before .before .before)) .list-of .result .now) (list-at (to-list-of (to-read-in-grid (c .before .before .before)))) (w .result) (z .0) (z .1 .0 ∷ z .1 .1 .0 ∷ z .1 .1 .1 .0 ∷ []) (w .ensures) (sym (c .before .is-stopped .ensures) ∙ c .if1 .taken) 0
+    channel-stops (a .t3) (a .group) (a .clusters) (a .preset-map .now) (a .store .now) (a .symbols .now) (a .shift) (to-start (to-list-of (to-read-in-grid (c .before .before .before)) .before .before .before) .pre .2) (a .n) (a .at) (a .rows .now) (a .log .now) (a .g0 .now ∷ a .g1 .now ∷ a .g2 .now ∷ []) (to-start (to-list-of (to-read-in-grid (c .before .before .before)) .before .before .before) .pre .0) (to-start (to-list-of (to-read-in-grid (c .before .before .before)) .before .before .before) .pre .3) (to-list-of (to-read-in-grid (c .before .before .before)) .before .before .before .channel-walked .result) (to-list-of (to-read-in-grid (c .before .before .before)) .before .before .before .channel-walked .ensures .0) (to-list-of (to-read-in-grid (c .before .before .before)) .before .before .before .channel-walked .ensures .1) (to-list-of (to-read-in-grid (c .before .before .before)) .list-of .result .now) (list-at (to-list-of (to-read-in-grid (c .before .before .before)))) (w .result) (z .0) (z .1 .0 ∷ z .1 .1 .0 ∷ z .1 .1 .1 .0 ∷ []) (w .ensures .0) (w .ensures .1) (sym (c .before .is-stopped .ensures) ∙ c .if1 .taken) 0
 
 mul-to-usize : tie.Need-mul-to-usize
 mul-to-usize c = omega (arith, count-read c .0, to-start (to-list-of (to-read-in-grid (c .before .before .before)) .before .before .before) .good, to-start (to-list-of (to-read-in-grid (c .before .before .before)) .before .before .before) .fits)
@@ -59,7 +59,7 @@ returns-2 c =
     let a = to-start (to-list-of (to-read-in-grid (c .before .before .before .before .before .before)) .before .before .before) .args in
     let w = to-read-in-grid (c .before .before .before .before .before .before) .read-in-grid in
     let z = w .last .1 .1 .1 .1 .1 .1 .1 .1 .1 .1 .1 in
-    channel-goes (a .t3) (a .group) (a .clusters) (a .preset-map .now) (a .store .now) (a .symbols .now) (a .shift) (to-start (to-list-of (to-read-in-grid (c .before .before .before .before .before .before)) .before .before .before) .pre .2) (a .n) (a .at) (a .rows .now) (a .log .now) (a .g0 .now ∷ a .g1 .now ∷ a .g2 .now ∷ []) (to-start (to-list-of (to-read-in-grid (c .before .before .before .before .before .before)) .before .before .before) .pre .0) (to-start (to-list-of (to-read-in-grid (c .before .before .before .before .before .before)) .before .before .before) .pre .3) (to-list-of (to-read-in-grid (c .before .before .before .before .before .before)) .before .before .before .channel-walked .result) (to-list-of (to-read-in-grid (c .before .before .before .before .before .before)) .before .before .before .channel-walked .ensures .0) (to-list-of (to-read-in-grid (c .before .before .before .before .before .before)) .before .before .before .channel-walked .ensures .1) (to-list-of (to-read-in-grid (c .before .before .before .before .before .before)) .list-of .result .now) (list-at (to-list-of (to-read-in-grid (c .before .before .before .before .before .before)))) (w .result) (z .0) (z .1 .0 ∷ z .1 .1 .0 ∷ z .1 .1 .1 .0 ∷ []) (w .ensures) (sym (c .before .before .before .before .is-stopped .ensures) ∙ c .before .before .before .if1 .left) (c .count-over .result) (c .count-over .ensures ∙ ap (λ (k : ℕ). countOver k (2 ^ (a .t3 .shape .exponent))) (c .before .to-usize .ensures))
+    channel-goes (a .t3) (a .group) (a .clusters) (a .preset-map .now) (a .store .now) (a .symbols .now) (a .shift) (to-start (to-list-of (to-read-in-grid (c .before .before .before .before .before .before)) .before .before .before) .pre .2) (a .n) (a .at) (a .rows .now) (a .log .now) (a .g0 .now ∷ a .g1 .now ∷ a .g2 .now ∷ []) (to-start (to-list-of (to-read-in-grid (c .before .before .before .before .before .before)) .before .before .before) .pre .0) (to-start (to-list-of (to-read-in-grid (c .before .before .before .before .before .before)) .before .before .before) .pre .3) (to-list-of (to-read-in-grid (c .before .before .before .before .before .before)) .before .before .before .channel-walked .result) (to-list-of (to-read-in-grid (c .before .before .before .before .before .before)) .before .before .before .channel-walked .ensures .0) (to-list-of (to-read-in-grid (c .before .before .before .before .before .before)) .before .before .before .channel-walked .ensures .1) (to-list-of (to-read-in-grid (c .before .before .before .before .before .before)) .list-of .result .now) (list-at (to-list-of (to-read-in-grid (c .before .before .before .before .before .before)))) (w .result) (z .0) (z .1 .0 ∷ z .1 .1 .0 ∷ z .1 .1 .1 .0 ∷ []) (w .ensures .0) (w .ensures .1) (sym (c .before .before .before .before .is-stopped .ensures) ∙ c .before .before .before .if1 .left) (c .count-over .result) (c .count-over .ensures ∙ ap (λ (k : ℕ). countOver k (2 ^ (a .t3 .shape .exponent))) (c .before .to-usize .ensures))
 
 pub read-channel-spec : {M : Type 1} → statement M
 read-channel-spec =

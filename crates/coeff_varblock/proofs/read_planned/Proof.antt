@@ -1,6 +1,5 @@
 use mathlib.Core.Path.{_≡_, _∙_, sym, subst}
 use mathlib.Core.List.{[], _∷_}
-use Prim.Native.Nat.{_+_, _*_, _^_}
 use borrow.Author.Needs.{needs}
 use borrow.Author.Tests.{not-true, not-false}
 use lib.ListN.{length}
@@ -27,7 +26,7 @@ fits c = rw (c .before .stretch-of .ensures) at (c .varblock-fits .ensures)
 returns : tie.Need-returns
 returns c =
     let a = to-start (c .before .before) .args in
-    λ left. varblock-refused (a .plan) (a .group) (a .clusters) (a .preset-map .now) (a .store .now) (a .rows .now) (a .symbols .now) (a .at) (a .shift) (a .log .now) (a .g0 .now ∷ a .g1 .now ∷ a .g2 .now ∷ []) (sym (fits (c .before)) ∙ not-true (c .before .varblock-fits .result) (c .if1 .taken)) (a .at + 192 * 2 ^ (a .plan .shape .exponent)) left
+    varblock-refused (a .plan) (a .group) (a .clusters) (a .preset-map .now) (a .store .now) (a .rows .now) (a .symbols .now) (a .at) (a .shift) (a .log .now) (a .g0 .now ∷ a .g1 .now ∷ a .g2 .now ∷ []) (sym (fits (c .before)) ∙ not-true (c .before .varblock-fits .result) (c .if1 .taken))
 
 read-channels-requires : tie.Need-read-channels-requires
 read-channels-requires c κs =
@@ -43,7 +42,7 @@ returns-2 c =
     let a = to-start (f .before) .args in
     let w = r .read-channels in
     let z = w .last .1 .1 .1 .1 .1 .1 .1 .1 .1 .1 in
-    λ left. subst (VarblockShown (a .plan) (a .symbols .now) (a .at + 192 * 2 ^ (a .plan .shape .exponent)) (w .result .walk) (w .result .«counts_over») (a .rows .now) (z .0) (z .1 .0 ∷ z .1 .1 .0 ∷ z .1 .1 .1 .0 ∷ [])) (varblock-reads (a .plan) (a .group) (a .clusters) (a .preset-map .now) (a .store .now) (a .rows .now) (a .symbols .now) (a .at) (a .shift) (a .log .now) (a .g0 .now ∷ a .g1 .now ∷ a .g2 .now ∷ []) (sym (fits f) ∙ not-false (f .varblock-fits .result) (r .before .before .before .before .before .if1 .left)) left) (w .ensures left)
+    subst (VarblockShown (a .plan) (a .symbols .now) (a .at) (w .result .walk) (w .result .«counts_over») (a .rows .now) (z .0) (z .1 .0 ∷ z .1 .1 .0 ∷ z .1 .1 .1 .0 ∷ [])) (varblock-reads (a .plan) (a .group) (a .clusters) (a .preset-map .now) (a .store .now) (a .rows .now) (a .symbols .now) (a .at) (a .shift) (a .log .now) (a .g0 .now ∷ a .g1 .now ∷ a .g2 .now ∷ []) (sym (fits f) ∙ not-false (f .varblock-fits .result) (r .before .before .before .before .before .if1 .left))) (w .ensures)
 
 pub read-planned-spec : {M : Type 1} → statement M
 read-planned-spec =

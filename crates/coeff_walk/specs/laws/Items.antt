@@ -72,7 +72,7 @@ module _ (shift clusters : ℕ) (presetMap : List ℕ) (it : Item) (row symbols 
     pub counted-16 : 63 * it .blocks < getD symbols at 0 → counted shift clusters presetMap it row (drop at symbols) at log g ≡ stopped Count (at + 1) logged g
     counted-16 l = counted-reads ∙ rw (lt-leb (getD symbols at 0) (63 * it .blocks) l)
 
-    pub counted-none : getD symbols at 0 ≡ 0 → counted shift clusters presetMap it row (drop at symbols) at log g ≡ done (drop (at + 1) symbols) (at + 1) logged g 0
+    pub counted-none : getD symbols at 0 ≡ 0 → counted shift clusters presetMap it row (drop at symbols) at log g ≡ done (drop (at + 1) symbols) (at + 1) logged g
     counted-none e =
         let n = getD symbols at 0 in
         counted-reads ∙ rw (le-leb n (63 * it .blocks) (omega (arith, e)))
@@ -83,7 +83,7 @@ abbrev pub spotOf : Shape → ℕ → Spot
 spotOf v bw = record { width = 8 * bw; x = 8 * v .x; y = 8 * v .y; exponent = v .exponent; turn = v .turn }
 
 -- one channel of a varblock, as the code takes it apart: low places are left out, the coefficients' entries run from begin to end
-module _ (v : Shape) (bw blockContext clusters : ℕ) (presetMap list row symbols : List ℕ) (at shift : ℕ) (log g : List ℕ) (low begin end next n entry : ℕ) (firstPrev : Bool) where
+module _ (v : Shape) (bw blockContext clusters : ℕ) (presetMap list row symbols : List ℕ) (at shift : ℕ) (log g : List ℕ) (low begin end next n : ℕ) (firstPrev : Bool) where
   abbrev it : Item
   it = itemAt v bw blockContext list
 
@@ -131,11 +131,12 @@ module _ (v : Shape) (bw blockContext clusters : ℕ) (presetMap list row symbol
           le-leb (length rest / 2) (length log - next) (omega arith),
         )
 
-    -- behind the count the walk over the rest is the channel's
-    pub channel-goes : at < length symbols → n ≡ getD symbols at 0 → firstPrev ≡ leb n (4 * 2 ^ (v .exponent)) → entry ≡ blockContext + countIndex (predicted row (v .x) (v .y)) * clusters
-        → placesRead (spotOf v bw) rest symbols next n firstPrev coeffMap shift (set log at (getD presetMap entry 0)) g ≡ counted shift clusters presetMap it row (drop at symbols) at log g
-    channel-goes h en ef ee =
-        rw (length-set log at (getD presetMap entry 0), rest-fits, rest-places, part-is, ef, es, ee, en) (sym (counted-reads shift clusters presetMap it row symbols at log g h))
+    -- behind the count, whose cluster is k, the walk over the rest is the channel's
+    pub channel-goes : at < length symbols → n ≡ getD symbols at 0 → firstPrev ≡ leb n (4 * 2 ^ (v .exponent))
+        → (k : ℕ) → k ≡ getD presetMap (blockContext + countIndex (predicted row (v .x) (v .y)) * clusters) 0 → (spot : Spot) → spot ≡ spotOf v bw
+        → placesRead spot rest symbols next n firstPrev coeffMap shift (set log at k) g ≡ counted shift clusters presetMap it row (drop at symbols) at log g
+    channel-goes h en ef k ek spot ep =
+        rw (ep, length-set log at k, rest-fits, rest-places, part-is, ef, es, ek, en) (sym (counted-reads shift clusters presetMap it row symbols at log g h))
 
 pub handed-by : (r : WalkEnd) (log g : List ℕ) (w v : Walked) → WalkShown r log g w → w ≡ v → WalkShown r log g v
 handed-by r log g w v h e = subst (λ (x : Walked). WalkShown r log g x) e h

@@ -10,7 +10,7 @@ use lib.Pow.{pow-pos}
 use borrow.Author.Tests.{lt-ltb, le-ltb}
 use lib.ListN.{length, getD, set, drop, drop-of-length-le}
 use lib.Seq.{drop-cons, set-out}
-use Rattle.refusal.specs.declared.Refusal.the-variants.{SymbolsEnd, TooManyZeros}
+use Rattle.refusal.specs.declared.Refusal.the-variants.{SymbolsEnd, TooManyZeros, CountRemaining}
 use Rattle.coded_numbers.specs.Signed.{unpackSigned}
 use Rattle.coeff_walk.specs.Walk.{Walked, done, stopped, walk, coeffContext, flag, less, gain}
 use Rattle.order_natural.specs.Places.{paired}
@@ -33,15 +33,15 @@ lessOf zero left = left
 lessOf (suc u) left = left - 1
 
 abbrev pub answerOf : Walked → WalkEnd
-answerOf (done us at log g left) = Done at
+answerOf (done us at log g) = Done at
 answerOf (stopped why at log g) = Stopped (why at)
 
 abbrev pub logOf : Walked → List ℕ
-logOf (done us at log g left) = log
+logOf (done us at log g) = log
 logOf (stopped why at log g) = log
 
 abbrev pub gridAfter : Walked → List ℕ
-gridAfter (done us at log g left) = g
+gridAfter (done us at log g) = g
 gridAfter (stopped why at log g) = g
 
 abbrev pub spotCells : Spot → List ℕ → List ℕ
@@ -90,16 +90,20 @@ module _ (shift blocks : ℕ) (coeffMap : List ℕ) where
   walk-next p ps i prev n u us at log g h = rw (lt-ltb (coeffContext blocks n i prev) 458 h)
 
 module _ (shift blocks : ℕ) (coeffMap places symbols : List ℕ) (k prev left at : ℕ) (log g : List ℕ) where
-  pub walk-used : left ≡ 0 → walk shift blocks coeffMap (drop k places) k prev left (drop at symbols) at log g ≡ done (drop at symbols) at log g 0
+  pub walk-used : left ≡ 0 → walk shift blocks coeffMap (drop k places) k prev left (drop at symbols) at log g ≡ done (drop at symbols) at log g
   walk-used e = rw e (go (drop k places))
     where
-      go : (ps : List ℕ) → walk shift blocks coeffMap ps k prev 0 (drop at symbols) at log g ≡ done (drop at symbols) at log g 0
+      go : (ps : List ℕ) → walk shift blocks coeffMap ps k prev 0 (drop at symbols) at log g ≡ done (drop at symbols) at log g
       go [] = unfold walk in refl
       go (p ∷ ps) = unfold walk in refl
 
-  pub walk-done : length places ≤ k → walk shift blocks coeffMap (drop k places) k prev left (drop at symbols) at log g ≡ done (drop at symbols) at log g left
+  pub walk-24 : length places ≤ k → 0 < left → walk shift blocks coeffMap (drop k places) k prev left (drop at symbols) at log g ≡ stopped CountRemaining at log g
   unfolding walk
-  walk-done h = rw (drop-of-length-le places h)
+  walk-24 h l = rw (drop-of-length-le places h) (go left l)
+    where
+      go : (m : ℕ) → 0 < m → walk shift blocks coeffMap [] k prev m (drop at symbols) at log g ≡ stopped CountRemaining at log g
+      go zero l = absurd (omega arith)
+      go (suc m) l = refl
 
   pub walk-17 : k < length places → 0 < left → 458 ≤ coeffContext blocks (left - 1) k prev
       → walk shift blocks coeffMap (drop k places) k prev left (drop at symbols) at log g ≡ stopped TooManyZeros at log g

@@ -6,9 +6,9 @@ use native.Mathlib.Omega.{arith}
 use lib.ListN.{length, getD, set, take, drop, length-set}
 use Rattle.coeff_walk.specs.Walk.{Walked, walk, coeffContext, NUM-NONZERO, gain}
 use Rattle.coeff_walk.specs.declared.WalkEnd.the-variants.{Done, Stopped}
-use Rattle.refusal.specs.declared.Refusal.the-variants.{SymbolsEnd}
+use Rattle.refusal.specs.declared.Refusal.the-variants.{SymbolsEnd, CountRemaining}
 use Rattle.coeff_walk.specs.declared.spot.Spot.{Spot}
-use Rattle.coeff_walk.specs.laws.Outcome.{spotCells, WalkReady, WalkShown, walk-used, walk-done, walk-15, walk-zero, walk-more, ends}
+use Rattle.coeff_walk.specs.laws.Outcome.{spotCells, WalkReady, WalkShown, walk-used, walk-24, walk-15, walk-zero, walk-more, ends}
 use Rattle.coeff_walk.specs.laws.Kept.{length-gain}
 use Rattle.coeff_walk.specs.laws.PlaceLaws.{places-count}
 use Rattle.coeff_walk.specs.laws.Runs.{Zeros, ZerosReady, entry-at, entries-lent, entries-room, context-fits}
@@ -50,13 +50,13 @@ module _ {spot : Spot} {list symbols : List ℕ} {at : ℕ} {coeffMap : List ℕ
     pub sparse-used : left ≡ 0 → WalkShown (Done (at + k)) log grid whole
     sparse-used e = ends _ _ _ (walk-used shift (2 ^ (spot .exponent)) coeffMap (spotCells spot list) symbols k prev left (at + k) log grid e) (s .same)
 
-    pub sparse-done : length list / 2 ≤ k → WalkShown (Done (at + k)) log grid whole
-    sparse-done h =
-        ends _ _ _ (walk-done shift (2 ^ (spot .exponent)) coeffMap (spotCells spot list) symbols k prev left (at + k) log grid (omega (arith, h, places-count (spot .turn) (spot .width) (spot .x) (spot .y) list))) (s .same)
+    pub sparse-24 : length list / 2 ≤ k → (left ≡ 0 → ⊥) → WalkShown (Stopped (CountRemaining (at + k))) log grid whole
+    sparse-24 h n =
+        ends _ _ _ (walk-24 shift (2 ^ (spot .exponent)) coeffMap (spotCells spot list) symbols k prev left (at + k) log grid (omega (arith, h, places-count (spot .turn) (spot .width) (spot .x) (spot .y) list)) (omega (arith, n))) (s .same)
 
     module _ {count firstPrev : ℕ} (r : WalkReady spot list at count firstPrev (length coeffMap) shift (length log₀)) where
-      pub sparse-ends : stop ≤ k → k < length list / 2 → (left ≡ 0 → ⊥) → WalkShown (Stopped (SymbolsEnd (at + k))) log grid whole
-      sparse-ends e h n =
+      pub sparse-15 : stop ≤ k → k < length list / 2 → (left ≡ 0 → ⊥) → WalkShown (Stopped (SymbolsEnd (at + k))) log grid whole
+      sparse-15 e h n =
           let b = s .below in
           let d = s .due in
           let f = r .fits in

@@ -10,7 +10,7 @@ use lib.Dec.{ltb}
 use lib.ListN.{length, getD, set, replicate, length-replicate}
 use lib.Seq.{sets}
 use Rattle.refusal.specs.declared.Refusal.{Refusal}
-use Rattle.refusal.specs.declared.Refusal.the-variants.{SymbolsEnd, TooManyZeros, Count}
+use Rattle.refusal.specs.declared.Refusal.the-variants.{SymbolsEnd, TooManyZeros, Count, CountRemaining}
 use Rattle.coeff_walk.specs.Walk.{Walked, done, stopped, walk, coeffContext, flag, less, gain}
 use Rattle.coeff_walk.specs.laws.Kept.{length-gain}
 use Rattle.coeff_walk.specs.laws.Contexts.{context-below}
@@ -47,29 +47,29 @@ pub none-words : (ps : List ℕ) → Words (none ps)
 none-words [] = tt
 none-words (p ∷ ps) = (omega arith, none-words ps)
 
--- how a reading ended: symbols left and what is left of the count, or why it stopped
+-- how a reading ended: symbols left, or why it stopped
 pub data End : Type 0 where
-  ends : (us : List ℕ) (left : ℕ) → End
+  ends : (us : List ℕ) → End
   stops : (why : ℕ → Refusal) → End
 
 abbrev pub walkedBy : End → ℕ → List ℕ → List ℕ → Walked
-walkedBy (ends us left) at log g = done us at log g left
+walkedBy (ends us) at log g = done us at log g
 walkedBy (stops why) at log g = stopped why at log g
 
 -- the same with more symbols behind
 abbrev pub longer : List ℕ → End → End
-longer vs (ends us left) = ends (us ++ vs) left
+longer vs (ends us) = ends (us ++ vs)
 longer vs (stops why) = stops why
 
 abbrev pub Goes : End → Type 0
-Goes (ends us left) = Unit
+Goes (ends us) = Unit
 Goes (stops why) = ⊥
 
--- of a reading that ended, with ds at the places and k symbols read: its symbols are those, its count is theirs but for what is left
-pub record Taken (n : ℕ) (us : List ℕ) (k : ℕ) (ds us′ : List ℕ) (left : ℕ) : Type 0 where
+-- of a reading that ended, with ds at the places and k symbols read: its symbols are those, its count is theirs
+pub record Taken (n : ℕ) (us : List ℕ) (k : ℕ) (ds us′ : List ℕ) : Type 0 where
   pub rest : us ≡ upTo n ds ++ us′
   pub read : length us ≡ k + length us′
-  pub due : n ≡ nonZeros ds + left
+  pub due : n ≡ nonZeros ds
   pub words : Words us → Words ds × Words us′
 
 -- of one that stopped behind k of its symbols: 15 comes only when none is left
@@ -77,9 +77,10 @@ pub data Stop (all k : ℕ) (why : ℕ → Refusal) : Type 0 where
   symbolsEnd : why ≡ SymbolsEnd → k ≡ all → Stop all k why
   count : why ≡ Count → k ≤ all → Stop all k why
   tooManyZeros : why ≡ TooManyZeros → k ≤ all → Stop all k why
+  countRemaining : why ≡ CountRemaining → k ≤ all → Stop all k why
 
 abbrev pub Tells : ℕ → List ℕ → ℕ → List ℕ → End → Type 0
-Tells n us k ds (ends us′ left) = Taken n us k ds us′ left
+Tells n us k ds (ends us′) = Taken n us k ds us′
 Tells n us k ds (stops why) = Stop (length us) k why
 
 -- a reading F of the symbols us at the places ps, n of them due; F′ is the same with more symbols behind
@@ -99,16 +100,16 @@ either ps n us true F H F′ H′ r q = r
 either ps n us false F H F′ H′ r q = q
 
 -- nothing is read
-ends-here : (ps : List ℕ) (n left : ℕ) (us : List ℕ) → n ≡ left → upTo n (none ps) ≡ [] → Run ps n us (λ s at log g. done us at log g left) (λ vs s at log g. done (us ++ vs) at log g left)
-ends-here ps n left us e f = record {
+ends-here : (ps us : List ℕ) → upTo 0 (none ps) ≡ [] → Run ps 0 us (λ s at log g. done us at log g) (λ vs s at log g. done (us ++ vs) at log g)
+ends-here ps us f = record {
   clusters = [];
   ds = none ps;
-  end = ends us left;
+  end = ends us;
   is = λ s at log g. let z : at + 0 ≡ at = omega arith in rw (z, gains-none s g ps);
   further = λ h vs s at log g. let z : at + 0 ≡ at = omega arith in rw (z, gains-none s g ps);
   all = none-long ps;
   few = omega arith;
-  tells = record { rest = rw f; read = omega arith; due = omega (arith, none-nonZero ps); words = λ w. (none-words ps, w) };
+  tells = record { rest = rw f; read = omega arith; due = sym (none-nonZero ps); words = λ w. (none-words ps, w) };
 }
 
 stops-here : (ps : List ℕ) (n : ℕ) (us : List ℕ) (F′ : List ℕ → ℕ → ℕ → List ℕ → List ℕ → Walked) (why : ℕ → Refusal) → Stop (length us) 0 why
@@ -129,16 +130,17 @@ pub stop-later : (n all k all′ k′ : ℕ) (why : ℕ → Refusal) → all′ 
 stop-later n all k all′ k′ why a b (symbolsEnd w e) = symbolsEnd w (omega arith)
 stop-later n all k all′ k′ why a b (count w h) = count w (omega arith)
 stop-later n all k all′ k′ why a b (tooManyZeros w h) = tooManyZeros w (omega arith)
+stop-later n all k all′ k′ why a b (countRemaining w h) = countRemaining w (omega arith)
 
-due-later : (u n m left : ℕ) → less u n ≡ m + left → suc n ≡ more u m + left
-due-later zero n m left e = e
-due-later (suc u) n m left e = omega arith
+due-later : (u n m : ℕ) → less u n ≡ m → suc n ≡ more u m
+due-later zero n m e = e
+due-later (suc u) n m e = ap suc e
 
 tells-later : (u n k : ℕ) (us ds : List ℕ) (e : End) → Tells (less u n) us k ds e → Tells (suc n) (u ∷ us) (suc k) (u ∷ ds) e
 unfolding nonZeros upTo
-tells-later u n k us ds (ends us′ left) t =
+tells-later u n k us ds (ends us′) t =
     let r = t .read in
-    record { rest = ap (λ (l : List ℕ). u ∷ l) (t .rest); read = omega arith; due = due-later u n (nonZeros ds) left (t .due); words = λ w. let q = t .words (w .1) in ((w .0, q .0), q .1) }
+    record { rest = ap (λ (l : List ℕ). u ∷ l) (t .rest); read = omega arith; due = due-later u n (nonZeros ds) (t .due); words = λ w. let q = t .words (w .1) in ((w .0, q .0), q .1) }
 tells-later u n k us ds (stops why) t = stop-later 1 (length us) k (suc (length us)) (suc k) why (omega arith) (omega arith) t
 
 -- a symbol was read before
@@ -164,8 +166,9 @@ module _ (blocks : ℕ) (coeffMap : List ℕ) where
   pub run : (ps : List ℕ) (i prev n : ℕ) (us : List ℕ)
       → Run ps n us (λ s at log g. walk s blocks coeffMap ps i prev n us at log g) (λ vs s at log g. walk s blocks coeffMap ps i prev n (us ++ vs) at log g)
   unfolding walk upTo
-  run [] i prev n us = ends-here [] n n us refl refl
-  run (p ∷ ps) i prev zero us = ends-here (p ∷ ps) 0 0 us refl refl
+  run [] i prev zero us = ends-here [] us refl
+  run [] i prev (suc n) us = stops-here [] (suc n) us _ CountRemaining (countRemaining refl (omega arith))
+  run (p ∷ ps) i prev zero us = ends-here (p ∷ ps) us refl
   run (p ∷ ps) i prev (suc n) [] = go (ltb (coeffContext blocks n i prev) 458)
     where
       go : (b : Bool) → Run (p ∷ ps) (suc n) [] (λ s at log g. cond b (stopped SymbolsEnd at log g) (stopped TooManyZeros at log g)) (λ vs s at log g. walk s blocks coeffMap (p ∷ ps) i prev (suc n) vs at log g)
@@ -195,7 +198,7 @@ module _ (s blocks : ℕ) (coeffMap : List ℕ) where
   pub record Sent (ps ds : List ℕ) (i prev n : ℕ) (rest : List ℕ) (at : ℕ) (log g : List ℕ) : Type 0 where
     pub at′ : ℕ
     pub log′ : List ℕ
-    pub is : walk s blocks coeffMap ps i prev n (upTo n ds ++ rest) at log g ≡ done rest at′ log′ (gains s g ps ds) 0
+    pub is : walk s blocks coeffMap ps i prev n (upTo n ds ++ rest) at log g ≡ done rest at′ log′ (gains s g ps ds)
 
   pub walk-sent : (ps ds : List ℕ) (i prev n : ℕ) (rest : List ℕ) (at : ℕ) (log g : List ℕ) → length ds ≡ length ps → n ≡ nonZeros ds → i + length ps ≤ 63 * blocks → prev ≤ 1
       → Sent ps ds i prev n rest at log g

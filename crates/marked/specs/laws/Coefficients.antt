@@ -91,12 +91,12 @@ no-bits bytes = rw (le-leb 0 (length (bitsOf bytes)) (omega arith))
 -- M9
 count-252 : (presetMap log g0 g1 g2 : List ℕ)
     → outcomeOf (readItems 0 15 presetMap (itemsOf square (varblocks square))
-    (going (252 ∷ (replicate 252 2 ++ (0 ∷ 0 ∷ []))) 0 log (g0 ∷ g1 ∷ g2 ∷ []) zeroRows 0)) .answer ≡ gives 255
+    (going (252 ∷ (replicate 252 2 ++ (0 ∷ 0 ∷ []))) 0 log (g0 ∷ g1 ∷ g2 ∷ []) zeroRows)) .answer ≡ gives 255
 unfolding reading-computes
 count-252 presetMap log g0 g1 g2 = rw (order-2 0 (omega arith), order-2 1 (omega arith), order-2 2 (omega arith))
 
 count-253 : (presetMap us log g0 g1 g2 : List ℕ)
-    → outcomeOf (readItems 0 15 presetMap (itemsOf square (varblocks square)) (going (253 ∷ us) 0 log (g0 ∷ g1 ∷ g2 ∷ []) zeroRows 0)) .answer
+    → outcomeOf (readItems 0 15 presetMap (itemsOf square (varblocks square)) (going (253 ∷ us) 0 log (g0 ∷ g1 ∷ g2 ∷ []) zeroRows)) .answer
     ≡ refuses (refusals.saidAt 16 1 0)
 unfolding itemsOf itemOf cornersRow cornersFrom wide high TRANSFORMS readItems readItem counted
 count-253 presetMap us log g0 g1 g2 = refl
@@ -108,7 +108,7 @@ clusters presetMap =
     getD presetMap 300 0 ∷ getD part 63 0 ∷ getD part 3 0 ∷ getD part 4 0 ∷ getD presetMap 307 0 ∷ getD presetMap 307 0 ∷ []
 
 dct8-reads : (presetMap log g0 g1 g2 : List ℕ)
-    → outcomeOf (readItems 0 15 presetMap (itemsOf block (varblocks block)) (going (2 ∷ 3 ∷ 0 ∷ 4 ∷ 0 ∷ 0 ∷ []) 0 log (g0 ∷ g1 ∷ g2 ∷ []) zeroRows 0))
+    → outcomeOf (readItems 0 15 presetMap (itemsOf block (varblocks block)) (going (2 ∷ 3 ∷ 0 ∷ 4 ∷ 0 ∷ 0 ∷ []) 0 log (g0 ∷ g1 ∷ g2 ∷ []) zeroRows))
     ≡ leaves (Accepted 6) (sets log 0 (clusters presetMap)) g0 (gains (gains g1 8 (2 ^ 32 - 2)) 2 2) g2
 unfolding reading-computes
 dct8-reads presetMap log g0 g1 g2 = rw (order-0 0 (omega arith), order-0 1 (omega arith), order-0 2 (omega arith))
@@ -136,10 +136,10 @@ module _ (map log g0 g1 g2 : List ℕ) (room : Room 1 4 map log g0 g1 g2) where
       )
 
   dct16-call : (symbols : List ℕ) → call (dct16 map symbols log g0 g1 g2)
-      ≡ outcomeOf (readItems 0 15 map (itemsOf square (varblocks square)) (going symbols 0 log (g0 ∷ g1 ∷ g2 ∷ []) zeroRows 0))
+      ≡ outcomeOf (readItems 0 15 map (itemsOf square (varblocks square)) (going symbols 0 log (g0 ∷ g1 ∷ g2 ∷ []) zeroRows))
   unfolding reading contextsOf
   dct16-call symbols =
-      let start : Reading = going symbols 0 log (g0 ∷ g1 ∷ g2 ∷ []) zeroRows 0 in
+      let start : Reading = going symbols 0 log (g0 ∷ g1 ∷ g2 ∷ []) zeroRows in
       let L = dct16 map symbols log g0 g1 g2 in
       call-reads L (checks-pass L (record { sides = sided .1; parameters = refl; contexts = defaults-fit; lengths = dct16-lengths symbols; layout = square-laid; places = store-fits })) 0 0 (no-bits []) (omega arith)
       ∙ ap outcomeOf (group-items 0 15 (presetMap L 0) square (varblocks square) start
@@ -155,10 +155,10 @@ module _ (map log g0 g1 g2 : List ℕ) (room : Room 1 4 map log g0 g1 g2) where
 
 module _ (map log g0 g1 g2 : List ℕ) (room : Room 1 1 map log g0 g1 g2) where
   dct8-call : (symbols : List ℕ) → call (dct8 1 map [] symbols log g0 g1 g2)
-      ≡ outcomeOf (readItems 0 15 map (itemsOf block (varblocks block)) (going symbols 0 log (g0 ∷ g1 ∷ g2 ∷ []) zeroRows 0))
+      ≡ outcomeOf (readItems 0 15 map (itemsOf block (varblocks block)) (going symbols 0 log (g0 ∷ g1 ∷ g2 ∷ []) zeroRows))
   unfolding reading contextsOf
   dct8-call symbols =
-      let start : Reading = going symbols 0 log (g0 ∷ g1 ∷ g2 ∷ []) zeroRows 0 in
+      let start : Reading = going symbols 0 log (g0 ∷ g1 ∷ g2 ∷ []) zeroRows in
       let L = dct8 1 map [] symbols log g0 g1 g2 in
       let p = dct8-passed 1 (omega arith) map [] symbols log g0 g1 g2 (room .entries) (room .bytes) (room .cells0) (room .cells1) (room .cells2) in
       call-reads L (checks-pass L p) 0 0 (no-bits []) (omega arith)

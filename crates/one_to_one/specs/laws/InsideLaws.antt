@@ -105,7 +105,7 @@ pub record Sane (width gridLength due at : ℕ) (log : List ℕ) (grids rows : P
 
 abbrev pub Fine : ℕ → ℕ → ℕ → Reading → Type 0
 Fine width gridLength due (refused why at log grids) = Unit
-Fine width gridLength due (going us at log grids rows left) = Sane width gridLength due at log grids rows
+Fine width gridLength due (going us at log grids rows) = Sane width gridLength due at log grids rows
 
 module _ (shift clusters : ℕ) (presetMap : List ℕ) (whole : length presetMap ≡ 495 * clusters) (width cells : ℕ) where
   module _ (it : Item) (s : Sound width cells clusters it) where
@@ -139,7 +139,7 @@ module _ (shift clusters : ℕ) (presetMap : List ℕ) (whole : length presetMap
 
     item-inside : (rest : ℕ) (r : Reading) → Fine width cells (suc (length (it .cells)) + rest) r → ItemInside shift clusters presetMap it r
     item-inside rest (refused why at log grids) f = tt
-    item-inside rest (going us at log grids rows left) f =
+    item-inside rest (going us at log grids rows) f =
         let c = it .channel in
         let h = s .channel in
         let w = f .wide c h in let k = s .right in let j = s .some in let x = f .three in let y = f .rows3 in let m = f .room in (
@@ -151,11 +151,11 @@ module _ (shift clusters : ℕ) (presetMap : List ℕ) (whole : length presetMap
         )
 
     -- what the item leaves, however its walk ended, with its row rewritten
-    after-fine : (rest at : ℕ) (grids rows : PerChannel) (left : ℕ) (row log : List ℕ) (e : End) (at′ : ℕ) (log′ g : List ℕ) → Sane width cells (suc (length (it .cells)) + rest) at log grids rows
+    after-fine : (rest at : ℕ) (grids rows : PerChannel) (row log : List ℕ) (e : End) (at′ : ℕ) (log′ g : List ℕ) → Sane width cells (suc (length (it .cells)) + rest) at log grids rows
         → at′ ≤ at + suc (length (it .cells)) → length log′ ≡ length log → length g ≡ cells → length row ≡ width → Small row
-        → Fine width cells rest (after (it .channel) grids (set rows (it .channel) row) left (walkedBy e at′ log′ g))
-    after-fine rest at grids rows left row log (stops why) at′ log′ g f a b c e m = tt
-    after-fine rest at grids rows left row log (ends us n) at′ log′ g f a b c e m =
+        → Fine width cells rest (after (it .channel) grids (set rows (it .channel) row) (walkedBy e at′ log′ g))
+    after-fine rest at grids rows row log (stops why) at′ log′ g f a b c e m = tt
+    after-fine rest at grids rows row log (ends us) at′ log′ g f a b c e m =
         let d = it .channel in
         let h = s .channel in
         let x = f .three in let y = f .rows3 in let k = f .room in
@@ -171,8 +171,8 @@ module _ (shift clusters : ℕ) (presetMap : List ℕ) (whole : length presetMap
     item-fine : (rest : ℕ) (r : Reading) → Fine width cells (suc (length (it .cells)) + rest) r → Fine width cells rest (readItem shift clusters presetMap it r)
     unfolding readItem counted
     item-fine rest (refused why at log grids) f = tt
-    item-fine rest (going [] at log grids rows left) f = tt
-    item-fine rest (going (n ∷ us) at log grids rows left) f = test (leb n (63 * it .blocks)) refl
+    item-fine rest (going [] at log grids rows) f = tt
+    item-fine rest (going (n ∷ us) at log grids rows) f = test (leb n (63 * it .blocks)) refl
       where
         c : ℕ
         c = it .channel
@@ -192,14 +192,14 @@ module _ (shift clusters : ℕ) (presetMap : List ℕ) (whole : length presetMap
         w : Walked
         w = walk shift (it .blocks) (coeffMapOf clusters presetMap it) (it .cells) 0 flag₀ n us (at + 1) log₁ g
 
-        test : (b : Bool) → leb n (63 * it .blocks) ≡ b → Fine width cells rest (after c grids (set rows c (newRow it row (n ∷ us))) left (cond b w (stopped Count (at + 1) log₁ g)))
+        test : (b : Bool) → leb n (63 * it .blocks) ≡ b → Fine width cells rest (after c grids (set rows c (newRow it row (n ∷ us))) (cond b w (stopped Count (at + 1) log₁ g)))
         test false e = tt
         test true e =
             let v = countOver n (it .blocks) in
             let r = run (it .blocks) (coeffMapOf clusters presetMap it) (it .cells) 0 flag₀ n us in
             let k = r .few in
             rw (r .is shift (at + 1) log₁ g)
-            (after-fine rest at grids rows left (fillFrom row (it .x) (it .wide) v) log (r .end) (at + 1 + length (r .clusters)) (sets log₁ (at + 1) (r .clusters)) (gains shift g (it .cells) (r .ds)) f (omega arith)
+            (after-fine rest at grids rows (fillFrom row (it .x) (it .wide) v) log (r .end) (at + 1 + length (r .clusters)) (sets log₁ (at + 1) (r .clusters)) (gains shift g (it .cells) (r .ds)) f (omega arith)
             (length-sets log₁ (at + 1) (r .clusters) ∙ length-set log at (countCluster clusters presetMap it row)) (length-gains shift g (it .cells) (r .ds) ∙ f .cells c (s .channel))
             (row-long row (it .x) (it .wide) v ∙ f .wide c (s .channel))
             (row-small row (it .x) (it .wide) v (count-over n (it .blocks) (s .blocks) (leb-true n (63 * it .blocks) e)) (f .small c (s .channel))))

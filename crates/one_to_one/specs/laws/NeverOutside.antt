@@ -190,8 +190,8 @@ module _ (L : Lent) (passed : Passed L) (preset : ℕ) (below : preset < L .pres
   never-outside = (
     preset-inside,
     let k = lengths-fit L (passed .lengths) in
-        by-group (L .shift) (clustersOf P) (presetMap L preset) P (varblocks P) (going (L .symbols) 0 (L .log) (L .grids) zeroRows 0)
+        by-group (L .shift) (clustersOf P) (presetMap L preset) P (varblocks P) (going (L .symbols) 0 (L .log) (L .grids) zeroRows)
         varblock-inside
-        (read-inside (L .shift) (clustersOf P) (presetMap L preset) preset-whole 32 (64 * blocks P) (itemsOf P (varblocks P)) (going (L .symbols) 0 (L .log) (L .grids) zeroRows 0)
+        (read-inside (L .shift) (clustersOf P) (presetMap L preset) preset-whole 32 (64 * blocks P) (itemsOf P (varblocks P)) (going (L .symbols) 0 (L .log) (L .grids) zeroRows)
         (all-sound P lay (sides-fit P (passed .sides) .wide) (passed .contexts) (k .store) (passed .places)) start),
   )

@@ -11,7 +11,7 @@ use Rattle.coded_numbers.specs.Signed.{symbol}
 use Rattle.coeff_walk.specs.Walk.{less}
 use Rattle.coeff_walk.specs.Item.{Item}
 use Rattle.refusal.specs.Answer.{gives}
-use Rattle.coeff_group.specs.Group.{leftOf, PerChannel, Reading, going, refused, readItems}
+use Rattle.coeff_group.specs.Group.{PerChannel, Reading, going, refused, readItems}
 use Rattle.coeff_call.specs.Call.{outcomeOf}
 use Rattle.coeff_walk.specs.laws.Walks.{nonZeros-le}
 use Rattle.coeff_group.specs.laws.Cells.{Distinct, Shape, same-shape, adds, adds-shape, adds-off, Fit, change, only-symbols, symbols-turn, In}
@@ -20,10 +20,9 @@ use Rattle.coeff_group.specs.laws.Reads.{joined, Long, Sized, words-both}
 use Rattle.coeff_group.specs.Sequence.{inCell, sent, changes, GridCell, readCells}
 use Rattle.coeff_walk.specs.Sent.{Words, nonZeros, upTo}
 
--- accepted, read to the last symbol, every count used up, these grids
+-- accepted, read to the last symbol, these grids
 pub record Filled (r : Reading) (s : List ℕ) (W : PerChannel) : Type 0 where
   pub accepted : outcomeOf r .answer ≡ gives (length s)
-  pub usedUp : leftOf r ≡ 0
   pub grids : outcomeOf r .grids ≡ W
 
 -- what is held fixed, and a filling: each cell is read at, or kept
@@ -37,7 +36,7 @@ pub record Fillable (its : List Item) (G W : PerChannel) : Type 0 where
   pub kept : (c p : ℕ) → In (c, p) (readCells its) ⊎ ((In (c, p) (readCells its) → ⊥) × (inCell W c p ≡ inCell G c p))
 
 abbrev pub reading : ℕ → List ℕ → List Item → List ℕ → List ℕ → PerChannel → PerChannel → Reading
-reading clusters presetMap its s log G rows = readItems 0 clusters presetMap its (going s 0 log G rows 0)
+reading clusters presetMap its s log G rows = readItems 0 clusters presetMap its (going s 0 log G rows)
 
 -- symbols item by item, and cell by cell
 module _ (G W : PerChannel) where
@@ -111,33 +110,32 @@ module _ (clusters : ℕ) (presetMap : List ℕ) (its : List Item) (G W : PerCha
       go c p (inr n) = adds-off 0 G (readCells its) (joined dss) (c, p) (n .0) ∙ sym (n .1)
 
   -- a reading to the last symbol reads as many as there are
-  to-last : (s : List ℕ) (at : ℕ) (log′ : List ℕ) (F rows′ : PerChannel) (left : ℕ) → reading clusters presetMap its s log G rows ≡ going [] at log′ F rows′ left → at ≡ length s
-  to-last s at log′ F rows′ left e = let q = run.reads clusters presetMap its s rows 0 in go (length (q .clusters)) (sets log 0 (q .clusters)) (adds 0 G (readCells its) (joined (q .dss))) (q .dss) (q .end) (q .is 0 0 log G) (q .tells)
+  to-last : (s : List ℕ) (at : ℕ) (log′ : List ℕ) (F rows′ : PerChannel) → reading clusters presetMap its s log G rows ≡ going [] at log′ F rows′ → at ≡ length s
+  to-last s at log′ F rows′ e = let q = run.reads clusters presetMap its s rows in go (length (q .clusters)) (sets log 0 (q .clusters)) (adds 0 G (readCells its) (joined (q .dss))) (q .dss) (q .end) (q .is 0 0 log G) (q .tells)
     where
-      go : (k : ℕ) (l : List ℕ) (H : PerChannel) (ess : List (List ℕ)) (e₁ : run.End) → reading clusters presetMap its s log G rows ≡ run.readBy e₁ (0 + k) l H → run.Tells s 0 k ess e₁ → at ≡ length s
-      go k l H ess (run.ends us rows₁ left₁) f t =
-          let g : going [] at log′ F rows′ left ≡ going us (0 + k) l H rows₁ left₁ = sym e ∙ f in
+      go : (k : ℕ) (l : List ℕ) (H : PerChannel) (ess : List (List ℕ)) (e₁ : run.End) → reading clusters presetMap its s log G rows ≡ run.readBy e₁ (0 + k) l H → run.Tells s k ess e₁ → at ≡ length s
+      go k l H ess (run.ends us rows₁) f t =
+          let g : going [] at log′ F rows′ ≡ going us (0 + k) l H rows₁ = sym e ∙ f in
           let a : at ≡ 0 + k = cc in let b : _≡_ {A = List ℕ} [] us = cc in
           omega (arith, t .read, ap length b)
       go k l H ess (run.stops why) f t =
-          let g : going [] at log′ F rows′ left ≡ refused why (0 + k) l H = sym e ∙ f in
+          let g : going [] at log′ F rows′ ≡ refused why (0 + k) l H = sym e ∙ f in
           let z : _≡_ {A = ℕ} 0 1 = cc in absurd (omega arith)
 
   pub exists : Filled (reading clusters presetMap its (sent dss) log G rows) (sent dss) W
   exists =
-      let r = run.read-sent clusters presetMap its dss (changes-long G W its) (fillable .sized) 0 0 log G rows 0 in
+      let r = run.read-sent clusters presetMap its dss (changes-long G W its) (fillable .sized) 0 0 log G rows in
       record {
-        accepted = ap (λ (x : Reading). outcomeOf x .answer) (r .is) ∙ ap gives (to-last (sent dss) (r .at′) (r .log′) (adds 0 G (readCells its) (joined dss)) (r .rows′) 0 (r .is));
-        usedUp = ap leftOf (r .is);
+        accepted = ap (λ (x : Reading). outcomeOf x .answer) (r .is) ∙ ap gives (to-last (sent dss) (r .at′) (r .log′) (adds 0 G (readCells its) (joined dss)) (r .rows′) (r .is));
         grids = ap (λ (x : Reading). outcomeOf x .grids) (r .is) ∙ reached;
       }
 
   pub unique : (s : List ℕ) → Words s → Filled (reading clusters presetMap its s log G rows) s W → s ≡ sent dss
-  unique s h f = let q = run.reads clusters presetMap its s rows 0 in go (length (q .clusters)) (sets log 0 (q .clusters)) (q .dss) (q .end) (q .all) (q .is 0 0 log G) (q .tells)
+  unique s h f = let q = run.reads clusters presetMap its s rows in go (length (q .clusters)) (sets log 0 (q .clusters)) (q .dss) (q .end) (q .all) (q .is 0 0 log G) (q .tells)
     where
       go : (k : ℕ) (l : List ℕ) (ess : List (List ℕ)) (e : run.End) → Long its ess → reading clusters presetMap its s log G rows ≡ run.readBy e (0 + k) l (adds 0 G (readCells its) (joined ess))
-          → run.Tells s 0 k ess e → s ≡ sent dss
-      go k l ess (run.ends us rows₁ left) long e t =
+          → run.Tells s k ess e → s ≡ sent dss
+      go k l ess (run.ends us rows₁) long e t =
           let a : gives (0 + k) ≡ gives (length s) = sym (ap (λ (x : Reading). outcomeOf x .answer) e) ∙ f .accepted in
           let b : 0 + k ≡ length s = cc in
           let g : adds 0 G (readCells its) (joined ess) ≡ W = sym (ap (λ (x : Reading). outcomeOf x .grids) e) ∙ f .grids in
@@ -145,7 +143,7 @@ module _ (clusters : ℕ) (presetMap : List ℕ) (its : List Item) (G W : PerCha
           joined-only its ess dss long (changes-long G W its)
           (only-symbols G (readCells its) (joined ess) (fillable .distinct) (fillable .fit) (t .words h) (long-joined its ess long)
           ∙ ap (λ (X : PerChannel). map (change G X) (readCells its)) g ∙ sym (changes-joined G W its)) in
-          t .used (sym (ap leftOf e) ∙ f .usedUp) ∙ rw (none us (omega (arith, t .read)), d) (append-nil (sent dss))
+          t .used ∙ rw (none us (omega (arith, t .read)), d) (append-nil (sent dss))
       go k l ess (run.stops why) long e t =
           let a = sym (ap (λ (x : Reading). outcomeOf x .answer) e) ∙ f .accepted in
           let z : _≡_ {A = ℕ} 0 1 = cc in absurd (omega arith)

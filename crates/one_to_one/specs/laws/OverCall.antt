@@ -13,14 +13,14 @@ use Rattle.layout.specs.laws.Theorems.{layout-check}
 use Rattle.order_call.specs.laws.Wrote.{wrote-fits}
 use Rattle.coeff_walk.specs.Item.{Item}
 use Rattle.refusal.specs.Answer.{Answer, gives, refuses}
-use Rattle.coeff_group.specs.Group.{PerChannel, Reading, going, leftOf, zeroRows}
+use Rattle.coeff_group.specs.Group.{PerChannel, Reading, going, zeroRows}
 use Rattle.coeff_group.specs.laws.GroupLaws.{group-items}
 use Rattle.coeff_group.specs.PassGroup.{PassGroup, varblocks, itemsOf}
 use Rattle.coeff_group.specs.Work.{clustersOf}
 use Rattle.coeff_checks.specs.Checks.{parametersFit}
-use Rattle.coeff_call.specs.Call.{Lent, Outcome, presetMap, reading, outcomeOf, leftoverAt, leftover, call}
+use Rattle.coeff_call.specs.Call.{Lent, Outcome, presetMap, reading, outcomeOf, call}
 use Rattle.coeff_call.specs.laws.CallLaws.{checks-pass, grids-fit, call-reads}
-use Rattle.one_to_one.specs.Filling.{Sized, Fixed, Filling, withSymbols, Fills, Fails, symbolsRead, refused, unread, leftOver, otherGrids}
+use Rattle.one_to_one.specs.Filling.{Sized, Fixed, Filling, withSymbols, Fills, Fails, symbolsRead, refused, unread, otherGrids}
 use Rattle.coeff_group.specs.laws.Cells.{Shape}
 use Rattle.one_to_one.specs.laws.Items.{wrote-ordered, Ordered, item-size, cells-apart, cells-fit, place-or-same}
 use Rattle.one_to_one.specs.laws.OneToOne as over
@@ -50,7 +50,7 @@ module _ (L : Lent) (fixed : Fixed L) where
   }
 
   -- the call reads the group
-  group-read : (s : List ℕ) → call (withSymbols L s) ≡ outcomeOf (reading (withSymbols L s) (fixed .rest .preset))
+  pub group-read : (s : List ℕ) → call (withSymbols L s) ≡ outcomeOf (reading (withSymbols L s) (fixed .rest .preset))
   group-read s =
       call-reads (withSymbols L s) (checks-pass (withSymbols L s) (record {
         sides = fixed .sides;
@@ -86,7 +86,7 @@ module _ (L : Lent) (fixed : Fixed L) where
     unfolding reading
     same-reading s =
         let z : L .shift ≡ 0 = omega (arith, fixed .rest .shift) in
-        rw z (group-items 0 (clustersOf P) (presetMap L (fixed .rest .preset)) P (varblocks P) (going s 0 (L .log) (L .grids) zeroRows 0))
+        rw z (group-items 0 (clustersOf P) (presetMap L (fixed .rest .preset)) P (varblocks P) (going s 0 (L .log) (L .grids) zeroRows))
 
     -- what the call does is what the reading does
     pub same : (s : List ℕ) → Fills L s W ↔ over.Filled (readingOf s) s W
@@ -95,20 +95,15 @@ module _ (L : Lent) (fixed : Fixed L) where
         e : call (withSymbols L s) ≡ outcomeOf (readingOf s)
         e = group-read s ∙ ap outcomeOf (same-reading s)
 
-        left : leftover (withSymbols L s) ≡ leftOf (readingOf s)
-        left = ap (leftoverAt (withSymbols L s)) (fixed .rest .readWhole) ∙ ap leftOf (same-reading s)
-
         to : Fills L s W → over.Filled (readingOf s) s W
         to f = record {
           accepted = sym (ap (λ (o : Outcome). o .answer) e) ∙ f .accepted;
-          usedUp = sym left ∙ f .usedUp;
           grids = sym (ap (λ (o : Outcome). o .grids) e) ∙ f .grids;
         }
 
         from : over.Filled (readingOf s) s W → Fills L s W
         from f = record {
           accepted = ap (λ (o : Outcome). o .answer) e ∙ f .accepted;
-          usedUp = left ∙ f .usedUp;
           grids = ap (λ (o : Outcome). o .grids) e ∙ f .grids;
         }
 
@@ -116,19 +111,14 @@ module _ (L : Lent) (fixed : Fixed L) where
 pub fills-not : (L : Lent) (s : List ℕ) (W : PerChannel) → Fills L s W → Fails L s W → ⊥
 fills-not L s W f (refused why e) = let a = f .accepted in let z : _≡_ {A = ℕ} 0 1 = cc in omega arith
 fills-not L s W f (unread n h e) = let a : gives n ≡ gives (length s) = sym e ∙ f .accepted in let b : n ≡ length s = cc in omega arith
-fills-not L s W f (leftOver h) = let a = f .usedUp in omega arith
 fills-not L s W f (otherGrids n) = n (f .grids)
 
 -- a sequence that does not fill fails
 pub not-fills : (L : Lent) (s : List ℕ) (W : PerChannel) → (Fills L s W → ⊥) → Fails L s W
 not-fills L s W n = by-answer (call (withSymbols L s) .answer) refl
   where
-    by-rest : call (withSymbols L s) .answer ≡ gives (length s) → Dec (leftover (withSymbols L s) ≡ 0) → Fails L s W
-    by-rest a (yes u) = otherGrids (λ g. n (record { accepted = a; usedUp = u; grids = g }))
-    by-rest a (no u) = leftOver (omega (arith, u))
-
     by-count : (m : ℕ) → call (withSymbols L s) .answer ≡ gives m → m ≤ length s → Dec (m ≡ length s) → Fails L s W
-    by-count m a h (yes e) = by-rest (a ∙ ap gives e) (ℕ-discrete (leftover (withSymbols L s)) 0)
+    by-count m a h (yes e) = otherGrids (λ g. n (record { accepted = a ∙ ap gives e; grids = g }))
     by-count m a h (no e) = unread m (omega (arith, e)) a
 
     by-answer : (r : Answer ℕ) → call (withSymbols L s) .answer ≡ r → Fails L s W

@@ -6,7 +6,7 @@ use Prim.Native.Nat.{ℕ, _+_, _*_, _≤_}
 use native.Mathlib.Omega.{arith}
 use lib.ListN.{length, drop, length-drop, length-append}
 use lib.Seq.{sets, sets-eq, drop-at}
-use Rattle.refusal.specs.declared.Refusal.the-variants.{SymbolsEnd, Count, TooManyZeros}
+use Rattle.refusal.specs.declared.Refusal.the-variants.{SymbolsEnd, Count, TooManyZeros, CountRemaining}
 use Rattle.refusal.specs.declared.Said.{Said}
 use Rattle.refusal.specs.Said.{said}
 use Rattle.refusal.specs.Said as refusals
@@ -18,7 +18,7 @@ use Rattle.coeff_call.specs.Call.{Lent, Outcome, reading, outcomeOf, refuse, ca
 use Rattle.coeff_call.specs.laws.CallLaws.{lengths-fit}
 use Rattle.coeff_group.specs.laws.Symbols.{most-symbols}
 use Rattle.one_to_one.specs.Filling.{relent, withLog, told, symbolsRead}
-use Rattle.coeff_walk.specs.laws.Walks.{symbolsEnd, count, tooManyZeros}
+use Rattle.coeff_walk.specs.laws.Walks.{symbolsEnd, count, tooManyZeros, countRemaining}
 use Rattle.coeff_group.specs.laws.Cells.{adds}
 use Rattle.coeff_group.specs.laws.Reads.{End, ends, stops, Tells, joined}
 use Rattle.one_to_one.specs.laws.Ways.{Way, before, work, way, did, answerBy, outcome-by}
@@ -53,20 +53,22 @@ by-refusal L s t n e =
     }
 
 -- what the end of a reading tells
-told-by : (e : End) (us : List ℕ) (k : ℕ) (dss : List (List ℕ)) → Tells us 0 k dss e → symbolsRead (answerBy e k) ≡ k
-told-by (ends us′ rows left) us k dss t = refl
+told-by : (e : End) (us : List ℕ) (k : ℕ) (dss : List (List ℕ)) → Tells us k dss e → symbolsRead (answerBy e k) ≡ k
+told-by (ends us′ rows) us k dss t = refl
 told-by (stops why) us k dss (symbolsEnd w e) = rw w
 told-by (stops why) us k dss (count w h) = rw w
 told-by (stops why) us k dss (tooManyZeros w h) = rw w
+told-by (stops why) us k dss (countRemaining w h) = rw w
 
-there-by : (e : End) (us : List ℕ) (k : ℕ) (dss : List (List ℕ)) → Tells us 0 k dss e → k ≤ length us
-there-by (ends us′ rows left) us k dss t = omega (arith, t .read)
+there-by : (e : End) (us : List ℕ) (k : ℕ) (dss : List (List ℕ)) → Tells us k dss e → k ≤ length us
+there-by (ends us′ rows) us k dss t = omega (arith, t .read)
 there-by (stops why) us k dss (symbolsEnd w e) = omega arith
 there-by (stops why) us k dss (count w h) = h
 there-by (stops why) us k dss (tooManyZeros w h) = h
+there-by (stops why) us k dss (countRemaining w h) = h
 
-last-by : (e : End) (us : List ℕ) (k : ℕ) (dss : List (List ℕ)) → Tells us 0 k dss e → (n : ℕ) → answerBy e k ≡ refuses (refusals.saidAt 15 n 0) → n ≡ length us
-last-by (ends us′ rows left) us k dss t n e = absurd (let z : _≡_ {A = ℕ} 0 1 = cc in omega arith)
+last-by : (e : End) (us : List ℕ) (k : ℕ) (dss : List (List ℕ)) → Tells us k dss e → (n : ℕ) → answerBy e k ≡ refuses (refusals.saidAt 15 n 0) → n ≡ length us
+last-by (ends us′ rows) us k dss t n e = absurd (let z : _≡_ {A = ℕ} 0 1 = cc in omega arith)
 last-by (stops why) us k dss (symbolsEnd w f) n e =
     let a : said (why k) ≡ refusals.saidAt 15 n 0 = cc in
     let b : said (SymbolsEnd k) ≡ refusals.saidAt 15 n 0 = rw w at a in
@@ -79,6 +81,10 @@ last-by (stops why) us k dss (count w h) n e =
 last-by (stops why) us k dss (tooManyZeros w h) n e =
     let a : refuses (said (TooManyZeros k)) ≡ refuses (refusals.saidAt 15 n 0) = rw w at e in
     let z : _≡_ {A = ℕ} 17 15 = number-of (said (TooManyZeros k)) (refusals.saidAt 15 n 0) a in
+    absurd (omega arith)
+last-by (stops why) us k dss (countRemaining w h) n e =
+    let a : refuses (said (CountRemaining k)) ≡ refuses (refusals.saidAt 15 n 0) = rw w at e in
+    let z : _≡_ {A = ℕ} 24 15 = number-of (said (CountRemaining k)) (refusals.saidAt 15 n 0) a in
     absurd (omega arith)
 
 by-reading : (L : Lent) → Passed L → (preset : ℕ) → ((symbols log : List ℕ) → length log ≡ length (L .log) → call (relent L symbols log) ≡ outcomeOf (reading (relent L symbols log) preset)) → Tied L

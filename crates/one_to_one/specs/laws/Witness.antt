@@ -13,27 +13,26 @@ use Rattle.layout_filter.specs.Strength.{zero32}
 use Rattle.layout_call.specs.Call.{Inputs, inputs, layoutOf}
 use Rattle.order_store.specs.Store.{PLACES}
 use Rattle.context_call.specs.Call.{contextsOf}
-use Rattle.layout.specs.laws.Theorems.{layout-check}
-use Rattle.refusal.specs.Answer.{gives}
-use Rattle.coeff_group.specs.Group.{PerChannel, Reading, going, leftOf, readItems, zeroRows}
+use Rattle.refusal.specs.Said.{saidAt}
+use Rattle.refusal.specs.Answer.{gives, refuses}
+use Rattle.coeff_group.specs.Group.{Reading, going, readItems, zeroRows}
 use Rattle.coeff_group.specs.laws.GroupLaws.{group-items}
 use Rattle.coeff_group.specs.PassGroup.{varblocks, itemsOf}
-use Rattle.coeff_call.specs.Call.{Lent, Outcome, allLengthsFit, presetBits, presetMap, reading, outcomeOf, leftoverAt, leftover, call}
-use Rattle.coeff_call.specs.laws.CallLaws.{checks-pass, call-reads}
-use Rattle.order_call.specs.laws.Wrote.{wrote-fits}
+use Rattle.coeff_call.specs.Call.{Lent, Outcome, allLengthsFit, presetBits, presetMap, reading, outcomeOf, call}
 use Rattle.lent_check.specs.GroupSides.{groupSides}
 use Rattle.lent_cut.specs.Calls.{outcome, cutOf}
 use Rattle.lent_cut.specs.laws.CutSteps.{cut-done}
 use Rattle.layout_accepted.specs.Outcome.{bwOf, bhOf}
 use Rattle.layout_accepted.specs.laws.Marked.{layout-computes}
-use Rattle.one_to_one.specs.Filling.{wanted as wantedOf, withSymbols, Fixed, Filling, Fills, Fails, leftOver, Given}
+use Rattle.one_to_one.specs.Filling.{wanted as wantedOf, withSymbols, Fixed, Filling, Fills, Given}
 use Rattle.one_to_one.specs.laws.Demand3.{one-sequence}
 use Rattle.one_to_one.specs.laws.Wanted.{wanted-filling}
 use Rattle.one_to_one.specs.laws.Chain.{fixed-by-calls}
 use Rattle.one_to_one.specs.laws.Computes.{cut-computes, bits-compute, reading-computes, sequence-computes, wanted-computes, below, cells-below}
 use Rattle.one_to_one.specs.Plain.{store}
 use Rattle.one_to_one.specs.laws.Plain.{store-long, order-0, store-wrote, defaults-read}
-use Rattle.one_to_one.specs.Witness.{one, wanted, zeros, leaving}
+use Rattle.one_to_one.specs.Witness.{one, wanted, zeros, remaining}
+use Rattle.one_to_one.specs.laws.OverCall.{group-read}
 use Rattle.coeff_group.specs.Sequence.{inCell, theSequence}
 
 -- 8 × 8 pixels, modes 0, one column (0,0), filter off
@@ -111,43 +110,27 @@ sequence-is = rw (order-0 0 (omega arith), order-0 1 (omega arith), order-0 2 (o
 pub filled : Fills one (2 ∷ 3 ∷ 0 ∷ 4 ∷ 0 ∷ 0 ∷ []) wanted
 filled = let o = one-sequence one fixed wanted filling in o .1 (2 ∷ 3 ∷ 0 ∷ 4 ∷ 0 ∷ 0 ∷ []) (rw sequence-is at (o .0)) .1 (sym sequence-is)
 
--- A count left over is accepted, `leftover` tells it, and by demand 3 it fills nothing.
+-- A count that is not used up is refused.
 
--- reading the group's items, whatever the stretch
+-- reading the group's items, whatever the preset's part
 module _ (presetMap : List ℕ) where
   abbrev end : Reading
-  end = readItems 0 15 presetMap (itemsOf (one .passGroup) (varblocks (one .passGroup))) (going leaving 0 (one .log) (one .grids) zeroRows 0)
+  end = readItems 0 15 presetMap (itemsOf (one .passGroup) (varblocks (one .passGroup))) (going remaining 0 (one .log) (one .grids) zeroRows)
 
-  end-is : (leftOf end ≡ 1) × (outcomeOf end .answer ≡ gives 66)
+  end-is : outcomeOf end .answer ≡ refuses (saidAt 24 64 0)
   unfolding reading-computes
-  end-is = rw (order-0 0 (omega arith), order-0 1 (omega arith), order-0 2 (omega arith)) (refl, refl)
+  end-is = rw (order-0 1 (omega arith))
 
 abbrev L : Lent
-L = withSymbols one leaving
+L = withSymbols one remaining
 
 by-items : reading L 0 ≡ end (presetMap L 0)
 unfolding reading contextsOf
-by-items = group-items 0 15 (presetMap L 0) (one .passGroup) (varblocks (one .passGroup)) (going leaving 0 (one .log) (one .grids) zeroRows 0)
+by-items = group-items 0 15 (presetMap L 0) (one .passGroup) (varblocks (one .passGroup)) (going remaining 0 (one .log) (one .grids) zeroRows)
 
--- all 66 symbols are read
-pub left-accepted : call (withSymbols one leaving) .answer ≡ gives 66
-left-accepted =
-    let P = one .passGroup in
-    ap (λ (o : Outcome). o .answer)
-    (call-reads L (checks-pass L (record {
-      sides = fixed .sides;
-      parameters = refl;
-      contexts = fixed .contexts;
-      lengths = fixed .rest .lengths;
-      layout = layout-check (P .bw) (P .bh) (P .kinds) (P .hfMul) (fixed .layout);
-      places = wrote-fits (P .store) (fixed .orders);
-    })) 0 0 no-bits (omega arith))
-    ∙ ap (λ (r : Reading). outcomeOf r .answer) by-items ∙ end-is (presetMap L 0) .1
-
--- and the count is left over
-pub left-over : leftover (withSymbols one leaving) ≡ 1
-left-over = ap (leftoverAt L) no-bits ∙ ap leftOf by-items ∙ end-is (presetMap L 0) .0
-
--- so these symbols fill no grids in the sense of demand 3
-pub left-fails : (W : PerChannel) → Fails one leaving W
-left-fails W = leftOver (omega (arith, left-over))
+-- behind the last place's symbol
+pub remaining-refused : call (withSymbols one remaining) .answer ≡ refuses (saidAt 24 64 0)
+remaining-refused =
+    let e : Value (fixed .rest .preset) (fixed .rest .bitsRead) ≡ Value 0 0 = sym (fixed .rest .readWhole) ∙ no-bits in
+    let z : fixed .rest .preset ≡ 0 = cc in
+    ap (λ (o : Outcome). o .answer) (group-read one fixed remaining) ∙ ap (λ (n : ℕ). outcomeOf (reading L n) .answer) z ∙ ap (λ (r : Reading). outcomeOf r .answer) by-items ∙ end-is (presetMap L 0)

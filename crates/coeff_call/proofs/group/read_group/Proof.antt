@@ -1,10 +1,13 @@
 use mathlib.Core.Path.{refl, _≡_, _∙_, sym}
-use mathlib.Core.List.{[], _∷_}
+use mathlib.Core.List.{List, [], _∷_}
 use native.Mathlib.Nat.{mul-le-mul}
 use lib.Arith.{digits-lt}
-use Rattle.coeff_group.specs.Group.{Reading}
-use Rattle.coeff_group.specs.PassGroup.{PassGroup, passGroup}
-use Rattle.coeff_group.specs.laws.Due.{Due, rowFrom, rowsFrom, wholeOf, due-start, due-row, due-next, due-skip, due-end, corner-asks, corner-stop, corner-step}
+use Rattle.coeff_walk.specs.declared.WalkEnd.{WalkEnd}
+use Rattle.coeff_walk.specs.UsedUp.{CountsUsed}
+use Rattle.coeff_group.specs.Group.{PerChannel, Reading}
+use Rattle.coeff_group.specs.PassGroup.{PassGroup, passGroup, varblocks}
+use Rattle.coeff_group.specs.laws.Due.{Due, GroupShown, rowFrom, rowsFrom, wholeOf, due-start, due-row, due-next, due-skip, due-end, corner-asks, corner-stop, corner-step}
+use Rattle.coeff_group.specs.laws.Used.{group-uses}
 use borrow.Author.Needs.{needs}
 use native.Mathlib.Omega.{arith}
 use Prim.Native.Nat.{ℕ, _<_, _≤_, _-_, _+_, _*_}
@@ -107,6 +110,12 @@ inside c = let r = startOf c .pre in (omega (arith, c .before .before .loop2-tes
 abbrev corner : tie.After-slice-known8 Inv-loop2 μ-loop2 Inv-loop μ-loop → tie.Else1 Inv-loop2 μ-loop2 Inv-loop μ-loop
 corner c = to-else1 (to-plan-of (c .before .before .before .before .before .before .before))
 
+-- The group's reading, and what it promises of its counts.
+promised : (c : tie.Start Inv-loop2 μ-loop2 Inv-loop μ-loop) (r : WalkEnd) (log : List ℕ) (G : PerChannel) → GroupShown r log G (wholeAt c) → GroupShown r log G (wholeAt c) × CountsUsed (3 * length (varblocks (passGroupAt c))) (c .args .symbols .now) 0 r
+promised c r log G g =
+    let a = c .args in
+    (g, group-uses (a .shift) (a .t4 .«num_block_clusters») (a .preset-map .now) (a .symbols .now) (passGroupAt c) (a .log .now) (a .g0 .now ∷ a .g1 .now ∷ a .g2 .now ∷ []) r (g .answer))
+
 loop-holds : tie.Need-loop-holds Inv-loop2 μ-loop2 Inv-loop μ-loop
 loop-holds c =
     let s = to-start (to-shared-slice-known7 c) in
@@ -180,7 +189,7 @@ returns c =
     let p = to-plan-of (c .before .before .before .before .before .before .before .before .before) .plan-of in
     let w = c .before .before .before .before .before .before .before .before .before .before .read-varblock in
     let z = w .last .1 .1 .1 .1 .1 .1 .1 .1 in
-    corner-stop (a .shift) (a .t4 .«num_block_clusters») (a .preset-map .now) (passGroupAt s) (a .symbols .now) (length (a .log .now)) (s .pre) (wholeAt s) (l .x) (o .y) (l .at) (l .rows) (l .log) (l .g0 ∷ l .g1 ∷ l .g2 ∷ []) (e .before .before .loop2-test .taken) (e .before .before .before .before .loop-test .taken) (e .if1 .left) (due e) (p .result) (p .ensures) (w .result) (z .0) (z .1 .0) (z .1 .1 .0 ∷ z .1 .1 .1 .0 ∷ z .1 .1 .1 .1 .0 ∷ []) (w .ensures .1) (sym (c .before .is-stopped .ensures) ∙ c .if2 .taken)
+    promised s _ _ _ (corner-stop (a .shift) (a .t4 .«num_block_clusters») (a .preset-map .now) (passGroupAt s) (a .symbols .now) (length (a .log .now)) (s .pre) (wholeAt s) (l .x) (o .y) (l .at) (l .rows) (l .log) (l .g0 ∷ l .g1 ∷ l .g2 ∷ []) (e .before .before .loop2-test .taken) (e .before .before .before .before .loop-test .taken) (e .if1 .left) (due e) (p .result) (p .ensures) (w .result) (z .0) (z .1 .0) (z .1 .1 .0 ∷ z .1 .1 .1 .0 ∷ z .1 .1 .1 .1 .0 ∷ []) (w .ensures .1) (sym (c .before .is-stopped .ensures) ∙ c .if2 .taken))
 
 add-x-2 : tie.Need-add-x-2 Inv-loop2 μ-loop2 Inv-loop μ-loop
 add-x-2 c = omega (arith, inside (corner (c .before .before .before)) .0)
@@ -228,7 +237,7 @@ returns-2 c =
     let s = to-start (to-shared-slice-known7 (c .before .before)) in
     let a = s .args in
     let o = c .before .loop in
-    due-end (a .shift) (a .t4 .«num_block_clusters») (a .preset-map .now) (passGroupAt s) (a .symbols .now) (192 * (a .group .bw * a .group .bh)) (wholeAt s) (o .at) (o .rows) (o .log) (o .g0 ∷ o .g1 ∷ o .g2 ∷ []) (o .y) (c .loop-test .left) (o .inv .5)
+    promised s _ _ _ (due-end (a .shift) (a .t4 .«num_block_clusters») (a .preset-map .now) (passGroupAt s) (a .symbols .now) (192 * (a .group .bw * a .group .bh)) (wholeAt s) (o .at) (o .rows) (o .log) (o .g0 ∷ o .g1 ∷ o .g2 ∷ []) (o .y) (c .loop-test .left) (o .inv .5))
 
 pub read-group-spec : {M : Type 1} → statement M
 read-group-spec =

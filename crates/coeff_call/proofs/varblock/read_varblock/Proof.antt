@@ -21,7 +21,7 @@ returns c =
     let a = to-start (to-slice-known4 (c .before .before .before .before .before .before .before .before .before .before)) .args in
     let w = c .before .before .before .before .before .before .before .before .before .before .read-planned in
     let z = w .last .1 .1 .1 .1 .1 .1 .1 .1 in
-    (to-start (to-slice-known4 (c .before .before .before .before .before .before .before .before .before .before)) .pre .3, step-stops (a .plan) (a .group) (a .clusters) (a .preset-map .now) (a .store .now) (a .rows .now) (a .symbols .now) (a .at) (a .shift) (a .log .now) (a .g0 .now ∷ a .g1 .now ∷ a .g2 .now ∷ []) (to-start (to-slice-known4 (c .before .before .before .before .before .before .before .before .before .before)) .pre .0) (to-start (to-slice-known4 (c .before .before .before .before .before .before .before .before .before .before)) .pre .1) (to-start (to-slice-known4 (c .before .before .before .before .before .before .before .before .before .before)) .pre .3) (w .result .walk) (w .result .«counts_over») (z .1 .0) (z .1 .1 .0 ∷ z .1 .1 .1 .0 ∷ z .1 .1 .1 .1 .0 ∷ []) (w .ensures) (sym (c .before .is-stopped .ensures) ∙ c .if1 .taken))
+    (to-start (to-slice-known4 (c .before .before .before .before .before .before .before .before .before .before)) .pre .3, step-stops (a .plan) (a .group) (a .clusters) (a .preset-map .now) (a .store .now) (a .rows .now) (a .symbols .now) (a .at) (a .shift) (a .log .now) (a .g0 .now ∷ a .g1 .now ∷ a .g2 .now ∷ []) (to-start (to-slice-known4 (c .before .before .before .before .before .before .before .before .before .before)) .pre .0) (to-start (to-slice-known4 (c .before .before .before .before .before .before .before .before .before .before)) .pre .1) (to-start (to-slice-known4 (c .before .before .before .before .before .before .before .before .before .before)) .pre .3) (w .result .walk) (w .result .«counts_over») (z .1 .0) (z .1 .1 .0 ∷ z .1 .1 .1 .0 ∷ z .1 .1 .1 .1 .0 ∷ []) (w .ensures) (sym (c .before .is-stopped .ensures) ∙ c .if1 .taken), w .ensures .used)
 
 rewrite-requires : tie.Need-rewrite-requires
 rewrite-requires c κs = to-start (to-slice-known4 (c .before .before .before .before .before .before .before .before .before .before .before .before)) .pre .2
@@ -46,7 +46,8 @@ returns-2 c =
     let a = to-start (to-slice-known4 (to-g1 (c .before .before .before .before .before .before) .before .before .before .before .before)) .args in
     let w = to-g1 (c .before .before .before .before .before .before) .before .before .before .before .before .read-planned in
     let z = w .last .1 .1 .1 .1 .1 .1 .1 .1 in
-    step-goes (a .plan) (a .group) (a .clusters) (a .preset-map .now) (a .store .now) (a .rows .now) (a .symbols .now) (a .at) (a .shift) (a .log .now) (a .g0 .now ∷ a .g1 .now ∷ a .g2 .now ∷ []) (to-start (to-slice-known4 (to-g1 (c .before .before .before .before .before .before) .before .before .before .before .before)) .pre .0) (to-start (to-slice-known4 (to-g1 (c .before .before .before .before .before .before) .before .before .before .before .before)) .pre .1) (to-start (to-slice-known4 (to-g1 (c .before .before .before .before .before .before) .before .before .before .before .before)) .pre .3) (w .result .walk) (w .result .«counts_over») (z .1 .0) (z .1 .1 .0 ∷ z .1 .1 .1 .0 ∷ z .1 .1 .1 .1 .0 ∷ []) (w .ensures) _ (rows-are (a .plan) (w .result .«counts_over») (a .rows .now) (to-start (to-slice-known4 (to-g1 (c .before .before .before .before .before .before) .before .before .before .before .before)) .pre .3) _ _ _ (c .before .before .before .before .before .before .rewrite .ensures) (c .before .before .before .rewrite2 .ensures) (c .rewrite3 .ensures))
+    let g = step-goes (a .plan) (a .group) (a .clusters) (a .preset-map .now) (a .store .now) (a .rows .now) (a .symbols .now) (a .at) (a .shift) (a .log .now) (a .g0 .now ∷ a .g1 .now ∷ a .g2 .now ∷ []) (to-start (to-slice-known4 (to-g1 (c .before .before .before .before .before .before) .before .before .before .before .before)) .pre .0) (to-start (to-slice-known4 (to-g1 (c .before .before .before .before .before .before) .before .before .before .before .before)) .pre .1) (to-start (to-slice-known4 (to-g1 (c .before .before .before .before .before .before) .before .before .before .before .before)) .pre .3) (w .result .walk) (w .result .«counts_over») (z .1 .0) (z .1 .1 .0 ∷ z .1 .1 .1 .0 ∷ z .1 .1 .1 .1 .0 ∷ []) (w .ensures) _ (rows-are (a .plan) (w .result .«counts_over») (a .rows .now) (to-start (to-slice-known4 (to-g1 (c .before .before .before .before .before .before) .before .before .before .before .before)) .pre .3) _ _ _ (c .before .before .before .before .before .before .rewrite .ensures) (c .before .before .before .rewrite2 .ensures) (c .rewrite3 .ensures)) in
+    (g .0, g .1, w .ensures .used)
 
 pub read-varblock-spec : {M : Type 1} → statement M
 read-varblock-spec =

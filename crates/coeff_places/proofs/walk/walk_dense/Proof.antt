@@ -5,7 +5,7 @@ use Rattle.coeff_walk.specs.Walk.{walk}
 use Rattle.coeff_walk.specs.laws.PlaceLaws.{places-count}
 use native.Mathlib.Omega.{arith}
 use lib.ListN.{length, drop, length-set}
-use Rattle.coeff_walk.specs.laws.Outcome.{spotCells, walk-used, walk-done, walk-17, walk-15, walk-step, ends}
+use Rattle.coeff_walk.specs.laws.Outcome.{spotCells, walk-used, walk-24, walk-17, walk-15, walk-step, ends}
 use Rattle.coeff_places.proofs.walk.walk_dense.Statement.{statement}
 use Rattle.coeff_places.proofs.walk.walk_dense.Tie as tie
 
@@ -88,9 +88,15 @@ loop-again c =
 
 returns-4 : tie.Need-returns-4 Inv-loop μ-loop
 returns-4 c =
-    let l = c .before .loop in
-    let a = c .before .before .before .before .before .before .before .args in
-    ends _ _ _ (walk-done (a .shift) (2 ^ (a .spot .exponent)) (a .coeff-map .now) (spotCells (a .spot) (a .list .now)) (a .symbols .now) (l .k) (l .prev) (l .left) (l .at) (l .log) (l .grid) (omega (arith, c .loop-test .left, l .inv .5))) (l .inv .6)
+    let l = c .before .before .loop in
+    let a = c .before .before .before .before .before .before .before .before .args in
+    ends _ _ _ (walk-used (a .shift) (2 ^ (a .spot .exponent)) (a .coeff-map .now) (spotCells (a .spot) (a .list .now)) (a .symbols .now) (l .k) (l .prev) (l .left) (l .at) (l .log) (l .grid) (c .if4 .taken)) (l .inv .6)
+
+returns-5 : tie.Need-returns-5 Inv-loop μ-loop
+returns-5 c =
+    let l = c .before .before .loop in
+    let a = c .before .before .before .before .before .before .before .before .args in
+    ends _ _ _ (walk-24 (a .shift) (2 ^ (a .spot .exponent)) (a .coeff-map .now) (spotCells (a .spot) (a .list .now)) (a .symbols .now) (l .k) (l .prev) (l .left) (l .at) (l .log) (l .grid) (omega (arith, c .before .loop-test .left, l .inv .5)) (omega (arith, c .if4 .left))) (l .inv .6)
 
 pub walk-dense-spec : {M : Type 1} → statement M
 walk-dense-spec =
@@ -121,6 +127,9 @@ walk-dense-spec =
     (λ c. search needs)
     loop-less
     loop-again
-    (λ c. c .before .loop .inv .3)
-    (λ c. c .before .loop .inv .4)
-    returns-4)
+    (λ c. c .before .before .loop .inv .3)
+    (λ c. c .before .before .loop .inv .4)
+    returns-4
+    (λ c. c .before .before .loop .inv .3)
+    (λ c. c .before .before .loop .inv .4)
+    returns-5)

@@ -7,7 +7,7 @@ use mir.Val.{Fits}
 use lib.ListN.{length, drop, getD}
 use Rattle.coeff_walk.specs.Walk.{NUM-NONZERO, walk}
 use Rattle.coeff_walk.specs.laws.Outcome.{spotCells}
-use Rattle.coeff_walk.specs.laws.Sparse.{Sparse, Turn, sparse-start, sparse-used, sparse-done, sparse-ends, turn, zeros-ready, zero-again, more-again}
+use Rattle.coeff_walk.specs.laws.Sparse.{Sparse, Turn, sparse-start, sparse-used, sparse-24, sparse-15, turn, zeros-ready, zero-again, more-again}
 use Rattle.coeff_places.proofs.walk.walk_sparse.Statement.{statement}
 use Rattle.coeff_places.proofs.walk.walk_sparse.Tie as tie
 
@@ -69,7 +69,7 @@ loop-again-2 : tie.Need-loop-again-2 Inv-loop μ-loop
 loop-again-2 c = more-again (c .before .before .before .before .before .before .before .before .before .before .loop .inv) (to-start (c .before .before .before .before .before .before .before .before .before .before) .pre .2) (turning (c .before .before .before .before .before .before .before .before)) (c .before .before .before .before .before .before .before .coeff-context .ensures) (c .before .before .before .before .before .before .before .before .before .loop-test .taken) (c .before .before .before .before .if2 .left) (c .before .before .gain-at .ensures)
 
 returns-4 : tie.Need-returns-4 Inv-loop μ-loop
-returns-4 c = sparse-ends (c .before .before .before .loop .inv) (to-start (c .before .before .before) .pre .2) (c .before .before .loop-test .left) (c .before .if3 .left) (c .if4 .left)
+returns-4 c = sparse-15 (c .before .before .before .loop .inv) (to-start (c .before .before .before) .pre .2) (c .before .before .loop-test .left) (c .if4 .left) (c .before .if3 .left)
 
 pub walk-sparse-spec : {M : Type 1} → statement M
 walk-sparse-spec =
@@ -109,11 +109,11 @@ walk-sparse-spec =
     (λ c. at-fits (c .before .before))
     (λ c. c .before .before .loop .inv .logLong)
     (λ c. c .before .before .loop .inv .gridLong)
-    (λ c. sparse-done (c .before .before .loop .inv) (c .if3 .taken))
+    (λ c. sparse-used (c .before .before .loop .inv) (c .if3 .taken))
     (λ c. at-fits (c .before .before .before))
     (λ c. c .before .before .before .loop .inv .logLong)
     (λ c. c .before .before .before .loop .inv .gridLong)
-    (λ c. sparse-used (c .before .before .before .loop .inv) (c .if4 .taken))
+    (λ c. sparse-24 (c .before .before .before .loop .inv) (c .if4 .taken) (c .before .if3 .left))
     (λ c. at-fits (c .before .before .before))
     (λ c. c .before .before .before .loop .inv .logLong)
     (λ c. c .before .before .before .loop .inv .gridLong)

@@ -1,13 +1,18 @@
-use Prim.Native.Nat.{_%_, _^_, _+_, _*_}
+use Prim.Native.Nat.{ℕ, _%_, _^_, _+_, _*_}
 use Rattle.coeff_walk.specs.laws.Items.{channel-goes, handed-by, itemAt, counted-15, counted-none}
 use Rattle.coeff_walk.specs.laws.Counts.{shifted-left, power-le}
-use mathlib.Core.Path.{refl, _≡_, _∙_, sym}
+use mathlib.Core.Path.{refl, _∙_, sym}
 use lib.Pow.{pow-pos}
-use Rattle.coeff_walk.specs.Item.{predicted, countIndex}
-use Rattle.coeff_walk.specs.laws.Outcome.{ends}
+use Rattle.coeff_walk.specs.declared.WalkEnd.{WalkEnd}
+use Rattle.coeff_walk.specs.Walk.{Walked}
+use Rattle.coeff_walk.specs.Item.{counted}
+use Rattle.coeff_walk.specs.UsedUp.{CountsUsed}
+use Rattle.coeff_walk.specs.laws.Used.{channel-uses}
+use Rattle.coeff_walk.specs.laws.Outcome.{WalkShown, ends}
 use borrow.Author.Needs.{needs}
 use native.Mathlib.Omega.{arith}
-use lib.ListN.{length-set}
+use mathlib.Core.List.{List}
+use lib.ListN.{drop, length-set}
 use Rattle.coeff_varblock.proofs.channel.read_counted.Statement.{statement}
 use Rattle.coeff_varblock.proofs.channel.read_counted.Tie as tie
 
@@ -18,8 +23,19 @@ to-start c = c .before .before .before .before .before .before
 abbrev to-count-cluster : tie.After-read-places → tie.After-count-cluster
 to-count-cluster c = c .before .before .before .before .before .before .before .before .before
 
+-- What the channel's reading is, and what it promises of its count.
+abbrev countedAt : tie.Start → Walked
+countedAt c =
+    let a = c .args in
+    counted (a .shift) (a .clusters) (a .preset-map .now) (itemAt (a .v) (a .bw) (a .block-context) (a .list .now)) (a .row .now) (drop (a .at) (a .symbols .now)) (a .at) (a .log .now) (a .grid .now)
+
+promised : (c : tie.Start) (r : WalkEnd) (log g : List ℕ) → WalkShown r log g (countedAt c) → WalkShown r log g (countedAt c) × CountsUsed 1 (c .args .symbols .now) (c .args .at) r
+promised c r log g h =
+    let a = c .args in
+    (h, channel-uses (a .symbols .now) (a .at) (a .shift) (a .clusters) (a .preset-map .now) (itemAt (a .v) (a .bw) (a .block-context) (a .list .now)) (a .row .now) (a .log .now) (a .grid .now) r (h .answer))
+
 returns : tie.Need-returns
-returns c = let a = c .before .before .before .before .before .before .args in ends _ _ _ (counted-15 (a .shift) (a .clusters) (a .preset-map .now) (itemAt (a .v) (a .bw) (a .block-context) (a .list .now)) (a .row .now) (a .symbols .now) (a .at) (a .log .now) (a .grid .now) (omega arith)) refl
+returns c = let s = c .before .before .before .before .before .before in let a = s .args in promised s _ _ _ (ends _ _ _ (counted-15 (a .shift) (a .clusters) (a .preset-map .now) (itemAt (a .v) (a .bw) (a .block-context) (a .list .now)) (a .row .now) (a .symbols .now) (a .at) (a .log .now) (a .grid .now) (omega arith)) refl)
 
 count-cluster-requires : tie.Need-count-cluster-requires
 count-cluster-requires c κs = let r = to-start (c .before .before) .pre in (r .inX, r .context, r .few)
@@ -29,8 +45,9 @@ slice-write-log c = let r = to-start (c .before .before .before) .pre .room in o
 
 returns-2 : tie.Need-returns-2
 returns-2 c =
-    let a = to-start (c .before .before .before .before) .args in
-    rw (c .before .count-cluster .ensures) (ends _ _ _ (counted-none (a .shift) (a .clusters) (a .preset-map .now) (itemAt (a .v) (a .bw) (a .block-context) (a .list .now)) (a .row .now) (a .symbols .now) (a .at) (a .log .now) (a .grid .now) (omega arith) (sym (c .before .before .to-usize .ensures) ∙ c .if2 .taken)) refl)
+    let s = to-start (c .before .before .before .before) in
+    let a = s .args in
+    promised s _ _ _ (rw (c .before .count-cluster .ensures) (ends _ _ _ (counted-none (a .shift) (a .clusters) (a .preset-map .now) (itemAt (a .v) (a .bw) (a .block-context) (a .list .now)) (a .row .now) (a .symbols .now) (a .at) (a .log .now) (a .grid .now) (omega arith) (sym (c .before .before .to-usize .ensures) ∙ c .if2 .taken)) refl))
 
 spot-of-requires : tie.Need-spot-of-requires
 spot-of-requires c κs = let r = to-start (c .before .before .before .before) .pre in (r .inX, r .inY, r .narrow)
@@ -40,12 +57,14 @@ mul-read-places c = let p = to-start (c .before .before .before .before .before 
 
 returns-3 : tie.Need-returns-3
 returns-3 c =
-    let a = to-start (to-count-cluster (c .before .before .before .before) .before .before .before) .args in
+    let s = to-start (to-count-cluster (c .before .before .before .before) .before .before .before) in
+    let a = s .args in
     let u = to-count-cluster (c .before .before .before .before) .before .before .before .if1 .left in
-    handed-by _ _ _ _ _ (c .before .before .before .before .read-places .ensures)
-    (rw (c .before .before .before .before .before .before .before .before .before .before .before .spot-of .ensures, to-count-cluster (c .before .before .before .before) .count-cluster .ensures)
-    (channel-goes (a .v) (a .bw) (a .block-context) (a .clusters) (a .preset-map .now) (a .list .now) (a .row .now) (a .symbols .now) (a .at) (a .shift) (a .log .now) (a .grid .now) (2 * 2 ^ (a .v .exponent) % 2 ^ 64) (a .block-context * 458 + 37 * a .clusters) (a .block-context * 458 + 37 * a .clusters + 458) (a .at + 1) (to-count-cluster (c .before .before .before .before) .before .to-usize .result) (a .block-context + countIndex (predicted (a .row .now) (a .v .x) (a .v .y)) * a .clusters) (c .before .before .before .before .before .before .before .before .before .before .first-prev .result)
-    (to-start (to-count-cluster (c .before .before .before .before) .before .before .before) .pre) (shifted-left 2 (a .v .exponent) (omega arith) (to-start (to-count-cluster (c .before .before .before .before) .before .before .before) .pre .exponent)) refl refl refl (omega arith) (to-count-cluster (c .before .before .before .before) .before .to-usize .ensures) (c .before .before .before .before .before .before .before .before .before .before .first-prev .ensures) refl))
+    let k = to-count-cluster (c .before .before .before .before) in
+    let f = c .before .before .before .before .before .before .before .before .before .before in
+    promised s _ _ _ (handed-by _ _ _ _ _ (c .before .before .before .before .read-places .ensures .0)
+    (channel-goes (a .v) (a .bw) (a .block-context) (a .clusters) (a .preset-map .now) (a .list .now) (a .row .now) (a .symbols .now) (a .at) (a .shift) (a .log .now) (a .grid .now) (2 * 2 ^ (a .v .exponent) % 2 ^ 64) (a .block-context * 458 + 37 * a .clusters) (a .block-context * 458 + 37 * a .clusters + 458) (a .at + 1) (k .before .to-usize .result) (f .first-prev .result)
+    (s .pre) (shifted-left 2 (a .v .exponent) (omega arith) (s .pre .exponent)) refl refl refl (omega arith) (k .before .to-usize .ensures) (f .first-prev .ensures) (k .count-cluster .result) (k .count-cluster .ensures) (f .before .spot-of .result) (f .before .spot-of .ensures)))
 
 pub read-counted-spec : {M : Type 1} → statement M
 read-counted-spec =

@@ -17,17 +17,17 @@ to-start-from-then1 c = c .before .before .before .before .before .before .befor
 returns : tie.Need-returns
 returns c =
     let a = to-start-from-then1 (c .before .before .before .before .before .before .before) .args in
-    in-first (a .c) _ _ (λ g. counted (a .shift) (a .clusters) (a .preset-map .now) (itemAt (a .v) (a .bw) (a .block-context) (a .list .now)) (a .row .now) (drop (a .at) (a .symbols .now)) (a .at) (a .log .now) g) (a .g0 .now) (a .g1 .now) (a .g2 .now) _ (omega arith) (c .before .before .before .before .read-counted .ensures)
+    (in-first (a .c) _ _ (λ g. counted (a .shift) (a .clusters) (a .preset-map .now) (itemAt (a .v) (a .bw) (a .block-context) (a .list .now)) (a .row .now) (drop (a .at) (a .symbols .now)) (a .at) (a .log .now) g) (a .g0 .now) (a .g1 .now) (a .g2 .now) _ (omega arith) (c .before .before .before .before .read-counted .ensures .0), c .before .before .before .before .read-counted .ensures .1)
 
 returns-2 : tie.Need-returns-2
 returns-2 c =
     let a = to-start-from-else1 (c .before .before .before .before .before .before .before .before) .args in
-    in-second (a .c) _ _ (λ g. counted (a .shift) (a .clusters) (a .preset-map .now) (itemAt (a .v) (a .bw) (a .block-context) (a .list .now)) (a .row .now) (drop (a .at) (a .symbols .now)) (a .at) (a .log .now) g) (a .g0 .now) (a .g1 .now) (a .g2 .now) _ (omega arith) (c .before .before .before .before .read-counted2 .ensures)
+    (in-second (a .c) _ _ (λ g. counted (a .shift) (a .clusters) (a .preset-map .now) (itemAt (a .v) (a .bw) (a .block-context) (a .list .now)) (a .row .now) (drop (a .at) (a .symbols .now)) (a .at) (a .log .now) g) (a .g0 .now) (a .g1 .now) (a .g2 .now) _ (omega arith) (c .before .before .before .before .read-counted2 .ensures .0), c .before .before .before .before .read-counted2 .ensures .1)
 
 returns-3 : tie.Need-returns-3
 returns-3 c =
     let a = to-start-from-else1 (c .before .before .before .before .before .before .before .before) .args in
-    in-third (a .c) _ _ (λ g. counted (a .shift) (a .clusters) (a .preset-map .now) (itemAt (a .v) (a .bw) (a .block-context) (a .list .now)) (a .row .now) (drop (a .at) (a .symbols .now)) (a .at) (a .log .now) g) (a .g0 .now) (a .g1 .now) (a .g2 .now) _ (omega arith) (c .before .before .before .before .read-counted3 .ensures)
+    (in-third (a .c) _ _ (λ g. counted (a .shift) (a .clusters) (a .preset-map .now) (itemAt (a .v) (a .bw) (a .block-context) (a .list .now)) (a .row .now) (drop (a .at) (a .symbols .now)) (a .at) (a .log .now) g) (a .g0 .now) (a .g1 .now) (a .g2 .now) _ (omega arith) (c .before .before .before .before .read-counted3 .ensures .0), c .before .before .before .before .read-counted3 .ensures .1)
 
 pub read-in-grid-spec : {M : Type 1} → statement M
 read-in-grid-spec =

@@ -1,0 +1,55 @@
+-- Counts at the border of refusal 24, computed (document 02, No. 8): one block, its 63 cells, a log of 66 bytes that held 9. The last place's
+-- symbol is read, logged and added before 24 is told, and 17 and 15 come first where they apply.
+use mathlib.Core.Path.{_≡_, refl}
+use mathlib.Core.List.{List, [], _∷_, _++_}
+use Prim.Native.Nat.{ℕ, zero, suc, _+_}
+use lib.ListN.{replicate}
+use Rattle.coded_numbers.specs.Signed.{unpackSigned}
+use Rattle.refusal.specs.declared.Refusal.the-variants.{SymbolsEnd, TooManyZeros, CountRemaining}
+use Rattle.coeff_walk.specs.Walk.{FREQ, NUM-NONZERO, coeffContext, Walked, done, stopped, walk}
+use Rattle.coeff_walk.specs.Item.{Item, counted}
+
+-- n cells from p on
+abbrev cellsFrom : ℕ → ℕ → List ℕ
+cellsFrom zero p = []
+cellsFrom (suc n) p = p ∷ cellsFrom n (p + 1)
+
+abbrev block : Item
+block = record { channel = 0; x = 0; y = 0; wide = 1; blocks = 1; blockContext = 0; cells = cellsFrom 63 0 }
+
+-- every cluster is 0, the grid starts with zeros
+abbrev reads : List ℕ → Walked
+reads symbols = counted 0 1 [] block (replicate 32 0) symbols 0 (replicate 66 9) (replicate 63 0)
+
+unfoldable computes : ℕ
+unfolding counted walk coeffContext FREQ NUM-NONZERO unpackSigned
+computes = 0
+
+-- 24 behind the last place's symbol
+pub one-remaining : reads (1 ∷ replicate 63 0) ≡ stopped CountRemaining 64 (replicate 64 0 ++ replicate 2 9) (replicate 63 0)
+unfolding computes
+one-remaining = refl
+
+-- that symbol was added
+pub last-added : reads (2 ∷ (replicate 62 0 ++ (2 ∷ []))) ≡ stopped CountRemaining 64 (replicate 64 0 ++ replicate 2 9) (replicate 62 0 ++ (1 ∷ []))
+unfolding computes
+last-added = refl
+
+-- used up by the last place's symbol
+pub last-used : reads (1 ∷ (replicate 62 0 ++ (2 ∷ []))) ≡ done [] 64 (replicate 64 0 ++ replicate 2 9) (replicate 62 0 ++ (1 ∷ []))
+unfolding computes
+last-used = refl
+
+-- 15 where the last place's symbol is missing
+pub last-missing : reads (1 ∷ replicate 62 0) ≡ stopped SymbolsEnd 63 (replicate 63 0 ++ replicate 3 9) (replicate 63 0)
+unfolding computes
+last-missing = refl
+
+-- 32 is the largest count that passes all places as zeros; 33 comes to 17 before
+pub thirty-two : reads (32 ∷ replicate 63 0) ≡ stopped CountRemaining 64 (replicate 64 0 ++ replicate 2 9) (replicate 63 0)
+unfolding computes
+thirty-two = refl
+
+pub thirty-three : reads (33 ∷ replicate 63 0) ≡ stopped TooManyZeros 32 (replicate 32 0 ++ replicate 34 9) (replicate 63 0)
+unfolding computes
+thirty-three = refl
