@@ -135,9 +135,10 @@ static void take_presets(struct input *in, struct group_call *call)
 }
 
 /* How symbols are made: how often a coefficient is other than 0, how large counts are for each block,
- * the count that is the least too large, and whether they end where no context is left. */
+ * the count that is the least too large, the one that is not used up by its places, and whether they
+ * end where no context is left. */
 struct manner {
-    uint32_t sparse, most, refused;
+    uint32_t sparse, most, refused, remaining;
     bool ends_at_17;
 };
 
@@ -149,22 +150,23 @@ static uint32_t spread_filled(struct input *in)
     return number > 0 ? number : 1;
 }
 
-/* The coefficients behind a count; false where the symbols end there. */
+/* The coefficients behind a count, of which at least so much is kept; false where the symbols end
+ * there. */
 static bool write_places(struct input *in, struct manner manner, uint32_t blocks, uint32_t left,
-                         uint32_t *symbols, size_t *count)
+                         uint32_t kept, uint32_t *symbols, size_t *count)
 {
     bool filled = left <= 4 * blocks;
     for (uint32_t place = 0; left > 0 && place < 63 * blocks; place++) {
         if (manner.ends_at_17 && coefficient_context(left, place, blocks, filled) >= COEFFICIENT_ENTRIES)
             return false;
-        filled = spread_below(in, manner.sparse) == 0;
+        filled = left > kept && spread_below(in, manner.sparse) == 0;
         symbols[(*count)++] = filled ? spread_filled(in) : 0;
         left -= filled;
     }
     return true;
 }
 
-/* Symbols that read a group to its end, or as far as there is room (the corners of a damaged group may
+/* Symbols for all channels of a group, or as far as there is room (the corners of a damaged group may
  * be more than its blocks), its counts mostly small. */
 static size_t write_symbols(struct input *in, struct manner manner, const struct grid *grid,
                             uint32_t *symbols)
@@ -179,9 +181,10 @@ static size_t write_symbols(struct input *in, struct manner manner, const struct
         if (count + 192 * (size_t)blocks > SYMBOLS_MOST)
             break;
         for (int channel = 0; channel < 3; channel++, number++) {
-            uint32_t left = spread_below(in, manner.most * blocks + 1);
+            uint32_t kept = number == manner.remaining;
+            uint32_t left = spread_below(in, manner.most * blocks + 1 - kept) + kept;
             symbols[count++] = number == manner.refused ? 63 * blocks + 1 : left;
-            if (!write_places(in, manner, blocks, left, symbols, &count))
+            if (!write_places(in, manner, blocks, left, kept, symbols, &count))
                 return count;
         }
     }
@@ -193,9 +196,11 @@ static struct manner take_manner(struct input *in)
     struct manner manner;
     manner.sparse = 1 + take_below(in, 8);
     manner.most = take_once_in(in, 4) ? 63 : 4;
-    manner.refused = UINT32_MAX;
+    manner.refused = manner.remaining = UINT32_MAX;
     if (take_once_in(in, 16))
         manner.refused = take_below(in, 8);
+    if (take_once_in(in, 8))
+        manner.remaining = take_below(in, 8);
     manner.ends_at_17 = take_once_in(in, 4);
     return manner;
 }

@@ -48,6 +48,13 @@ enum plant {
     SECOND_NOT_SEEN,
     SURPLUS_NOT_SEEN,
     LARGE_AS_11,
+    /* Places that end with count remaining: whether it is told, when, where, and what then stays. */
+    REMAINING_ACCEPTED,
+    REMAINING_TOO_SOON,
+    REMAINING_NOT_ADDED,
+    REMAINING_ONE_LESS,
+    REMAINING_FOR_17,
+    REMAINING_TAKEN_BACK,
     /* Beside a refusal a result is set to 0, call by call. */
     WIDTH_ZERO,
     VALUE_ZERO,
@@ -341,22 +348,52 @@ uint32_t __wrap_netbuff_orders(const uint8_t *bytes, size_t bytes_length, const 
     return refused;
 }
 
-/* What the first grid held before the call. */
-static int32_t grid_before[64 * 32 * 32];
+enum { GRID_MOST = 64 * 32 * 32, LOG_MOST = 192 * 32 * 32 };
 
-static bool grid_is_noted(size_t length)
+/* What the grids and the log held before the call, as far as a call that reads symbols writes. */
+static struct {
+    int32_t grids[3][GRID_MOST];
+    uint8_t log[LOG_MOST];
+} before;
+
+/* What is lent to be written. */
+struct written {
+    int32_t *grids[3];
+    size_t grid_lengths[3];
+    uint8_t *log;
+    size_t log_length;
+};
+
+static size_t at_most(size_t length, size_t most)
 {
-    return length <= sizeof grid_before / sizeof grid_before[0];
+    return length < most ? length : most;
+}
+
+static void note(const struct written *of)
+{
+    for (int channel = 0; channel < 3; channel++)
+        memcpy(before.grids[channel], of->grids[channel],
+               at_most(of->grid_lengths[channel], GRID_MOST) * sizeof(int32_t));
+    memcpy(before.log, of->log, at_most(of->log_length, LOG_MOST));
+}
+
+/* All that a call wrote that read symbols is as it was before. */
+static void take_back(const struct written *of)
+{
+    for (int channel = 0; channel < 3; channel++)
+        memcpy(of->grids[channel], before.grids[channel],
+               of->grid_lengths[channel] * sizeof(int32_t));
+    memcpy(of->log, before.log, at_most(of->log_length, LOG_MOST));
 }
 
 /* The last coefficient of the first grid is not added, or added to the cell behind its own. */
 static void misplace(int32_t *grid, size_t length)
 {
     for (size_t cell = length - 1; cell > 0; cell--) {
-        uint32_t gain = (uint32_t)grid[cell - 1] - (uint32_t)grid_before[cell - 1];
+        uint32_t gain = (uint32_t)grid[cell - 1] - (uint32_t)before.grids[0][cell - 1];
         if (gain == 0)
             continue;
-        grid[cell - 1] = grid_before[cell - 1];
+        grid[cell - 1] = before.grids[0][cell - 1];
         if (planted() == CELL_BESIDE)
             grid[cell] = (int32_t)((uint32_t)grid[cell] + gain);
         return;
@@ -372,6 +409,19 @@ static void log_other(uint8_t *last, const uint8_t *cluster_map, size_t length)
     *last = cluster_map[entry];
 }
 
+/* 24 that is told one symbol early, with all taken back, or not at all. */
+static uint32_t remaining(const struct written *written, size_t *symbols_read, size_t *x)
+{
+    *x -= planted() == REMAINING_ONE_LESS;
+    if (planted() == REMAINING_TAKEN_BACK)
+        take_back(written);
+    if (planted() != REMAINING_ACCEPTED)
+        return 24;
+    *symbols_read = *x;
+    *x = 0;
+    return 0;
+}
+
 uint32_t __wrap_netbuff_coefficients(
     size_t bw, size_t bh, const uint8_t *kinds, size_t kinds_length, const int32_t *hf_mul,
     size_t hf_mul_length, uint32_t num_block_clusters, const uint32_t lengths[4],
@@ -383,15 +433,27 @@ uint32_t __wrap_netbuff_coefficients(
     int32_t *grid0, size_t grid0_length, int32_t *grid1, size_t grid1_length, int32_t *grid2,
     size_t grid2_length, size_t *symbols_read, size_t *x, size_t *y)
 {
-    if (grid_is_noted(grid0_length))
-        memcpy(grid_before, grid0, grid0_length * sizeof grid0[0]);
+#define REAL(so_many)                                                                              \
+    __real_netbuff_coefficients(                                                                   \
+        bw, bh, kinds, kinds_length, hf_mul, hf_mul_length, num_block_clusters, lengths,           \
+        lf_thresholds, qf_thresholds, block_ctx_map, lf_there, lf0, lf0_length, lf1, lf1_length,   \
+        lf2, lf2_length, store, store_length, presets, cluster_map, cluster_map_length, shift,     \
+        bytes, bytes_length, symbols, so_many, log, log_length, grid0, grid0_length, grid1,        \
+        grid1_length, grid2, grid2_length, symbols_read, x, y)
+    const struct written written = {
+        {grid0, grid1, grid2}, {grid0_length, grid1_length, grid2_length}, log, log_length};
+    note(&written);
     size_t read_before = *symbols_read;
-    uint32_t refused = __real_netbuff_coefficients(
-        bw, bh, kinds, kinds_length, hf_mul, hf_mul_length, num_block_clusters, lengths,
-        lf_thresholds, qf_thresholds, block_ctx_map, lf_there, lf0, lf0_length, lf1, lf1_length, lf2,
-        lf2_length, store, store_length, presets, cluster_map, cluster_map_length, shift, bytes,
-        bytes_length, symbols, symbols_length, log, log_length, grid0, grid0_length, grid1, grid1_length,
-        grid2, grid2_length, symbols_read, x, y);
+    uint32_t refused = REAL(symbols_length);
+    if ((planted() == REMAINING_TOO_SOON || planted() == REMAINING_NOT_ADDED) && refused == 24) {
+        /* As it stands before the last place's symbol is read, or with that logged alone. */
+        size_t told = *x;
+        uint8_t last = log[told - 1];
+        take_back(&written);
+        REAL(told - 1);
+        log[told - 1] = planted() == REMAINING_NOT_ADDED ? last : log[told - 1];
+        *x = told;
+    }
     if (planted() == LOG_BEHIND && refused == 0 && *symbols_read < log_length)
         log[*symbols_read] ^= 1;
     if (planted() == GRID_AFTER_14 && refused == 14)
@@ -404,10 +466,12 @@ uint32_t __wrap_netbuff_coefficients(
         misplace(grid0, grid0_length);
     if (planted() == OTHER_CLUSTER && refused == 0 && presets == 1)
         log_other(&log[*symbols_read - 1], cluster_map, cluster_map_length);
+    if (refused == 24)
+        return remaining(&written, symbols_read, x);
     if (planted() == ACCEPTED_AS_17 && refused == 0) {
         *x = *symbols_read;
         *symbols_read = read_before;
         return 17;
     }
-    return refused;
+    return planted() == REMAINING_FOR_17 && refused == 17 ? 24 : refused;
 }

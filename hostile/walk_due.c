@@ -52,7 +52,7 @@ static void add(const struct group_call *call, struct walk *walk, const struct v
     walk->grids[channel][y * 8 * call->sides.wide + x] += (uint32_t)signed_of(symbol) << call->shift;
 }
 
-/* The coefficients behind a count, until it is used up or the places end. */
+/* The coefficients behind a count, until it is used up; the places may not end before. */
 static bool read_places(const struct group_call *call, struct walk *walk,
                         const struct varblock *varblock, size_t channel, uint32_t context, uint32_t left)
 {
@@ -72,7 +72,7 @@ static bool read_places(const struct group_call *call, struct walk *walk,
         add(call, walk, varblock, channel, list + 2 * (size_t)(blocks + place), symbol);
         left--;
     }
-    return true;
+    return left == 0 || refuse(walk, 24);
 }
 
 static bool read_varblock(const struct group_call *call, struct walk *walk,

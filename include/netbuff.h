@@ -80,7 +80,7 @@ extern "C" {
 
 /* The version of this header. */
 #define NETBUFF_VERSION_MAJOR 0
-#define NETBUFF_VERSION_MINOR 2
+#define NETBUFF_VERSION_MINOR 3
 #define NETBUFF_VERSION_PATCH 0
 
 /* A version as one number. */
@@ -99,8 +99,8 @@ uint32_t netbuff_version(void);
 /*
  * All refusals: name, number, text, position. A position is 0, 0; or x, y of the free block whose
  * varblock was being placed; or what was read until then, and 0. A refused symbol counts as read.
- * Number 13 has the position 0, 0 where a stored place is outside its order. New refusals get the
- * next number; no number changes its meaning.
+ * Number 13 has the position 0, 0 where a stored place is outside its order. New refusals get
+ * numbers that no other has, not always the next; no number changes its meaning.
  */
 #define NETBUFF_REFUSALS(refusal)                                                                  \
     refusal(LENGTH, 1, "a lent length does not fit", "0, 0")                                       \
@@ -120,7 +120,8 @@ uint32_t netbuff_version(void);
     refusal(SYMBOLS_END, 15, "symbols end", "symbols read, 0")                                     \
     refusal(COUNT, 16, "count above 63 x blocks", "symbols read, 0")                               \
     refusal(COEFFICIENT_CONTEXT, 17, "coefficient context 458 or more", "symbols read, 0")         \
-    refusal(LAYOUT, 18, "lent layout or group is none", "0, 0")
+    refusal(LAYOUT, 18, "lent layout or group is none", "0, 0")                                    \
+    refusal(COUNT_REMAINING, 24, "places end with count remaining", "symbols read, 0")
 
 /* NETBUFF_REFUSED_LENGTH is 1, and so on. */
 enum {
@@ -517,20 +518,21 @@ bool netbuff_places_fit(const uint16_t *store, size_t store_length);
  *
  * The symbols: corners row by row, and for each corner channel 1, then 0, then 2. A channel has a
  * count of its coefficients that are not 0; then, if that is not 0, one symbol for each place of
- * its list behind the low-frequency places, until as many as the count says were not 0, or places
- * end. Coefficients are packed signed (netbuff_unpack_signed), counts are not. A coefficient is
- * shifted left (shift is 0 to 3) and added to the grid of its channel, modulo 2^32: at place (px,
- * py), or (py, px) where the transform turns, it is cell (8 * x + px, 8 * y + py), for the corner
- * (x, y). Low-frequency cells are never touched where the store is one that netbuff_orders wrote.
- * Surplus symbols and a count that is not used up are accepted. *symbols_read receives the symbols
- * read; log[i] receives the cluster that the cluster map names for symbol i.
+ * its list behind the low-frequency places, until as many as the count says were not 0. Where the
+ * last place is passed before, its symbol read, logged and added, that is 24. Coefficients are
+ * packed signed (netbuff_unpack_signed), counts are not. A coefficient is shifted left (shift is 0
+ * to 3) and added to the grid of its channel, modulo 2^32: at place (px, py), or (py, px) where the
+ * transform turns, it is cell (8 * x + px, 8 * y + py), for the corner (x, y). Low-frequency cells
+ * are never touched where the store is one that netbuff_orders wrote. Surplus symbols are accepted.
+ * *symbols_read receives the symbols read; log[i] receives the cluster that the cluster map names
+ * for symbol i.
  *
  * Lengths that fit: bw * bh for kinds, hf_mul and each LF grid that is there; NETBUFF_STORE_LENGTH
  * for the store; 495 * num_block_clusters * presets (0 to 256) for the cluster map; 64 * bw * bh
  * for each grid, whose rows have 8 * bw cells; at least 192 * bw * bh for the log.
  *
  * Refused: 2, 11, 12, 1, 18, 13 (a stored place), 3, 14: grids and log stay as they were. Then 15,
- * 16, 17: what was added and logged before stays, the refused count of 16 logged too. Log bytes
+ * 16, 17, 24: what was added and logged before stays, the refused count of 16 logged too. Log bytes
  * behind the symbols read keep their contents.
  */
 uint32_t netbuff_coefficients(size_t bw, size_t bh, const uint8_t *kinds, size_t kinds_length,

@@ -448,8 +448,8 @@ static void try_coefficients(void)
     uint32_t numbers[LIST_MOST];
     for (size_t k = 0; k < LIST_MOST; k++)
         numbers[k] = once_in(3) ? below(9) : 0;
-    if (once_in(10))
-        numbers[0] = below(200); /* a count that is too large, by times */
+    if (once_in(5))
+        numbers[0] = below(once_in(2) ? 200 : 64); /* too large a count, or not used up, by times */
     for (size_t at = 0; at + 8 <= sizeof cluster_map; at += 8)
         memcpy(cluster_map + at, &(uint64_t){next()}, 8);
     for (size_t k = 0; k <= BLOCKS_MOST; k++)
@@ -545,8 +545,25 @@ static void try_names(void)
         hold(ORDERS, list.places == orders[order][0] * orders[order][1], "places");
         hold(ORDERS, wide == orders[order][0] && high == orders[order][1], "sizes of orders");
     }
-    for (uint32_t number = 1; number < NETBUFF_REFUSALS_END; number++)
-        hold(FIND, strcmp(netbuff_refusal_text(number), netbuff_refusal_text(99)) != 0, "texts");
+}
+
+/* Each refusal has the text and the position of its row; numbers between rows have the texts of none. */
+static void try_texts(void)
+{
+    static const struct {
+        const char *text, *position;
+    } rows[NETBUFF_REFUSALS_END] = {
+#define ROW(name, number, text, position) [number] = {text, position},
+        NETBUFF_REFUSALS(ROW)
+#undef ROW
+    };
+    for (uint32_t number = 1; number < NETBUFF_REFUSALS_END; number++) {
+        bool is_row = rows[number].text != NULL;
+        const char *text = is_row ? rows[number].text : netbuff_refusal_text(UINT32_MAX);
+        const char *position = is_row ? rows[number].position : netbuff_position_text(UINT32_MAX);
+        hold(FIND, strcmp(netbuff_refusal_text(number), text) == 0, "texts");
+        hold(FIND, strcmp(netbuff_position_text(number), position) == 0, "texts of positions");
+    }
 }
 
 /* Structs of zeros alone are refused, and nothing is looked at. */
@@ -595,7 +612,7 @@ static void hold_counts(void)
         {ALIKE, {0, 1, 2, 11, 18}, 5},
         {CONTEXTS, {0, 1, 3, 12}, 4},
         {ORDERS, {0, 1, 3, 13, 15}, 5},
-        {COEFFICIENTS, {0, 1, 2, 3, 11, 12, 13, 14, 15, 16, 18}, 11},
+        {COEFFICIENTS, {0, 1, 2, 3, 11, 12, 13, 14, 15, 16, 17, 18, 24}, 13},
     };
     for (size_t row = 0; row < sizeof due / sizeof due[0]; row++)
         for (size_t k = 0; k < due[row].count; k++)
@@ -611,6 +628,7 @@ int main(void)
     prepare();
     try_zeros();
     try_names();
+    try_texts();
     for (unsigned round = 0; round < ROUNDS; round++) {
         try_transform();
         try_bits();

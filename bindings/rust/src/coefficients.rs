@@ -126,8 +126,7 @@ pub struct CoefficientMut<'a> {
 /// Varblocks are taken by their corners, row by row, and for each of them the channels 1, 0, 2: a
 /// count, then one symbol per place of its order until as many as the count says were not 0. A
 /// coefficient is shifted and added to the cell of its channel, modulo 2^32. Of each symbol read the
-/// log gets the cluster; log bytes behind them keep their contents. Counts that are not used up and
-/// surplus symbols are accepted.
+/// log gets the cluster; log bytes behind them keep their contents. Surplus symbols are accepted.
 ///
 /// Lengths that fit are [`Sides::blocks`](crate::Sides::blocks) for the group and each LF grid,
 /// [`Sides::cells`](crate::Sides::cells) for each grid,
@@ -136,8 +135,9 @@ pub struct CoefficientMut<'a> {
 ///
 /// # Errors
 ///
-/// 2, 11, 12, 1, 18, 13 (a stored place), 3, 14: grids and log stay as they were. 15, 16, 17: what
-/// was added and logged before stays, the refused count of 16 logged too.
+/// 2, 11, 12, 1, 18, 13 (a stored place), 3, 14: grids and log stay as they were. 15, 16, 17, 24:
+/// what was added and logged before stays, the refused count of 16 logged too. 24 is given when the
+/// last place of a channel is passed with count remaining, its symbol read, logged and added.
 ///
 /// ```
 /// use netbuff::{coefficients, BlockContexts, CoefficientInput, GridsBuf, Group, OrdersBuf};

@@ -93,6 +93,7 @@
 //! | 16 | [`Count`](Refusal::Count) | symbols read, 0 |
 //! | 17 | [`CoefficientContext`](Refusal::CoefficientContext) | symbols read, 0 |
 //! | 18 | [`Layout`](Refusal::Layout) | 0, 0 |
+//! | 24 | [`CountRemaining`](Refusal::CountRemaining) | symbols read, 0 |
 //!
 //! Where several apply, the one that a call names first under *Errors* is given.
 //!

@@ -656,16 +656,27 @@ fn presets_are_read_from_the_first_bits() {
 
 #[test]
 fn what_was_added_and_logged_before_stays() {
-    // Channel 1 gets -2 at (0, 1); then symbols end, a count is too large, or a context is.
-    let mut outside = vec![1, 3, 33];
-    outside.extend([0; 31]);
+    // Channel 1 gets -2 at (0, 1); then symbols end, a count is too large, a context is, or places
+    // end with count remaining.
+    let zeros = |count, zeros| [vec![1, 3, count], vec![0; zeros]].concat();
     let tries = [
         (vec![1, 3], Refusal::SymbolsEnd { symbols_read: 2 }, 2),
         (vec![1, 3, 64], Refusal::Count { symbols_read: 3 }, 3),
         (
-            outside,
+            zeros(33, 63),
             Refusal::CoefficientContext { symbols_read: 34 },
             34,
+        ),
+        (
+            zeros(32, 63),
+            Refusal::CountRemaining { symbols_read: 66 },
+            66,
+        ),
+        (zeros(1, 62), Refusal::SymbolsEnd { symbols_read: 65 }, 65),
+        (
+            zeros(1, 64),
+            Refusal::CountRemaining { symbols_read: 66 },
+            66,
         ),
     ];
     for (symbols, refusal, logged) in tries {
@@ -681,5 +692,23 @@ fn what_was_added_and_logged_before_stays() {
         assert_eq!(grids[1][8], NUMBER - 2);
         assert!(log[..logged].iter().all(|&cluster| cluster == 0));
         assert!(log[logged..].iter().all(|&cluster| cluster == KIND));
+    }
+}
+
+/// Of each channel; the symbol of the last place, (7, 7), is read, logged and added before.
+#[test]
+fn a_count_that_is_not_used_up_is_refused_behind_the_last_place() {
+    for (before, channel) in [1, 0, 2].into_iter().enumerate() {
+        let mut symbols = [vec![0; before], vec![2], vec![0; 63]].concat();
+        *symbols.last_mut().expect("a symbol") = 2;
+        let (answer, grids, log) = CoefficientTry::new(1, &[], &symbols).read();
+        let symbols_read = before + 64;
+        assert_eq!(answer, Err(Refusal::CountRemaining { symbols_read }));
+        for (each, grid) in grids.iter().enumerate() {
+            let gained = i32::from(each == channel);
+            assert!(grid[..63].iter().all(|&cell| cell == NUMBER));
+            assert_eq!(grid[63], NUMBER + gained, "channel {each}");
+        }
+        assert_eq!(log.iter().filter(|&&byte| byte == 0).count(), symbols_read);
     }
 }

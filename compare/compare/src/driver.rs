@@ -149,9 +149,6 @@ impl<'a, C: Case, F: Fn(&C::Input) -> Answered<C>> Run<'a, C, F> {
             self.met.insert(digest);
             self.report.different = Some(self.met.len());
         }
-        if let Some(by_model) = self.case.by_model(&input) {
-            *self.report.by_model.get_or_insert(0) += usize::from(by_model);
-        }
         step(self.case, &self.ours, input, &mut self.report);
     }
 }
@@ -222,16 +219,12 @@ fn step<C: Case>(
 ) {
     let number = match expect(case, &input) {
         Ok(expected) => {
-            let number = expected
-                .answer
-                .as_ref()
-                .err()
-                .map_or(0, |refusal| refusal.number);
-            if expected == ours(&input) {
-                Some(number)
-            } else {
-                None
+            if let Some(by_model) = case.by_model(&input, &expected) {
+                *report.by_model.get_or_insert(0) += usize::from(by_model);
             }
+            let refusal = expected.answer.as_ref().err();
+            let number = refusal.map_or(0, |refusal| refusal.number);
+            (expected == ours(&input)).then_some(number)
         }
         Err(_) => None,
     };

@@ -69,13 +69,26 @@ pub fn orders(call: &OrdersCall) -> Outcome<usize, Store> {
     }
 }
 
-/// The orders are those of the call's store, and their cluster map begins with the call's.
+/// The orders are those of the call's store, and their cluster map begins with the call's. A call in
+/// which the model finds that places end with count remaining is not lent to the Rust, which goes on
+/// there.
 pub fn coefficients(
     call: &CoefficientsCall,
     orders: &Orders,
 ) -> Outcome<usize, CoefficientBuffers> {
-    match paper::coefficients_before_work(call) {
-        Some(refusal) => Outcome::untouched(refusal, call.buffers.clone()),
-        None => oracle::coefficients(call, orders),
+    if let Some(refusal) = paper::coefficients_before_work(call) {
+        return Outcome::untouched(refusal, call.buffers.clone());
     }
+    let modelled = paper::coefficients(call);
+    if count_remains(&modelled) {
+        modelled
+    } else {
+        oracle::coefficients(call, orders)
+    }
+}
+
+/// Whether a coefficient call is refused since places end with count remaining (document 02, No. 8):
+/// 24, which the Rust has no error for.
+pub fn count_remains(outcome: &Outcome<usize, CoefficientBuffers>) -> bool {
+    outcome.answer.is_err_and(|refusal| refusal.number == 24)
 }

@@ -8,13 +8,14 @@ use compare::{expected, make};
 use jxl_vardct::oracle;
 
 #[test]
-fn sides_of_the_transforms() {
+fn what_the_transforms_carry() {
     for number in 0..27 {
         let transform = oracle::transform(number).expect("a transform");
         let sides = (transform.wide, transform.high);
         assert_eq!(paper::kind_sides(number + 2), Some(sides));
+        assert_eq!(paper::transform(number), Some(transform));
     }
-    assert_eq!(paper::kind_sides(29), None);
+    assert_eq!((paper::kind_sides(29), paper::transform(27)), (None, None));
 }
 
 #[test]

@@ -1,6 +1,7 @@
 //! A plain model of what the papers add to the Rust: the checks before work, the cut, the likeness
-//! test, and the layout call on lists with a type that is not 0 to 255. Written from the papers, not
-//! from the code under comparison; everywhere else the Rust answers.
+//! test, the layout call on lists with a type that is not 0 to 255, and the coefficient call where
+//! places end with count remaining. Written from the papers, not from the code under comparison;
+//! everywhere else the Rust answers.
 
 mod coefficients;
 mod contexts;
@@ -9,14 +10,19 @@ mod likeness;
 mod placing;
 mod record;
 mod stores;
+mod transforms;
+mod walk;
+mod walk_contexts;
 
 pub use coefficients::{coefficients_before_work, ENTRIES_PER_CLUSTER};
 pub use contexts::{clusters_refused, is_fit};
 pub use layout::{column_count_before_work, grid_sides, layout_before_work};
 pub use likeness::alike;
 pub use placing::layout;
-pub use record::{cut, is_layout, kind_sides, transform_sides};
+pub use record::{cut, is_layout, kind_sides};
 pub use stores::{places_inside, store_fits};
+pub use transforms::{transform, transform_sides};
+pub use walk::coefficients;
 
 use calls::Refusal;
 

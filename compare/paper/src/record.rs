@@ -2,50 +2,13 @@
 
 use calls::{Answer, CutCall, GroupBuffers, Layout, Outcome};
 
-use crate::first_refusal;
-
-/// Width and height of the 27 transforms, in blocks.
-const SIDES: [(u8, u8); 27] = [
-    (1, 1),
-    (1, 1),
-    (1, 1),
-    (1, 1),
-    (2, 2),
-    (4, 4),
-    (1, 2),
-    (2, 1),
-    (1, 4),
-    (4, 1),
-    (2, 4),
-    (4, 2),
-    (1, 1),
-    (1, 1),
-    (1, 1),
-    (1, 1),
-    (1, 1),
-    (1, 1),
-    (8, 8),
-    (4, 8),
-    (8, 4),
-    (16, 16),
-    (8, 16),
-    (16, 8),
-    (32, 32),
-    (16, 32),
-    (32, 16),
-];
+use crate::{first_refusal, transform_sides};
 
 pub(crate) const KIND_FREE: u8 = 0;
 pub(crate) const KIND_OCCUPIED: u8 = 1;
 pub(crate) const FIRST_CORNER_KIND: u8 = 2;
 pub(crate) const GROUP_SIDE: usize = 32;
 const LAYOUT_SIDE_MOST: usize = 256;
-
-/// Width and height of a transform's varblocks, in blocks; the whole number counts.
-pub fn transform_sides(number: i32) -> Option<(usize, usize)> {
-    let &(wide, high) = SIDES.get(usize::try_from(number).ok()?)?;
-    Some((usize::from(wide), usize::from(high)))
-}
 
 /// The sides of the rectangle that a kind is the corner of.
 pub fn kind_sides(kind: u8) -> Option<(usize, usize)> {

@@ -9,7 +9,7 @@ use lent_check::GroupSides;
 ghost use mathlib.Core.List.{[], _∷_};
 ghost use Prim.Native.Nat.{_*_};
 ghost use lib.ListN.{length};
-ghost use Rattle.coeff_walk.specs.UsedUp.{CountsUsed};
+ghost use Rattle.coeff_walk.specs.laws.Outcome.{CountsUsed};
 ghost use Rattle.coeff_group.specs.PassGroup.{passGroup, varblocks};
 ghost use Rattle.coeff_group.specs.laws.Due.{GroupReady, GroupShown, wholeOf};
 

@@ -9,7 +9,7 @@ ghost use mathlib.Core.Path.{_≡_};
 ghost use mathlib.Core.List.{[], _∷_};
 ghost use Prim.Native.Nat.{_+_, _*_, _^_, _≤_};
 ghost use lib.ListN.{length, drop};
-ghost use Rattle.coeff_walk.specs.UsedUp.{CountsUsed};
+ghost use Rattle.coeff_walk.specs.laws.Outcome.{CountsUsed};
 ghost use Rattle.coeff_group.specs.Group.{going, readItems};
 ghost use Rattle.coeff_group.specs.laws.Steps.{Shown};
 ghost use Rattle.coeff_group.specs.laws.Plans.{itemsBy, Planned};

@@ -13,8 +13,7 @@ pub mod walk;
 ghost use mathlib.Core.Path.{_≡_};
 ghost use mathlib.Core.Bool.{cond};
 ghost use Prim.Native.Nat.{_≤_};
-ghost use Rattle.coeff_walk.specs.UsedUp.{CountUsed};
-ghost use Rattle.coeff_walk.specs.laws.Outcome.{WalkShown};
+ghost use Rattle.coeff_walk.specs.laws.Outcome.{WalkShown, CountUsed};
 ghost use Rattle.coeff_walk.specs.laws.Lent.{spotSmall, lentFits, placesRead};
 
 // 1 for true.

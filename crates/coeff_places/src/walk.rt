@@ -11,8 +11,7 @@ ghost use mathlib.Core.Path.{_≡_};
 ghost use Prim.Native.Nat.{_+_, _-_, _/_, _*_, _%_, _^_, _≤_, _<_};
 ghost use lib.ListN.{length, getD, drop};
 ghost use Rattle.coeff_walk.specs.Walk.{FREQ, NUM-NONZERO, flag, gain, walk};
-ghost use Rattle.coeff_walk.specs.UsedUp.{CountUsed};
-ghost use Rattle.coeff_walk.specs.laws.Outcome.{WalkReady, WalkShown, spotCells};
+ghost use Rattle.coeff_walk.specs.laws.Outcome.{WalkReady, WalkShown, spotCells, CountUsed};
 ghost use Rattle.coeff_walk.specs.laws.Runs.{ZerosReady, Zeros};
 
 // x shifted, losing top bits.

@@ -11,8 +11,7 @@ ghost use mathlib.Core.List.{[], _∷_};
 ghost use Prim.Native.Nat.{_<_, _≤_};
 ghost use lib.ListN.{length, drop};
 ghost use Rattle.coeff_walk.specs.Item.{counted};
-ghost use Rattle.coeff_walk.specs.UsedUp.{CountsUsed};
-ghost use Rattle.coeff_walk.specs.laws.Outcome.{WalkShown};
+ghost use Rattle.coeff_walk.specs.laws.Outcome.{WalkShown, CountsUsed};
 ghost use Rattle.coeff_walk.specs.laws.Items.{ItemReady, itemAt, spotOf};
 ghost use Rattle.coeff_group.specs.laws.Steps.{InGrid};
 

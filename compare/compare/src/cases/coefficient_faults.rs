@@ -9,10 +9,11 @@ use crate::rng::Rng;
 
 pub fn damage_symbols(rng: &mut Rng, symbols: &mut Vec<u32>) {
     let place = rng.below(symbols.len());
-    match rng.below(5) {
-        0 | 1 => symbols.truncate(place),
-        2 => symbols[place] = rng.pick(&[63, 64, 126, 127, 252, 253, 64_512, 64_513, u32::MAX]),
-        3 => symbols[place] = 0,
+    match rng.below(10) {
+        0 => symbols.truncate(symbols.len() - 1),
+        1..=3 => symbols.truncate(place),
+        4 | 5 => symbols[place] = rng.pick(&[63, 64, 126, 127, 252, 253, 64_512, 64_513, u32::MAX]),
+        6 | 7 => symbols[place] = 0,
         _ => symbols.extend([3, 0, u32::MAX]),
     }
 }

@@ -7,9 +7,10 @@ use calls::{CoefficientBuffers, CoefficientsCall, Contexts, Layout, Outcome, LIS
 use super::coefficient_faults::{damage_call, damage_symbols};
 use super::coefficient_smaller::smaller;
 use super::digits::{lists_count, Digits};
+use super::last_places::{each_transform, one_block, EACH_TRANSFORM, ONE_BLOCK};
 use super::orders::symbols;
 use super::placing::{fill, single};
-use super::symbol_stream::{crowded_stream, symbol_stream};
+use super::symbol_stream::{crowded_stream, remaining_stream, symbol_stream};
 use super::Case;
 use crate::expected;
 use crate::make::{self, OrdersAndStore};
@@ -51,6 +52,9 @@ fn short_lists() -> usize {
 }
 
 impl CoefficientsCase {
+    /// So many of the short inputs, the first of them, are about the last places of a channel.
+    pub const LAST_PLACES: usize = ONE_BLOCK + EACH_TRANSFORM;
+
     pub fn new(seed: u64) -> Self {
         let mut rng = Rng::new(seed);
         let cluster_map = rng.bytes(MAP_MOST);
@@ -67,6 +71,18 @@ impl CoefficientsCase {
         Self {
             orders: orders.into_iter().map(Arc::new).collect(),
         }
+    }
+
+    /// One varblock with default contexts, one of its channels read about up to its last place.
+    fn last_places(&self, number: usize) -> CoefficientsInput {
+        let (transform, symbols) = match number.checked_sub(ONE_BLOCK) {
+            None => (0, one_block(number)),
+            Some(number) => each_transform(number),
+        };
+        let which = number % self.orders.len();
+        let mut input = self.input(which, single(transform), make::default_contexts());
+        input.call.symbols = symbols;
+        input
     }
 
     /// One Dct8 with default contexts, over a list of a few symbols.
@@ -126,17 +142,28 @@ impl Case for CoefficientsCase {
         expected::coefficients(&input.call, &input.orders.orders)
     }
 
+    fn by_model(
+        &self,
+        _: &CoefficientsInput,
+        expected: &Outcome<usize, CoefficientBuffers>,
+    ) -> Option<bool> {
+        Some(expected::count_remains(expected))
+    }
+
     fn short_count(&self) -> usize {
-        short_lists() + SHORT_ENDS * TRANSFORMS + SIDES * SIDES
+        Self::LAST_PLACES + short_lists() + SHORT_ENDS * TRANSFORMS + SIDES * SIDES
     }
 
     fn short(&self, number: usize) -> CoefficientsInput {
-        if number < short_lists() {
-            return self.short_list(number);
-        }
-        match number - short_lists() {
-            end if end < SHORT_ENDS * TRANSFORMS => self.ending(end),
-            sides => self.of_sides(sides - SHORT_ENDS * TRANSFORMS),
+        let Some(list) = number.checked_sub(Self::LAST_PLACES) else {
+            return self.last_places(number);
+        };
+        let Some(end) = list.checked_sub(short_lists()) else {
+            return self.short_list(list);
+        };
+        match end.checked_sub(SHORT_ENDS * TRANSFORMS) {
+            None => self.ending(end),
+            Some(sides) => self.of_sides(sides),
         }
     }
 
@@ -150,11 +177,12 @@ impl Case for CoefficientsCase {
         let mut input = self.input(rng.below(self.orders.len()), group, contexts);
         let call = &mut input.call;
         let sparseness = rng.pick(&[1, 2, 8, 64]);
-        call.symbols = if rng.once_in(16) {
-            crowded_stream(rng, &call.group, sparseness)
-        } else {
-            symbol_stream(rng, &call.group, sparseness)
+        let stream = match rng.below(16) {
+            0 => crowded_stream,
+            1 | 2 => remaining_stream,
+            _ => symbol_stream,
         };
+        call.symbols = stream(rng, &call.group, sparseness);
         call.shift = rng.below(4) as u32;
         presets(rng, call, &input.orders.cluster_map);
         if rng.once_in(2) {

@@ -48,7 +48,7 @@ impl Case for LayoutCase {
         expected::layout(input)
     }
 
-    fn by_model(&self, input: &LayoutCall) -> Option<bool> {
+    fn by_model(&self, input: &LayoutCall, _: &Outcome<usize, LayoutBuffers>) -> Option<bool> {
         Some(expected::has_types_above_a_byte(input))
     }
 

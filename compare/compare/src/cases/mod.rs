@@ -8,6 +8,7 @@ mod column_count;
 mod contexts;
 mod cut;
 mod digits;
+mod last_places;
 mod layout;
 mod orders;
 mod placing;
@@ -48,9 +49,13 @@ pub trait Case {
 
     fn expected(&self, input: &Self::Input) -> Outcome<Self::Value, Self::Buffers>;
 
-    /// Whether the input is one that the Rust is not lent, by a request of document 02, so that the
-    /// model answers; told by calls that have such inputs.
-    fn by_model(&self, _input: &Self::Input) -> Option<bool> {
+    /// Whether the input, of which that is expected, is one that the Rust is not lent, by a request of
+    /// document 02, so that the model answers; told by calls that have such inputs.
+    fn by_model(
+        &self,
+        _input: &Self::Input,
+        _expected: &Outcome<Self::Value, Self::Buffers>,
+    ) -> Option<bool> {
         None
     }
 

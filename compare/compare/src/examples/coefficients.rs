@@ -10,7 +10,6 @@ const ENTRIES: usize = 3 * 15 * paper::ENTRIES_PER_CLUSTER;
 pub fn said(calls: &Calls) -> Vec<Said> {
     let orders = orders_with_map(|place| place as u8);
     let zeros = [vec![33], vec![0; 31]].concat();
-    let leftover = [vec![1], vec![0; 65]].concat();
     let one = |transform, symbols: &[u32]| one_varblock(&orders, transform, symbols);
     let examples = [
         ("15: none", one(0, &[]), "refused 15 0 0"),
@@ -19,11 +18,6 @@ pub fn said(calls: &Calls) -> Vec<Said> {
             "17: type 0: 33, then 31 zeros",
             one(0, &zeros),
             "refused 17 32 0",
-        ),
-        (
-            "a leftover count: 1, then 63 zeros",
-            one(0, &leftover),
-            "read 66",
         ),
         ("surplus symbols", one(0, &[0, 0, 0, 9]), "read 3"),
         (
@@ -44,15 +38,61 @@ pub fn said(calls: &Calls) -> Vec<Said> {
             "refused 14 2 0",
         ),
     ];
-    let answer = |call| {
-        let outcome = (calls.coefficients)(&call, &orders.orders);
-        say(outcome.answer, |read| format!("read {read}"))
-    };
     let rows = examples
         .into_iter()
-        .map(|(example, call, paper)| row(example, answer(call), paper));
+        .map(|(example, call, paper)| row(example, answer(calls, &call, &orders), paper));
+    let rows = rows.chain(counts(calls, &orders));
     let rows = rows.chain(m11(calls, &orders));
     rows.chain(sums(calls, &orders)).collect()
+}
+
+fn answer(calls: &Calls, call: &CoefficientsCall, orders: &OrdersAndStore) -> String {
+    let outcome = (calls.coefficients)(call, &orders.orders);
+    say(outcome.answer, |read| format!("read {read}"))
+}
+
+/// Counts that are not used up, in the first channel of one Dct8. The last place is (7,7).
+fn counts(calls: &Calls, orders: &OrdersAndStore) -> Vec<Said> {
+    let zeros = |count, zeros| one_varblock(orders, 0, &[vec![count], vec![0; zeros]].concat());
+    let mut filled_last = zeros(2, 63);
+    filled_last.symbols[63] = 2;
+    let cell = buffers(calls, &filled_last, orders).grids[1][63].to_string();
+    let examples = [
+        (
+            "24 (02, No. 8): 1, then 63 zeros",
+            zeros(1, 63),
+            "refused 24 64 0",
+        ),
+        (
+            "02, No. 8: 1, then 62 zeros",
+            zeros(1, 62),
+            "refused 15 63 0",
+        ),
+        (
+            "02, No. 8: 2, then 62 zeros and 2",
+            filled_last,
+            "refused 24 64 0",
+        ),
+        (
+            "02, No. 8: 32, then 63 zeros",
+            zeros(32, 63),
+            "refused 24 64 0",
+        ),
+        (
+            "02, No. 8: 33, then 63 zeros",
+            zeros(33, 63),
+            "refused 17 32 0",
+        ),
+    ];
+    let rows =
+        examples.map(|(example, call, paper)| row(example, answer(calls, &call, orders), paper));
+    let mut rows = Vec::from(rows);
+    rows.push(row(
+        "02, No. 8: the last place of 2, 62 zeros, 2",
+        cell,
+        "1",
+    ));
+    rows
 }
 
 /// What the first place behind the corner, place (1,0) and so cell (0,1) of a Dct8, holds in the end.

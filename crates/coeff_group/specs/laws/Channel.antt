@@ -14,14 +14,13 @@ use Rattle.lent_check.specs.declared.GroupSides.{GroupSides}
 use Rattle.coeff_walk.specs.declared.WalkEnd.{WalkEnd}
 use Rattle.coeff_walk.specs.declared.WalkEnd.the-variants.{Done, Stopped}
 use Rattle.coeff_walk.specs.Walk.{Walked, done, stopped}
-use Rattle.coeff_walk.specs.laws.Outcome.{isStopped, answerOf, logOf, gridAfter}
+use Rattle.coeff_walk.specs.laws.Outcome.{isStopped, answerOf, logOf, gridAfter, CountsUsed}
 use Rattle.coeff_walk.specs.Item.{Item, newRow, countOver, countCluster, counted}
 use Rattle.coeff_walk.specs.declared.shape.Shape.{Shape}
 use Rattle.order_natural.specs.Places.{paired}
 use Rattle.order_natural.specs.laws.Flat.{length-paired}
 use Rattle.coeff_walk.specs.laws.PlaceLaws.{length-places}
 use Rattle.coeff_walk.specs.laws.Items.{itemAt, ItemReady, counted-15, counted-16}
-use Rattle.coeff_walk.specs.UsedUp.{CountsUsed}
 use Rattle.coeff_walk.specs.laws.Kept.{CountFirst, KeptBy, counted-kept}
 use Rattle.coeff_group.specs.Group.{PerChannel, Reading, going, after, readItem}
 use Rattle.coeff_group.specs.laws.Steps.{InGrid, rowBy, Shown}

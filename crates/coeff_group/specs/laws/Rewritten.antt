@@ -7,8 +7,7 @@ use native.Mathlib.Omega.{arith}
 use lib.ListN.{length, getD, set}
 use lib.Seq.{getD-set-same, getD-set-other}
 use Rattle.coeff_walk.specs.declared.WalkEnd.{WalkEnd}
-use Rattle.coeff_walk.specs.laws.Outcome.{isStopped}
-use Rattle.coeff_walk.specs.UsedUp.{CountsUsed}
+use Rattle.coeff_walk.specs.laws.Outcome.{isStopped, CountsUsed}
 use Rattle.laws.specs.Lists.{fillFrom}
 use Rattle.coeff_group.specs.declared.plan.Plan.{Plan}
 use Rattle.coeff_group.specs.Group.{PerChannel, Reading, going, refused}

@@ -9,7 +9,8 @@ use Rattle.coeff_walk.specs.declared.WalkEnd.{WalkEnd}
 use Rattle.coeff_walk.specs.declared.WalkEnd.the-variants.{Done}
 use Rattle.coeff_walk.specs.Walk.{Walked, done, stopped}
 use Rattle.coeff_walk.specs.Item.{Item, newRow, counted}
-use Rattle.coeff_walk.specs.UsedUp.{ChannelsUsed, CountsUsed}
+use Rattle.coeff_walk.specs.UsedUp.{ChannelsUsed}
+use Rattle.coeff_walk.specs.laws.Outcome.{CountsUsed}
 use Rattle.coeff_walk.specs.laws.Used.{not-done, ended-at, counted-uses}
 use Rattle.coeff_group.specs.PassGroup.{PassGroup, varblocks, itemsOf}
 use Rattle.coeff_group.specs.Group.{PerChannel, Reading, going, refused, after, readItem, readItems, zeroRows}

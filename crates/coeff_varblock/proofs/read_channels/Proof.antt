@@ -6,8 +6,8 @@ use native.Mathlib.Omega.{arith}
 use borrow.Author.Needs.{needs}
 use lib.ListN.{length, drop, length-set}
 use Rattle.coeff_walk.specs.declared.WalkEnd.{WalkEnd}
+use Rattle.coeff_walk.specs.laws.Outcome.{CountsUsed}
 use Rattle.coeff_walk.specs.declared.WalkEnd.the-variants.{Done}
-use Rattle.coeff_walk.specs.UsedUp.{CountsUsed}
 use Rattle.coeff_group.specs.Group.{PerChannel, Reading, going, readItems}
 use Rattle.coeff_group.specs.laws.Steps.{Shown}
 use Rattle.coeff_group.specs.laws.Used.{reading-uses, shown-walk}

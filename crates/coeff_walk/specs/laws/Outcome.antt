@@ -15,6 +15,8 @@ use Rattle.coded_numbers.specs.Signed.{unpackSigned}
 use Rattle.coeff_walk.specs.Walk.{Walked, done, stopped, walk, coeffContext, flag, less, gain}
 use Rattle.order_natural.specs.Places.{paired}
 use Rattle.coeff_walk.specs.Places.{cellsOf}
+use Rattle.coeff_walk.specs.Sent.{nonZeros}
+use Rattle.coeff_walk.specs.UsedUp.{between, ChannelsUsed}
 use Rattle.coeff_walk.specs.declared.WalkEnd.{WalkEnd}
 use Rattle.coeff_walk.specs.declared.WalkEnd.the-variants.{Done, Stopped}
 use Rattle.coeff_walk.specs.declared.spot.Spot.{Spot}
@@ -65,6 +67,14 @@ pub record WalkShown (r : WalkEnd) (log grid : List ℕ) (w : Walked) : Type 0 w
   pub answer : r ≡ answerOf w
   pub logged : log ≡ logOf w
   pub cells : grid ≡ gridAfter w
+
+-- what a walk promises of its count n, behind `from` symbols, where it is done: the symbols that it read hold exactly n that are not 0
+abbrev pub CountUsed : (n : ℕ) (symbols : List ℕ) (from : ℕ) → WalkEnd → Type 0
+CountUsed n symbols from r = (to : ℕ) → r ≡ Done to → nonZeros (between symbols from to) ≡ n
+
+-- and a reading of m channels: the symbols that it read are theirs, each with its count used up
+abbrev pub CountsUsed : (m : ℕ) (symbols : List ℕ) (from : ℕ) → WalkEnd → Type 0
+CountsUsed m symbols from r = (to : ℕ) → r ≡ Done to → ChannelsUsed symbols m from to
 
 less-of : (u n : ℕ) → less u n ≡ lessOf u (suc n)
 less-of zero n = refl

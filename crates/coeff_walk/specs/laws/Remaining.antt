@@ -1,25 +1,14 @@
--- Counts at the border of refusal 24, computed (document 02, No. 8): one block, its 63 cells, a log of 66 bytes that held 9. The last place's
--- symbol is read, logged and added before 24 is told, and 17 and 15 come first where they apply.
+-- The border of refusal 24, computed (document 02, No. 8): the last place's symbol is read, logged and added before 24 is told, and 17 and 15
+-- come first where they apply.
 use mathlib.Core.Path.{_≡_, refl}
-use mathlib.Core.List.{List, [], _∷_, _++_}
-use Prim.Native.Nat.{ℕ, zero, suc, _+_}
+use mathlib.Core.List.{[], _∷_, _++_}
+use Prim.Native.Nat.{ℕ}
 use lib.ListN.{replicate}
 use Rattle.coded_numbers.specs.Signed.{unpackSigned}
 use Rattle.refusal.specs.declared.Refusal.the-variants.{SymbolsEnd, TooManyZeros, CountRemaining}
-use Rattle.coeff_walk.specs.Walk.{FREQ, NUM-NONZERO, coeffContext, Walked, done, stopped, walk}
-use Rattle.coeff_walk.specs.Item.{Item, counted}
-
--- n cells from p on
-abbrev cellsFrom : ℕ → ℕ → List ℕ
-cellsFrom zero p = []
-cellsFrom (suc n) p = p ∷ cellsFrom n (p + 1)
-
-abbrev block : Item
-block = record { channel = 0; x = 0; y = 0; wide = 1; blocks = 1; blockContext = 0; cells = cellsFrom 63 0 }
-
--- every cluster is 0, the grid starts with zeros
-abbrev reads : List ℕ → Walked
-reads symbols = counted 0 1 [] block (replicate 32 0) symbols 0 (replicate 66 9) (replicate 63 0)
+use Rattle.coeff_walk.specs.Walk.{FREQ, NUM-NONZERO, coeffContext, done, stopped, walk}
+use Rattle.coeff_walk.specs.Item.{counted}
+use Rattle.coeff_walk.specs.Remaining.{reads}
 
 unfoldable computes : ℕ
 unfolding counted walk coeffContext FREQ NUM-NONZERO unpackSigned

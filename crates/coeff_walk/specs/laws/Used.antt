@@ -13,8 +13,8 @@ use Rattle.coeff_walk.specs.declared.WalkEnd.the-variants.{Done, Stopped
 use Rattle.coeff_walk.specs.Walk.{Walked, done, stopped, walk}
 use Rattle.coeff_walk.specs.Item.{Item, counted}
 use Rattle.coeff_walk.specs.Sent.{nonZeros}
-use Rattle.coeff_walk.specs.UsedUp.{between, CountUsed, ChannelUsed, ChannelsUsed, CountsUsed}
-use Rattle.coeff_walk.specs.laws.Outcome.{isStopped, answerOf}
+use Rattle.coeff_walk.specs.UsedUp.{between, ChannelUsed, ChannelsUsed}
+use Rattle.coeff_walk.specs.laws.Outcome.{isStopped, answerOf, CountUsed, CountsUsed}
 use Rattle.coeff_walk.specs.laws.Kept.{Used, CountFirst, KeptBy, walk-kept, counted-kept}
 
 -- what was stopped promises nothing

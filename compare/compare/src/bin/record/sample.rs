@@ -49,7 +49,7 @@ pub fn file() -> Vec<u8> {
     file.sample(6, &ContextsCase, encode::contexts, contexts, |_| true);
     let lists = Quota::new(1000, &[1, 3, 13, 15]).of(14, 6, 700);
     file.sample(7, &OrdersCase, encode::orders, lists, plain_orders);
-    let passes = Quota::new(8000, &[1, 2, 3, 11, 12, 13, 14, 15, 16, 17, 18]).of(28, 4, 700);
+    let passes = Quota::new(8000, &[1, 2, 3, 11, 12, 13, 14, 15, 16, 17, 18, 24]).of(28, 4, 700);
     let case = CoefficientsCase::over(orders());
     file.sample(8, &case, encode::coefficients, passes, plain_coefficients);
     file.bytes()

@@ -3,7 +3,7 @@ use mathlib.Core.List.{List, [], _∷_}
 use native.Mathlib.Nat.{mul-le-mul}
 use lib.Arith.{digits-lt}
 use Rattle.coeff_walk.specs.declared.WalkEnd.{WalkEnd}
-use Rattle.coeff_walk.specs.UsedUp.{CountsUsed}
+use Rattle.coeff_walk.specs.laws.Outcome.{CountsUsed}
 use Rattle.coeff_group.specs.Group.{PerChannel, Reading}
 use Rattle.coeff_group.specs.PassGroup.{PassGroup, passGroup, varblocks}
 use Rattle.coeff_group.specs.laws.Due.{Due, GroupShown, rowFrom, rowsFrom, wholeOf, due-start, due-row, due-next, due-skip, due-end, corner-asks, corner-stop, corner-step}

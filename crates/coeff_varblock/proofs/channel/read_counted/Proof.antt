@@ -6,9 +6,8 @@ use lib.Pow.{pow-pos}
 use Rattle.coeff_walk.specs.declared.WalkEnd.{WalkEnd}
 use Rattle.coeff_walk.specs.Walk.{Walked}
 use Rattle.coeff_walk.specs.Item.{counted}
-use Rattle.coeff_walk.specs.UsedUp.{CountsUsed}
 use Rattle.coeff_walk.specs.laws.Used.{channel-uses}
-use Rattle.coeff_walk.specs.laws.Outcome.{WalkShown, ends}
+use Rattle.coeff_walk.specs.laws.Outcome.{WalkShown, ends, CountsUsed}
 use borrow.Author.Needs.{needs}
 use native.Mathlib.Omega.{arith}
 use mathlib.Core.List.{List}
