@@ -150,16 +150,16 @@ static uint32_t spread_filled(struct input *in)
     return number > 0 ? number : 1;
 }
 
-/* The coefficients behind a count, of which at least so much is kept; false where the symbols end
+/* The coefficients behind a count, of which at least so much remains; false where the symbols end
  * there. */
 static bool write_places(struct input *in, struct manner manner, uint32_t blocks, uint32_t left,
-                         uint32_t kept, uint32_t *symbols, size_t *count)
+                         uint32_t remaining, uint32_t *symbols, size_t *count)
 {
     bool filled = left <= 4 * blocks;
     for (uint32_t place = 0; left > 0 && place < 63 * blocks; place++) {
         if (manner.ends_at_17 && coefficient_context(left, place, blocks, filled) >= COEFFICIENT_ENTRIES)
             return false;
-        filled = left > kept && spread_below(in, manner.sparse) == 0;
+        filled = left > remaining && spread_below(in, manner.sparse) == 0;
         symbols[(*count)++] = filled ? spread_filled(in) : 0;
         left -= filled;
     }
@@ -181,10 +181,10 @@ static size_t write_symbols(struct input *in, struct manner manner, const struct
         if (count + 192 * (size_t)blocks > SYMBOLS_MOST)
             break;
         for (int channel = 0; channel < 3; channel++, number++) {
-            uint32_t kept = number == manner.remaining;
-            uint32_t left = spread_below(in, manner.most * blocks + 1 - kept) + kept;
+            uint32_t remaining = number == manner.remaining;
+            uint32_t left = spread_below(in, manner.most * blocks + 1 - remaining) + remaining;
             symbols[count++] = number == manner.refused ? 63 * blocks + 1 : left;
-            if (!write_places(in, manner, blocks, left, kept, symbols, &count))
+            if (!write_places(in, manner, blocks, left, remaining, symbols, &count))
                 return count;
         }
     }

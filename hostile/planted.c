@@ -409,51 +409,56 @@ static void log_other(uint8_t *last, const uint8_t *cluster_map, size_t length)
     *last = cluster_map[entry];
 }
 
-/* 24 that is told one symbol early, with all taken back, or not at all. */
-static uint32_t remaining(const struct written *written, size_t *symbols_read, size_t *x)
+/* The parameters of the coefficient call, and these handed on, with so many of the symbols. */
+#define PARAMETERS                                                                                 \
+    size_t bw, size_t bh, const uint8_t *kinds, size_t kinds_length, const int32_t *hf_mul,        \
+        size_t hf_mul_length, uint32_t num_block_clusters, const uint32_t lengths[4],              \
+        const int32_t lf_thresholds[45], const uint32_t qf_thresholds[15],                         \
+        const uint8_t block_ctx_map[2496], bool lf_there, const int32_t *lf0, size_t lf0_length,   \
+        const int32_t *lf1, size_t lf1_length, const int32_t *lf2, size_t lf2_length,              \
+        const uint16_t *store, size_t store_length, uint32_t presets, const uint8_t *cluster_map,  \
+        size_t cluster_map_length, uint32_t shift, const uint8_t *bytes, size_t bytes_length,      \
+        const uint32_t *symbols, size_t symbols_length, uint8_t *log, size_t log_length,           \
+        int32_t *grid0, size_t grid0_length, int32_t *grid1, size_t grid1_length, int32_t *grid2,  \
+        size_t grid2_length, size_t *symbols_read, size_t *x, size_t *y
+#define ARGUMENTS(so_many)                                                                         \
+    bw, bh, kinds, kinds_length, hf_mul, hf_mul_length, num_block_clusters, lengths,               \
+        lf_thresholds, qf_thresholds, block_ctx_map, lf_there, lf0, lf0_length, lf1, lf1_length,   \
+        lf2, lf2_length, store, store_length, presets, cluster_map, cluster_map_length, shift,     \
+        bytes, bytes_length, symbols, so_many, log, log_length, grid0, grid0_length, grid1,        \
+        grid1_length, grid2, grid2_length, symbols_read, x, y
+
+/* The call, and what is planted where it answers 24: the last place's symbol is not read, or logged
+ * and not added, all is taken back, the position is one less, or it is accepted. */
+static uint32_t read_group(PARAMETERS)
 {
-    *x -= planted() == REMAINING_ONE_LESS;
-    if (planted() == REMAINING_TAKEN_BACK)
-        take_back(written);
+    const struct written written = {
+        {grid0, grid1, grid2}, {grid0_length, grid1_length, grid2_length}, log, log_length};
+    note(&written);
+    uint32_t refused = __real_netbuff_coefficients(ARGUMENTS(symbols_length));
+    if (refused != 24)
+        return refused;
+    size_t told = *x;
+    uint8_t last = log[told - 1];
+    bool again = planted() == REMAINING_TOO_SOON || planted() == REMAINING_NOT_ADDED;
+    if (again || planted() == REMAINING_TAKEN_BACK)
+        take_back(&written);
+    if (again)
+        __real_netbuff_coefficients(ARGUMENTS(told - 1));
+    if (planted() == REMAINING_NOT_ADDED)
+        log[told - 1] = last;
+    *x = told - (planted() == REMAINING_ONE_LESS);
     if (planted() != REMAINING_ACCEPTED)
         return 24;
-    *symbols_read = *x;
+    *symbols_read = told;
     *x = 0;
     return 0;
 }
 
-uint32_t __wrap_netbuff_coefficients(
-    size_t bw, size_t bh, const uint8_t *kinds, size_t kinds_length, const int32_t *hf_mul,
-    size_t hf_mul_length, uint32_t num_block_clusters, const uint32_t lengths[4],
-    const int32_t lf_thresholds[45], const uint32_t qf_thresholds[15], const uint8_t block_ctx_map[2496],
-    bool lf_there, const int32_t *lf0, size_t lf0_length, const int32_t *lf1, size_t lf1_length,
-    const int32_t *lf2, size_t lf2_length, const uint16_t *store, size_t store_length, uint32_t presets,
-    const uint8_t *cluster_map, size_t cluster_map_length, uint32_t shift, const uint8_t *bytes,
-    size_t bytes_length, const uint32_t *symbols, size_t symbols_length, uint8_t *log, size_t log_length,
-    int32_t *grid0, size_t grid0_length, int32_t *grid1, size_t grid1_length, int32_t *grid2,
-    size_t grid2_length, size_t *symbols_read, size_t *x, size_t *y)
+uint32_t __wrap_netbuff_coefficients(PARAMETERS)
 {
-#define REAL(so_many)                                                                              \
-    __real_netbuff_coefficients(                                                                   \
-        bw, bh, kinds, kinds_length, hf_mul, hf_mul_length, num_block_clusters, lengths,           \
-        lf_thresholds, qf_thresholds, block_ctx_map, lf_there, lf0, lf0_length, lf1, lf1_length,   \
-        lf2, lf2_length, store, store_length, presets, cluster_map, cluster_map_length, shift,     \
-        bytes, bytes_length, symbols, so_many, log, log_length, grid0, grid0_length, grid1,        \
-        grid1_length, grid2, grid2_length, symbols_read, x, y)
-    const struct written written = {
-        {grid0, grid1, grid2}, {grid0_length, grid1_length, grid2_length}, log, log_length};
-    note(&written);
     size_t read_before = *symbols_read;
-    uint32_t refused = REAL(symbols_length);
-    if ((planted() == REMAINING_TOO_SOON || planted() == REMAINING_NOT_ADDED) && refused == 24) {
-        /* As it stands before the last place's symbol is read, or with that logged alone. */
-        size_t told = *x;
-        uint8_t last = log[told - 1];
-        take_back(&written);
-        REAL(told - 1);
-        log[told - 1] = planted() == REMAINING_NOT_ADDED ? last : log[told - 1];
-        *x = told;
-    }
+    uint32_t refused = read_group(ARGUMENTS(symbols_length));
     if (planted() == LOG_BEHIND && refused == 0 && *symbols_read < log_length)
         log[*symbols_read] ^= 1;
     if (planted() == GRID_AFTER_14 && refused == 14)
@@ -466,8 +471,6 @@ uint32_t __wrap_netbuff_coefficients(
         misplace(grid0, grid0_length);
     if (planted() == OTHER_CLUSTER && refused == 0 && presets == 1)
         log_other(&log[*symbols_read - 1], cluster_map, cluster_map_length);
-    if (refused == 24)
-        return remaining(&written, symbols_read, x);
     if (planted() == ACCEPTED_AS_17 && refused == 0) {
         *x = *symbols_read;
         *symbols_read = read_before;
@@ -475,3 +478,6 @@ uint32_t __wrap_netbuff_coefficients(
     }
     return planted() == REMAINING_FOR_17 && refused == 17 ? 24 : refused;
 }
+
+#undef PARAMETERS
+#undef ARGUMENTS

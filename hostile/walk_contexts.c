@@ -1,4 +1,4 @@
-/* The contexts of counts and coefficients. */
+/* The contexts of counts and coefficients, by the Rust's formulas and tables. */
 #include "walk.h"
 
 /* By place, in steps of a varblock's blocks. */

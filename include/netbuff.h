@@ -99,8 +99,8 @@ uint32_t netbuff_version(void);
 /*
  * All refusals: name, number, text, position. A position is 0, 0; or x, y of the free block whose
  * varblock was being placed; or what was read until then, and 0. A refused symbol counts as read.
- * Number 13 has the position 0, 0 where a stored place is outside its order. New refusals get
- * numbers that no other has, not always the next; no number changes its meaning.
+ * Number 13 has the position 0, 0 where a stored place is outside its order. Numbers 19 to 23
+ * are no refusals of this version. No number changes its meaning.
  */
 #define NETBUFF_REFUSALS(refusal)                                                                  \
     refusal(LENGTH, 1, "a lent length does not fit", "0, 0")                                       \

@@ -1,5 +1,5 @@
 //! What goes into each call of document 01 and what comes out, as plain owned data: shared by the
-//! Rust under comparison, the model written from the paper, the recorder and the comparison.
+//! Rust under comparison, the model of the papers, the recorder and the comparison.
 
 mod coefficients;
 mod columns;

@@ -43,12 +43,15 @@ fn model(input: &CoefficientsInput) -> Answer<usize> {
 /// What docs/DIFFERENCES.md says of the Rust, which the comparison does not lend such symbols.
 #[test]
 fn the_rust_accepts_counts_that_are_not_used_up() {
-    let mut filled_last = [0; 65];
-    filled_last[62] = 2;
-    for (count, behind) in [(1, [0; 65]), (2, filled_last), (32, [0; 65])] {
-        let input = one_block(count, &behind);
-        assert_eq!(rust(&input), Ok(66), "{count}");
-        assert_eq!(model(&input), Err(Refusal::at(24, 64, 0)), "{count}");
+    for (count, last) in [(1, 0), (2, 2), (32, 0)] {
+        let places = [vec![0; 62], vec![last]].concat();
+        let alone = one_block(count, &places);
+        let two_counts = one_block(count, &[&places[..], &[0, 0]].concat());
+        assert_eq!(rust(&alone), Err(Refusal::at(15, 64, 0)), "{count}");
+        assert_eq!(rust(&two_counts), Ok(66), "{count}");
+        for input in [alone, two_counts] {
+            assert_eq!(model(&input), Err(Refusal::at(24, 64, 0)), "{count}");
+        }
     }
     for (count, zeros, refused) in [(1, 62, (15, 63)), (33, 63, (17, 32))] {
         let input = one_block(count, &vec![0; zeros]);
@@ -81,11 +84,12 @@ fn coefficients_without_count_remaining() {
     }
 }
 
-/// Where count remains, the Rust, lent the symbols up to there, has read them all and written what
-/// the model has: it goes on to the next count, of which there is none, or has come to the end.
+/// Where count remains, the Rust is lent the symbols up to there and behind them one that is too large
+/// for a count. It takes that one for a count, so the last place was passed just there, or, where that
+/// was the group's last channel, has ended without it. Before, it has written what the model has.
 #[test]
 fn up_to_the_last_place_the_rust_reads_the_same() {
-    let mut met = 0;
+    let mut met = BTreeMap::<bool, usize>::new();
     for input in inputs(8000) {
         let modelled = paper::coefficients(&input.call);
         if !count_remains(&modelled) {
@@ -94,13 +98,22 @@ fn up_to_the_last_place_the_rust_reads_the_same() {
         let read = modelled.answer.expect_err("24").x;
         let mut call = input.call.clone();
         call.symbols.truncate(read);
-        let rust = oracle::coefficients(&call, &input.orders.orders);
-        let ended = [Ok(read), Err(Refusal::at(15, read, 0))];
-        assert!(ended.contains(&rust.answer), "{call:?}");
+        call.symbols.push(u32::MAX);
+        let mut rust = oracle::coefficients(&call, &input.orders.orders);
+        let answer = rust.answer;
+        let goes_on = answer == Err(Refusal::at(16, read + 1, 0));
+        assert!(goes_on || answer == Ok(read), "{answer:?}: {call:?}");
+        if goes_on {
+            rust.buffers.log[read] = call.buffers.log[read];
+        }
         assert!(rust.buffers == modelled.buffers, "{call:?}");
-        met += 1;
+        let end = end(&call, read);
+        let is_last = end.turn == 2 && end.is_last_varblock;
+        assert_eq!(goes_on, !is_last, "{call:?}");
+        *met.entry(goes_on).or_default() += 1;
     }
-    assert!(met > 500, "{met}");
+    println!("{met:?}");
+    assert!(met[&true] > 500 && met[&false] > 100, "{met:?}");
 }
 
 /// Where a walk that is refused with 24 ended.

@@ -1,12 +1,10 @@
 use calls::{CoefficientsCall, Refusal};
 
-use crate::{first_refusal, is_fit, is_layout, places_inside, store_fits};
+use crate::{first_refusal, is_fit, is_layout, places_inside, store_fits, ENTRIES_PER_CLUSTER};
 
 const GROUP_SIDE_MOST: usize = 32;
 const PRESETS_MOST: u32 = 256;
 const SHIFT_MOST: u32 = 3;
-/// Entries of the cluster map for each preset and cluster.
-pub const ENTRIES_PER_CLUSTER: usize = 495;
 
 /// What the coefficient call refuses before it reads the preset: 2, 11, 12, 1, 18, stored places.
 pub fn coefficients_before_work(call: &CoefficientsCall) -> Option<Refusal> {

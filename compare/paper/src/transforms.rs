@@ -1,9 +1,11 @@
-//! What each of the 27 transform numbers carries (document 01, Transform).
+//! What each transform number carries (document 01, Transform).
 
 use calls::{Transform, ORDER_SIZES};
 
-/// Width and height of the 27 transforms, in blocks.
-const SIDES: [(u8, u8); 27] = [
+pub const TRANSFORM_COUNT: usize = 27;
+
+/// Width and height of the transforms, in blocks.
+const SIDES: [(u8, u8); TRANSFORM_COUNT] = [
     (1, 1),
     (1, 1),
     (1, 1),

@@ -1,5 +1,6 @@
 //! The coefficient call behind its checks before work: the preset, then corner by corner and channel
-//! by channel a count and its coefficients (document 01, Coefficients; document 02, No. 8).
+//! by channel a count and its coefficients (document 01, Coefficients, which takes the walk from the
+//! Rust; document 02, No. 8).
 
 use calls::{
     list_start, Answer, CoefficientBuffers, CoefficientsCall, Outcome, Refusal, Transform,

@@ -1,5 +1,5 @@
 //! Which entry of a preset's part of the cluster map a count or a coefficient has (document 01, Block
-//! contexts and Coefficients).
+//! contexts and Coefficients): the Rust's formulas, and its two context tables by their steps.
 
 use calls::{CoefficientsCall, ORDER_COUNT};
 
@@ -7,6 +7,8 @@ use calls::{CoefficientsCall, ORDER_COUNT};
 const COUNT_ENTRIES: usize = 37;
 /// Entries of the coefficients of a block context.
 pub const COEFFICIENT_ENTRIES: usize = 458;
+/// Entries of the cluster map for each preset and cluster.
+pub const ENTRIES_PER_CLUSTER: usize = COUNT_ENTRIES + COEFFICIENT_ENTRIES;
 
 /// The block context of the varblock whose corner is at a cell, for the channel that is read in its
 /// turn.

@@ -7,10 +7,9 @@ use coeff_walk::walked::read_by;
 use context_record::HfBlockContext;
 use lent_check::GroupSides;
 ghost use mathlib.Core.List.{[], _∷_};
-ghost use Prim.Native.Nat.{_*_};
 ghost use lib.ListN.{length};
-ghost use Rattle.coeff_walk.specs.laws.Outcome.{CountsUsed};
-ghost use Rattle.coeff_group.specs.PassGroup.{passGroup, varblocks};
+ghost use Rattle.coeff_walk.specs.laws.Outcome.{AllUseUp};
+ghost use Rattle.coeff_group.specs.PassGroup.{passGroup, groupItems};
 ghost use Rattle.coeff_group.specs.laws.Due.{GroupReady, GroupShown, wholeOf};
 
 // Holds the rows of counts. `preset_map` is the preset's part of the cluster map.
@@ -33,7 +32,7 @@ pub(crate) fn read_group<'a>(
     g2: &mut [u32],
 ) -> WalkEnd
     requires { ⌜ GroupReady (passGroup group (now kinds) (now «hf_mul») contexts «lf_there» (now lf0) (now lf1) (now lf2) (now store)) (contexts .«num_block_clusters») (length (now «preset_map»)) shift (length (now log)) ⌝ }
-    ensures { λ r. ⌜ GroupShown r (now (log .exit)) (now (g0 .exit) ∷ now (g1 .exit) ∷ now (g2 .exit) ∷ []) (wholeOf shift (contexts .«num_block_clusters») (now («preset_map» .entry)) (passGroup group (now (kinds .entry)) (now («hf_mul» .entry)) contexts «lf_there» (now (lf0 .entry)) (now (lf1 .entry)) (now (lf2 .entry)) (now (store .entry))) (now (symbols .entry)) (now (log .entry)) (now (g0 .entry) ∷ now (g1 .entry) ∷ now (g2 .entry) ∷ [])) × CountsUsed (3 * length (varblocks (passGroup group (now (kinds .entry)) (now («hf_mul» .entry)) contexts «lf_there» (now (lf0 .entry)) (now (lf1 .entry)) (now (lf2 .entry)) (now (store .entry))))) (now (symbols .entry)) 0 r ⌝ }
+    ensures { λ r. ⌜ GroupShown r (now (log .exit)) (now (g0 .exit) ∷ now (g1 .exit) ∷ now (g2 .exit) ∷ []) (wholeOf shift (contexts .«num_block_clusters») (now («preset_map» .entry)) (passGroup group (now (kinds .entry)) (now («hf_mul» .entry)) contexts «lf_there» (now (lf0 .entry)) (now (lf1 .entry)) (now (lf2 .entry)) (now (store .entry))) (now (symbols .entry)) (now (log .entry)) (now (g0 .entry) ∷ now (g1 .entry) ∷ now (g2 .entry) ∷ [])) × AllUseUp (groupItems (passGroup group (now (kinds .entry)) (now («hf_mul» .entry)) contexts «lf_there» (now (lf0 .entry)) (now (lf1 .entry)) (now (lf2 .entry)) (now (store .entry)))) (now (symbols .entry)) 0 r ⌝ }
 {
     let bw = group.bw;
     let bh = group.bh;

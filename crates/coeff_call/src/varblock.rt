@@ -9,7 +9,7 @@ ghost use mathlib.Core.Path.{_≡_};
 ghost use mathlib.Core.List.{[], _∷_};
 ghost use Prim.Native.Nat.{_+_, _*_, _^_, _≤_};
 ghost use lib.ListN.{length, drop};
-ghost use Rattle.coeff_walk.specs.laws.Outcome.{CountsUsed};
+ghost use Rattle.coeff_walk.specs.laws.Outcome.{AllUseUp};
 ghost use Rattle.coeff_group.specs.Group.{going, readItems};
 ghost use Rattle.coeff_group.specs.laws.Steps.{Shown};
 ghost use Rattle.coeff_group.specs.laws.Plans.{itemsBy, Planned};
@@ -31,7 +31,7 @@ pub(crate) fn read_varblock<'a>(
     g2: &mut [u32],
 ) -> WalkEnd
     requires { ⌜ Planned plan group clusters (now «preset_map») (now store) shift × (at + 192 * 2 ^ (plan .shape .exponent) ≤ length (now log)) × (plan .shape .x + plan .shape .wide ≤ 32) × (length (now rows) ≡ 3) ⌝ }
-    ensures { λ r. ⌜ (length (now (rows .exit)) ≡ 3) × Shown (now (symbols .entry)) (at + 192 * 2 ^ (plan .shape .exponent)) r (now (rows .exit)) (now (log .exit)) (now (g0 .exit) ∷ now (g1 .exit) ∷ now (g2 .exit) ∷ []) (readItems shift clusters (now («preset_map» .entry)) (itemsBy plan group (now (store .entry))) (going (drop at (now (symbols .entry))) at (now (log .entry)) (now (g0 .entry) ∷ now (g1 .entry) ∷ now (g2 .entry) ∷ []) (now (rows .entry)))) × CountsUsed 3 (now (symbols .entry)) at r ⌝ }
+    ensures { λ r. ⌜ (length (now (rows .exit)) ≡ 3) × Shown (now (symbols .entry)) (at + 192 * 2 ^ (plan .shape .exponent)) r (now (rows .exit)) (now (log .exit)) (now (g0 .exit) ∷ now (g1 .exit) ∷ now (g2 .exit) ∷ []) (readItems shift clusters (now («preset_map» .entry)) (itemsBy plan group (now (store .entry))) (going (drop at (now (symbols .entry))) at (now (log .entry)) (now (g0 .entry) ∷ now (g1 .entry) ∷ now (g2 .entry) ∷ []) (now (rows .entry)))) × AllUseUp (itemsBy plan group (now (store .entry))) (now (symbols .entry)) at r ⌝ }
 {
     let read = read_planned(
         plan,

@@ -86,3 +86,7 @@ channelItems P v = itemOf P v 0 1 ∷ itemOf P v 1 0 ∷ itemOf P v 2 2 ∷ []
 unfoldable pub itemsOf : PassGroup → List Varblock → List Item
 itemsOf P [] = []
 itemsOf P (v ∷ vs) = channelItems P v ++ itemsOf P vs
+
+-- all channels of a group
+abbrev pub groupItems : PassGroup → List Item
+groupItems P = itemsOf P (varblocks P)

@@ -4,8 +4,8 @@ use Prim.Native.Nat.{ℕ}
 use lib.ListN.{getD}
 use Rattle.coded_numbers.specs.Signed.{symbol}
 use Rattle.coeff_walk.specs.Item.{Item}
-use Rattle.coeff_walk.specs.Sent.{nonZeros, upTo}
-use Rattle.coeff_group.specs.PassGroup.{PassGroup, varblocks, itemsOf}
+use Rattle.coeff_walk.specs.Sent.{sent}
+use Rattle.coeff_group.specs.PassGroup.{PassGroup, groupItems}
 use Rattle.coeff_group.specs.Group.{PerChannel}
 
 -- a channel, and a cell of its grid
@@ -21,15 +21,10 @@ unfoldable pub readCells : List Item → List GridCell
 readCells [] = []
 readCells (it ∷ its) = map (λ (p : ℕ). (it .channel, p)) (it .cells) ++ readCells its
 
--- of each channel of each varblock, with a symbol for each of its places: how many are not 0, then those up to the last of them
-unfoldable pub sent : List (List ℕ) → List ℕ
-sent [] = []
-sent (ds ∷ dss) = nonZeros ds ∷ (upTo (nonZeros ds) ds ++ sent dss)
-
 -- the symbols that make W of the grids G at an item's cells
 abbrev pub changes : PerChannel → PerChannel → Item → List ℕ
 changes G W it = map (λ (p : ℕ). symbol (inCell W (it .channel) p) (inCell G (it .channel) p)) (it .cells)
 
 -- the sequence that makes W of the grids G of a group
 unfoldable pub theSequence : PassGroup → PerChannel → PerChannel → List ℕ
-theSequence P G W = sent (map (changes G W) (itemsOf P (varblocks P)))
+theSequence P G W = sent (map (changes G W) (groupItems P))

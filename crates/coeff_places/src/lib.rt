@@ -13,7 +13,7 @@ pub mod walk;
 ghost use mathlib.Core.Path.{_≡_};
 ghost use mathlib.Core.Bool.{cond};
 ghost use Prim.Native.Nat.{_≤_};
-ghost use Rattle.coeff_walk.specs.laws.Outcome.{WalkShown, CountUsed};
+ghost use Rattle.coeff_walk.specs.laws.Outcome.{WalkShown, UsesUp};
 ghost use Rattle.coeff_walk.specs.laws.Lent.{spotSmall, lentFits, placesRead};
 
 // 1 for true.
@@ -70,7 +70,7 @@ pub fn read_places(
     log: &mut [u8],
     grid: &mut [u32],
 ) -> WalkEnd
-    ensures { λ r. ⌜ WalkShown r (now (log .exit)) (now (grid .exit)) (placesRead spot (now (list .entry)) (now (symbols .entry)) at count «first_prev» (now («coeff_map» .entry)) shift (now (log .entry)) (now (grid .entry))) × CountUsed count (now (symbols .entry)) at r ⌝ }
+    ensures { λ r. ⌜ WalkShown r (now (log .exit)) (now (grid .exit)) (placesRead spot (now (list .entry)) (now (symbols .entry)) at count «first_prev» (now («coeff_map» .entry)) shift (now (log .entry)) (now (grid .entry))) × UsesUp count (now (symbols .entry)) at r ⌝ }
 {
     if !lent_fits(spot, list.len(), at, coeff_map.len(), shift, log.len()) {
         return WalkEnd::Stopped(Refusal::Length);

@@ -11,7 +11,7 @@ ghost use mathlib.Core.Path.{_≡_};
 ghost use Prim.Native.Nat.{_+_, _-_, _/_, _*_, _%_, _^_, _≤_, _<_};
 ghost use lib.ListN.{length, getD, drop};
 ghost use Rattle.coeff_walk.specs.Walk.{FREQ, NUM-NONZERO, flag, gain, walk};
-ghost use Rattle.coeff_walk.specs.laws.Outcome.{WalkReady, WalkShown, spotCells, CountUsed};
+ghost use Rattle.coeff_walk.specs.laws.Outcome.{WalkReady, WalkShown, spotCells, UsesUp};
 ghost use Rattle.coeff_walk.specs.laws.Runs.{ZerosReady, Zeros};
 
 // x shifted, losing top bits.
@@ -258,7 +258,7 @@ pub(crate) fn walk_places(
     grid: &mut [u32],
 ) -> WalkEnd
     requires { ⌜ (now nonzeros ≡ NUM-NONZERO) × (now frequencies ≡ FREQ) × WalkReady spot (now list) at count «first_prev» (length (now «coeff_map»)) shift (length (now log)) ⌝ }
-    ensures { λ r. ⌜ WalkShown r (now (log .exit)) (now (grid .exit)) (walk shift (2 ^ (spot .exponent)) (now («coeff_map» .entry)) (spotCells spot (now (list .entry))) 0 «first_prev» count (drop at (now (symbols .entry))) at (now (log .entry)) (now (grid .entry))) × CountUsed count (now (symbols .entry)) at r ⌝ }
+    ensures { λ r. ⌜ WalkShown r (now (log .exit)) (now (grid .exit)) (walk shift (2 ^ (spot .exponent)) (now («coeff_map» .entry)) (spotCells spot (now (list .entry))) 0 «first_prev» count (drop at (now (symbols .entry))) at (now (log .entry)) (now (grid .entry))) × UsesUp count (now (symbols .entry)) at r ⌝ }
 {
     if list.len() / 8 < count {
         return walk_dense(

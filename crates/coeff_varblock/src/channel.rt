@@ -11,7 +11,7 @@ ghost use mathlib.Core.List.{[], _∷_};
 ghost use Prim.Native.Nat.{_<_, _≤_};
 ghost use lib.ListN.{length, drop};
 ghost use Rattle.coeff_walk.specs.Item.{counted};
-ghost use Rattle.coeff_walk.specs.laws.Outcome.{WalkShown, CountsUsed};
+ghost use Rattle.coeff_walk.specs.laws.Outcome.{WalkShown, AllUseUp};
 ghost use Rattle.coeff_walk.specs.laws.Items.{ItemReady, itemAt, spotOf};
 ghost use Rattle.coeff_group.specs.laws.Steps.{InGrid};
 
@@ -52,7 +52,7 @@ fn read_counted<'a>(
     grid: &mut [u32],
 ) -> WalkEnd
     requires { ⌜ ItemReady v bw «block_context» clusters (length (now «preset_map»)) (length (now list)) at shift (length (now log)) ⌝ }
-    ensures { λ r. ⌜ WalkShown r (now (log .exit)) (now (grid .exit)) (counted shift clusters (now («preset_map» .entry)) (itemAt v bw «block_context» (now (list .entry))) (now (row .entry)) (drop at (now (symbols .entry))) at (now (log .entry)) (now (grid .entry))) × CountsUsed 1 (now (symbols .entry)) at r ⌝ }
+    ensures { λ r. ⌜ WalkShown r (now (log .exit)) (now (grid .exit)) (counted shift clusters (now («preset_map» .entry)) (itemAt v bw «block_context» (now (list .entry))) (now (row .entry)) (drop at (now (symbols .entry))) at (now (log .entry)) (now (grid .entry))) × AllUseUp (itemAt v bw «block_context» (now (list .entry)) ∷ []) (now (symbols .entry)) at r ⌝ }
 {
     if symbols.len() <= at {
         return WalkEnd::Stopped(Refusal::SymbolsEnd(at));
@@ -101,7 +101,7 @@ pub(crate) fn read_in_grid<'a>(
     g2: &mut [u32],
 ) -> WalkEnd
     requires { ⌜ (c < 3) × ItemReady v bw «block_context» clusters (length (now «preset_map»)) (length (now list)) at shift (length (now log)) ⌝ }
-    ensures { λ r. ⌜ InGrid c (now (g0 .entry) ∷ now (g1 .entry) ∷ now (g2 .entry) ∷ []) r (now (log .exit)) (now (g0 .exit) ∷ now (g1 .exit) ∷ now (g2 .exit) ∷ []) (λ g. counted shift clusters (now («preset_map» .entry)) (itemAt v bw «block_context» (now (list .entry))) (now (row .entry)) (drop at (now (symbols .entry))) at (now (log .entry)) g) × CountsUsed 1 (now (symbols .entry)) at r ⌝ }
+    ensures { λ r. ⌜ InGrid c (now (g0 .entry) ∷ now (g1 .entry) ∷ now (g2 .entry) ∷ []) r (now (log .exit)) (now (g0 .exit) ∷ now (g1 .exit) ∷ now (g2 .exit) ∷ []) (λ g. counted shift clusters (now («preset_map» .entry)) (itemAt v bw «block_context» (now (list .entry))) (now (row .entry)) (drop at (now (symbols .entry))) at (now (log .entry)) g) × AllUseUp (itemAt v bw «block_context» (now (list .entry)) ∷ []) (now (symbols .entry)) at r ⌝ }
 {
     if c == 0 {
         return read_counted(

@@ -133,7 +133,7 @@ fn read_channels<'a>(
     g2: &mut [u32],
 ) -> VarblockRead
     requires { ⌜ (lists ≡ stretchAt (length (now store)) (plan .order) 0) × Planned plan group clusters (now «preset_map») (now store) shift × (at + 192 * 2 ^ (plan .shape .exponent) ≤ length (now log)) ⌝ }
-    ensures { λ r. ⌜ VarblockShown plan (now (symbols .entry)) at (r .walk) (r .«counts_over») (now (rows .entry)) (now (log .exit)) (now (g0 .exit) ∷ now (g1 .exit) ∷ now (g2 .exit) ∷ []) (readItems shift clusters (now («preset_map» .entry)) (itemsBy plan group (now (store .entry))) (going (drop at (now (symbols .entry))) at (now (log .entry)) (now (g0 .entry) ∷ now (g1 .entry) ∷ now (g2 .entry) ∷ []) (three (now (rows .entry))))) ⌝ }
+    ensures { λ r. ⌜ VarblockShown plan (itemsBy plan group (now (store .entry))) (now (symbols .entry)) at (r .walk) (r .«counts_over») (now (rows .entry)) (now (log .exit)) (now (g0 .exit) ∷ now (g1 .exit) ∷ now (g2 .exit) ∷ []) (readItems shift clusters (now («preset_map» .entry)) (itemsBy plan group (now (store .entry))) (going (drop at (now (symbols .entry))) at (now (log .entry)) (now (g0 .entry) ∷ now (g1 .entry) ∷ now (g2 .entry) ∷ []) (three (now (rows .entry))))) ⌝ }
 {
     let mut counts_over = [0u32; 3];
     let mut at = at;
@@ -232,7 +232,7 @@ pub fn read_planned<'a>(
     g1: &mut [u32],
     g2: &mut [u32],
 ) -> VarblockRead
-    ensures { λ r. ⌜ VarblockShown plan (now (symbols .entry)) at (r .walk) (r .«counts_over») (now (rows .entry)) (now (log .exit)) (now (g0 .exit) ∷ now (g1 .exit) ∷ now (g2 .exit) ∷ []) (plannedRead plan group clusters (now («preset_map» .entry)) (now (store .entry)) (now (rows .entry)) (now (symbols .entry)) at shift (now (log .entry)) (now (g0 .entry) ∷ now (g1 .entry) ∷ now (g2 .entry) ∷ [])) ⌝ }
+    ensures { λ r. ⌜ VarblockShown plan (itemsBy plan group (now (store .entry))) (now (symbols .entry)) at (r .walk) (r .«counts_over») (now (rows .entry)) (now (log .exit)) (now (g0 .exit) ∷ now (g1 .exit) ∷ now (g2 .exit) ∷ []) (plannedRead plan group clusters (now («preset_map» .entry)) (now (store .entry)) (now (rows .entry)) (now (symbols .entry)) at shift (now (log .entry)) (now (g0 .entry) ∷ now (g1 .entry) ∷ now (g2 .entry) ∷ [])) ⌝ }
 {
     let lists = stretch_of(store.len(), plan.order, 0);
     if !varblock_fits(

@@ -1,5 +1,5 @@
 -- The symbols at a channel's places as they are sent (document 00, demand 3; document 01, Coefficients).
-use mathlib.Core.List.{List, [], _∷_}
+use mathlib.Core.List.{List, [], _∷_, _++_}
 use Prim.Native.Nat.{ℕ, zero, suc, _^_, _<_}
 use Rattle.coeff_walk.specs.Walk.{less}
 
@@ -22,3 +22,8 @@ unfoldable pub upTo : ℕ → List ℕ → List ℕ
 upTo n [] = []
 upTo zero (d ∷ ds) = []
 upTo (suc n) (d ∷ ds) = d ∷ upTo (less d n) ds
+
+-- of each channel of each varblock, with a symbol for each of its places: how many are not 0, then those up to the last of them
+unfoldable pub sent : List (List ℕ) → List ℕ
+sent [] = []
+sent (ds ∷ dss) = nonZeros ds ∷ (upTo (nonZeros ds) ds ++ sent dss)

@@ -1,21 +1,40 @@
--- Counts that are used up (document 02, No. 8).
+-- Counts that are used up, and one that is not (document 02, No. 8).
 use mathlib.Core.Path.{_≡_}
-use mathlib.Core.List.{List}
-use Prim.Native.Nat.{ℕ, zero, suc, _+_, _-_, _<_, _≤_}
-use lib.ListN.{length, getD, take, drop}
-use Rattle.coeff_walk.specs.Sent.{nonZeros}
+use mathlib.Core.List.{List, [], _∷_, _++_}
+use Prim.Native.Nat.{ℕ, _<_}
+use lib.ListN.{length}
+use Rattle.coeff_walk.specs.Item.{Item}
+use Rattle.coeff_walk.specs.Sent.{nonZeros, sent}
 
--- the symbols from position `from` up to position `to`
-abbrev pub between : List ℕ → (from to : ℕ) → List ℕ
-between symbols from to = take (to - from) (drop from symbols)
+-- a symbol for each place of each item
+abbrev pub Long : List Item → List (List ℕ) → Type 0
+Long [] [] = Unit
+Long [] (ds ∷ dss) = ⊥
+Long (it ∷ its) [] = ⊥
+Long (it ∷ its) (ds ∷ dss) = (length ds ≡ length (it .cells)) × Long its dss
 
--- one channel's symbols: a count, and behind it symbols of which exactly as many are not 0
-pub record ChannelUsed (symbols : List ℕ) (from to : ℕ) : Type 0 where
-  pub counted : from < to
-  pub inside : to ≤ length symbols
-  pub used : nonZeros (between symbols (from + 1) to) ≡ getD symbols from 0
+-- the symbols s of items that have used their counts up: of each the number of those at its places that are not 0, then these up to the last that is not
+pub record CountsUsed (its : List Item) (s : List ℕ) : Type 0 where
+  pub dss : List (List ℕ)
+  pub long : Long its dss
+  pub are : s ≡ sent dss
 
--- those of m channels in turn
-abbrev pub ChannelsUsed : (symbols : List ℕ) (m from to : ℕ) → Type 0
-ChannelsUsed symbols zero from to = from ≡ to
-ChannelsUsed symbols (suc m) from to = (next : ℕ) × ChannelUsed symbols from next × ChannelsUsed symbols m next to
+-- the symbols s of an item whose last place is passed with count remaining: a count, and one for each place, of which fewer are not 0
+pub record CountRemains (it : Item) (s : List ℕ) : Type 0 where
+  pub count : ℕ
+  pub ds : List ℕ
+  pub long : length ds ≡ length (it .cells)
+  pub fewer : nonZeros ds < count
+  pub are : s ≡ count ∷ ds
+
+-- of items in turn: those that have used their counts up, one that has not; nothing is read of those behind
+pub record RemainsAmong (its : List Item) (s : List ℕ) : Type 0 where
+  pub before : List Item
+  pub it : Item
+  pub behind : List Item
+  pub turn : its ≡ before ++ (it ∷ behind)
+  pub read : List ℕ
+  pub last : List ℕ
+  pub used : CountsUsed before read
+  pub remains : CountRemains it last
+  pub are : s ≡ read ++ last

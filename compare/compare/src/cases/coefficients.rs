@@ -3,6 +3,7 @@ use std::hash::{DefaultHasher, Hash, Hasher};
 use std::sync::Arc;
 
 use calls::{CoefficientBuffers, CoefficientsCall, Contexts, Layout, Outcome, LIST_MOST};
+use paper::TRANSFORM_COUNT;
 
 use super::coefficient_faults::{damage_call, damage_symbols};
 use super::coefficient_smaller::smaller;
@@ -44,7 +45,6 @@ const SHORT_SYMBOLS: [u32; 6] = [0, 1, 2, 3, 63, 64];
 const SHORT_MOST: usize = 6;
 /// At how many places the symbols of each transform end, half of them counted from the end.
 const SHORT_ENDS: usize = 400;
-const TRANSFORMS: usize = 27;
 const SIDES: usize = 32;
 
 fn short_lists() -> usize {
@@ -96,9 +96,9 @@ impl CoefficientsCase {
     /// One varblock of each transform, its symbols ending at each of the first and last places.
     fn ending(&self, number: usize) -> CoefficientsInput {
         let mut digits = Digits::of(number);
-        let transform = digits.next(TRANSFORMS) as u8;
+        let transform = digits.next(TRANSFORM_COUNT) as u8;
         let place = digits.next(SHORT_ENDS);
-        let mut rng = Rng::new(number as u64 % TRANSFORMS as u64);
+        let mut rng = Rng::new(number as u64 % TRANSFORM_COUNT as u64);
         let group = single(transform);
         let which = rng.below(self.orders.len());
         let mut input = self.input(which, group, make::default_contexts());
@@ -151,7 +151,7 @@ impl Case for CoefficientsCase {
     }
 
     fn short_count(&self) -> usize {
-        Self::LAST_PLACES + short_lists() + SHORT_ENDS * TRANSFORMS + SIDES * SIDES
+        Self::LAST_PLACES + short_lists() + SHORT_ENDS * TRANSFORM_COUNT + SIDES * SIDES
     }
 
     fn short(&self, number: usize) -> CoefficientsInput {
@@ -161,7 +161,7 @@ impl Case for CoefficientsCase {
         let Some(end) = list.checked_sub(short_lists()) else {
             return self.short_list(list);
         };
-        match end.checked_sub(SHORT_ENDS * TRANSFORMS) {
+        match end.checked_sub(SHORT_ENDS * TRANSFORM_COUNT) {
             None => self.ending(end),
             Some(sides) => self.of_sides(sides),
         }
@@ -243,7 +243,7 @@ fn threshold(rng: &mut Rng) -> i32 {
 }
 
 fn group(rng: &mut Rng) -> Layout {
-    let favoured = rng.once_in(2).then(|| rng.below(27) as u8);
+    let favoured = rng.once_in(2).then(|| rng.below(TRANSFORM_COUNT) as u8);
     let (bw, bh) = match (rng.below(40), favoured) {
         (0, _) => (rng.between(1, 32), rng.between(1, 32)),
         (1..=12, Some(transform)) => paper::transform_sides(transform.into()).expect("a transform"),

@@ -1,4 +1,5 @@
 use calls::{CutCall, GroupBuffers, Layout, Outcome};
+use paper::TRANSFORM_COUNT;
 
 use super::digits::Digits;
 use super::placing::{damage, fill};
@@ -109,7 +110,7 @@ fn random_layout(rng: &mut Rng) -> Layout {
 pub fn whole_layout(rng: &mut Rng) -> Layout {
     let most = rng.pick(&[4, 8, 8, 8, 40, 40, 70, 256]);
     let (bw, bh) = (rng.between(1, most), rng.between(1, most.min(70)));
-    let favoured = rng.once_in(3).then(|| rng.below(27) as u8);
+    let favoured = rng.once_in(3).then(|| rng.below(TRANSFORM_COUNT) as u8);
     fill(rng, bw, bh, favoured).layout
 }
 

@@ -2,13 +2,14 @@
 //! count remaining there (document 02, No. 8), used up there, too much for a context before, or too
 //! few symbols.
 
+use paper::TRANSFORM_COUNT;
+
 use super::digits::Digits;
 
 const TURNS: usize = 3;
 /// Counts of one block, those that 16 refuses among them.
 const COUNTS: usize = 67;
 const PLACES: usize = 63;
-const TRANSFORMS: usize = 27;
 const FILLED: u32 = 2;
 
 /// What stands behind a count of one block.
@@ -59,13 +60,13 @@ const COUNTS_OF: [fn(usize) -> usize; 4] = [
 /// What stands at the last place, and whether it is there.
 const LAST: [&[u32]; 3] = [&[], &[0], &[FILLED]];
 
-pub const EACH_TRANSFORM: usize = TRANSFORMS * TURNS * COUNTS_OF.len() * LAST.len();
+pub const EACH_TRANSFORM: usize = TRANSFORM_COUNT * TURNS * COUNTS_OF.len() * LAST.len();
 
 /// A transform and the symbols of its varblock: none in the channels before, then a count and zeros
 /// up to the last place.
 pub fn each_transform(number: usize) -> (u8, Vec<u32>) {
     let mut digits = Digits::of(number);
-    let transform = digits.next(TRANSFORMS) as u8;
+    let transform = digits.next(TRANSFORM_COUNT) as u8;
     let (wide, high) = paper::transform_sides(transform.into()).expect("a transform number");
     let blocks = wide * high;
     let before = digits.next(TURNS);

@@ -1,4 +1,5 @@
 use calls::{LayoutBuffers, LayoutCall, Outcome};
+use paper::TRANSFORM_COUNT;
 
 use super::digits::{lists_count, Digits};
 use super::placing::fill;
@@ -176,7 +177,7 @@ fn filled(rng: &mut Rng) -> LayoutCall {
         [0; 3]
     };
     let (bw, bh) = paper::grid_sides(width as u32, height as u32, modes);
-    let favoured = rng.once_in(3).then(|| rng.below(27) as u8);
+    let favoured = rng.once_in(3).then(|| rng.below(TRANSFORM_COUNT) as u8);
     let mut columns = fill(rng, bw, bh, favoured).columns;
     if rng.once_in(8) {
         let mask = if rng.once_in(2) { 0xff } else { -1 };

@@ -49,8 +49,8 @@ pub trait Case {
 
     fn expected(&self, input: &Self::Input) -> Outcome<Self::Value, Self::Buffers>;
 
-    /// Whether the input, of which that is expected, is one that the Rust is not lent, by a request of
-    /// document 02, so that the model answers; told by calls that have such inputs.
+    /// Whether a request of document 02 keeps this input from the Rust, so that what is expected is
+    /// the model's answer; told by calls that have such inputs.
     fn by_model(
         &self,
         _input: &Self::Input,

@@ -52,47 +52,28 @@ fn answer(calls: &Calls, call: &CoefficientsCall, orders: &OrdersAndStore) -> St
 }
 
 /// Counts that are not used up, in the first channel of one Dct8. The last place is (7,7).
-fn counts(calls: &Calls, orders: &OrdersAndStore) -> Vec<Said> {
-    let zeros = |count, zeros| one_varblock(orders, 0, &[vec![count], vec![0; zeros]].concat());
-    let mut filled_last = zeros(2, 63);
+fn counts(calls: &Calls, orders: &OrdersAndStore) -> [Said; 6] {
+    let call = |count, zeros| one_varblock(orders, 0, &[vec![count], vec![0; zeros]].concat());
+    let zeros = |example, count, zeros, paper| {
+        let answer = answer(calls, &call(count, zeros), orders);
+        row(example, answer, paper)
+    };
+    let mut filled_last = call(2, 63);
     filled_last.symbols[63] = 2;
+    let filled = answer(calls, &filled_last, orders);
     let cell = buffers(calls, &filled_last, orders).grids[1][63].to_string();
-    let examples = [
-        (
-            "24 (02, No. 8): 1, then 63 zeros",
-            zeros(1, 63),
-            "refused 24 64 0",
-        ),
-        (
-            "02, No. 8: 1, then 62 zeros",
-            zeros(1, 62),
-            "refused 15 63 0",
-        ),
-        (
+    [
+        zeros("24 (02, No. 8): 1, then 63 zeros", 1, 63, "refused 24 64 0"),
+        zeros("02, No. 8: 1, then 62 zeros", 1, 62, "refused 15 63 0"),
+        row(
             "02, No. 8: 2, then 62 zeros and 2",
-            filled_last,
+            filled,
             "refused 24 64 0",
         ),
-        (
-            "02, No. 8: 32, then 63 zeros",
-            zeros(32, 63),
-            "refused 24 64 0",
-        ),
-        (
-            "02, No. 8: 33, then 63 zeros",
-            zeros(33, 63),
-            "refused 17 32 0",
-        ),
-    ];
-    let rows =
-        examples.map(|(example, call, paper)| row(example, answer(calls, &call, orders), paper));
-    let mut rows = Vec::from(rows);
-    rows.push(row(
-        "02, No. 8: the last place of 2, 62 zeros, 2",
-        cell,
-        "1",
-    ));
-    rows
+        zeros("02, No. 8: 32, then 63 zeros", 32, 63, "refused 24 64 0"),
+        zeros("02, No. 8: 33, then 63 zeros", 33, 63, "refused 17 32 0"),
+        row("02, No. 8: the last place of 2, 62 zeros, 2", cell, "1"),
+    ]
 }
 
 /// What the first place behind the corner, place (1,0) and so cell (0,1) of a Dct8, holds in the end.

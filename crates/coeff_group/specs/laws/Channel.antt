@@ -14,14 +14,15 @@ use Rattle.lent_check.specs.declared.GroupSides.{GroupSides}
 use Rattle.coeff_walk.specs.declared.WalkEnd.{WalkEnd}
 use Rattle.coeff_walk.specs.declared.WalkEnd.the-variants.{Done, Stopped}
 use Rattle.coeff_walk.specs.Walk.{Walked, done, stopped}
-use Rattle.coeff_walk.specs.laws.Outcome.{isStopped, answerOf, logOf, gridAfter, CountsUsed}
+use Rattle.coeff_walk.specs.laws.Outcome.{isStopped, answerOf, logOf, gridAfter, AllUseUp}
 use Rattle.coeff_walk.specs.Item.{Item, newRow, countOver, countCluster, counted}
+use Rattle.coeff_walk.specs.UsedUp.{Long}
 use Rattle.coeff_walk.specs.declared.shape.Shape.{Shape}
 use Rattle.order_natural.specs.Places.{paired}
 use Rattle.order_natural.specs.laws.Flat.{length-paired}
 use Rattle.coeff_walk.specs.laws.PlaceLaws.{length-places}
 use Rattle.coeff_walk.specs.laws.Items.{itemAt, ItemReady, counted-15, counted-16}
-use Rattle.coeff_walk.specs.laws.Kept.{CountFirst, KeptBy, counted-kept}
+use Rattle.coeff_walk.specs.laws.Kept.{KeptBy, counted-kept}
 use Rattle.coeff_group.specs.Group.{PerChannel, Reading, going, after, readItem}
 use Rattle.coeff_group.specs.laws.Steps.{InGrid, rowBy, Shown}
 use Rattle.coeff_group.specs.laws.Plans.{inChannel, itemBy, channelWalked, Planned}
@@ -34,7 +35,7 @@ pub record ChannelShown (p : Plan) (group : GroupSides) (clusters : ℕ) (preset
   pub shown : (R : PerChannel) → getD R (channelWalked n) [] ≡ getD rows (channelWalked n) []
       → Shown symbols (at + 64 * 2 ^ (p .shape .exponent)) w (rowBy R (channelWalked n) (p .shape .x) (p .shape .wide) count) log₁ G₁
       (readItem shift clusters presetMap (itemBy p group store n (channelWalked n)) (going (drop at symbols) at log G R))
-  pub used : CountsUsed 1 symbols at w
+  pub used : AllUseUp (itemBy p group store n (channelWalked n) ∷ []) symbols at w
 
 -- the channel's number decides nothing in its reading
 counted-in : (shift clusters : ℕ) (presetMap : List ℕ) (c : ℕ) (it : Item) (row us : List ℕ) (at : ℕ) (log g : List ℕ)
@@ -42,6 +43,15 @@ counted-in : (shift clusters : ℕ) (presetMap : List ℕ) (c : ℕ) (it : Item)
 unfolding counted
 counted-in shift clusters presetMap c it row [] at log g = refl
 counted-in shift clusters presetMap c it row (n ∷ us) at log g = refl
+
+-- nor in what it promises
+used-in : (c : ℕ) (it : Item) (symbols : List ℕ) (at : ℕ) (r : WalkEnd) → AllUseUp (it ∷ []) symbols at r → AllUseUp (inChannel c it ∷ []) symbols at r
+used-in c it symbols at r h to e = let q = h to e in record { dss = q .dss; long = same (q .dss) (q .long); are = q .are }
+  where
+    same : (dss : List (List ℕ)) → Long (it ∷ []) dss → Long (inChannel c it ∷ []) dss
+    same [] l = l
+    same (ds ∷ []) l = l
+    same (ds ∷ es ∷ dss) l = l
 
 module _ (shift clusters : ℕ) (presetMap : List ℕ) (c : ℕ) (it : Item) (row symbols : List ℕ) (at : ℕ) (log : List ℕ) (G : PerChannel) (r : WalkEnd) (log₁ : List ℕ) (G₁ : PerChannel)
     (got : InGrid c G r log₁ G₁ (λ g. counted shift clusters presetMap it row (drop at symbols) at log g)) where
@@ -97,7 +107,7 @@ module _ (shift clusters : ℕ) (presetMap : List ℕ) (c : ℕ) (it : Item) (ro
         rows-are : set R c (newRow (inChannel c it) row (drop at symbols)) ≡ rowBy R c (it .x) (it .wide) (countOver (getD symbols at 0) (it .blocks))
         rows-are = rw (drop-cons symbols at 0 (read-count e .0), same)
 
-        go : (x : Walked) → w ≡ x → KeptBy CountFirst (suc (length (it .cells))) (drop at symbols) at log (getD G c []) x
+        go : (x : Walked) → w ≡ x → KeptBy (suc (length (it .cells))) (drop at symbols) at log (getD G c []) x
             → Shown symbols most r (rowBy R c (it .x) (it .wide) (countOver (getD symbols at 0) (it .blocks))) log₁ G₁ (after c G (set R c (newRow (inChannel c it) row (drop at symbols))) x)
         go (stopped why at′ log′ g) q k =
             absurd (let a : r ≡ Stopped (why at′) = got .answer ∙ ap answerOf q in let z : isStopped r ≡ true = ap isStopped a in let y : _≡_ {A = ℕ} 0 1 = cc in omega arith)
@@ -162,19 +172,19 @@ module _ (p : Plan) (group : GroupSides) (clusters : ℕ) (presetMap store symbo
       here = rw ec same
 
     -- the reading stopped in this channel
-    pub channel-stops : CountsUsed 1 symbols at r → isStopped r ≡ true → (count : ℕ) → ChannelShown p group clusters presetMap store symbols at shift rows log G n r count log₁ G₁
+    pub channel-stops : AllUseUp (it ∷ []) symbols at r → isStopped r ≡ true → (count : ℕ) → ChannelShown p group clusters presetMap store symbols at shift rows log G n r count log₁ G₁
     channel-stops used e count = record {
       shown = λ R same. subst (λ (i : Item). Shown symbols (at + 64 * K) r (rowBy R (channelWalked n) (p .shape .x) (p .shape .wide) count) log₁ G₁ (readItem shift clusters presetMap i (going (drop at symbols) at log G R))) same-item
           (item-stops shift clusters presetMap c it (getD rows c []) symbols at log G r log₁ G₁ got (at + 64 * K) R (here R same) e (rowBy R (channelWalked n) (p .shape .x) (p .shape .wide) count));
-      used = used;
+      used = rw (← same-item) (used-in c it symbols at r used);
     }
 
     -- the channel was read
-    pub channel-goes : CountsUsed 1 symbols at r → isStopped r ≡ false → (count : ℕ) → count ≡ countOver (getD symbols at 0) K → ChannelShown p group clusters presetMap store symbols at shift rows log G n r count log₁ G₁
+    pub channel-goes : AllUseUp (it ∷ []) symbols at r → isStopped r ≡ false → (count : ℕ) → count ≡ countOver (getD symbols at 0) K → ChannelShown p group clusters presetMap store symbols at shift rows log G n r count log₁ G₁
     channel-goes used e count ev =
         let l = item-size (p .shape) (group .bw) (getD (p .«block_contexts») n 0) order long in
         record {
           shown = λ R same. subst (λ (i : Item). Shown symbols (at + 64 * K) r (rowBy R (channelWalked n) (p .shape .x) (p .shape .wide) count) log₁ G₁ (readItem shift clusters presetMap i (going (drop at symbols) at log G R))) same-item
               (rw (ev, ← ec) (item-goes shift clusters presetMap c it (getD rows c []) symbols at log G r log₁ G₁ got (at + 64 * K) R (here R same) e (omega (arith, pow-pos (p .shape .exponent))) (omega arith)));
-          used = used;
+          used = rw (← same-item) (used-in c it symbols at r used);
         }

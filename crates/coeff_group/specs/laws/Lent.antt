@@ -169,7 +169,7 @@ module _ (p : Plan) (group : GroupSides) (clusters : ℕ) (presetMap store : Lis
   abbrev whole : Reading
   whole = readItems shift clusters presetMap (itemsBy p group store) (going (drop at symbols) at log G (three rows))
 
-  pub varblock-refused : fitting ≡ false → VarblockShown p symbols at (Stopped Length) (0 ∷ 0 ∷ 0 ∷ []) rows log G (plannedRead p group clusters presetMap store rows symbols at shift log G)
+  pub varblock-refused : fitting ≡ false → VarblockShown p (itemsBy p group store) symbols at (Stopped Length) (0 ∷ 0 ∷ 0 ∷ []) rows log G (plannedRead p group clusters presetMap store rows symbols at shift log G)
   varblock-refused e = rw e (record { shown = record { it = record { answer = refl; logged = refl; cells = refl } }; used = λ to f. absurd (not-done Length to f); none = λ stops. refl; counted = λ long. refl })
 
   pub varblock-reads : fitting ≡ true → whole ≡ plannedRead p group clusters presetMap store rows symbols at shift log G

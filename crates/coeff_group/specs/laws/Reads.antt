@@ -17,8 +17,9 @@ use Rattle.coeff_walk.specs.laws.Counts.{few-le}
 use Rattle.coeff_walk.specs.Item.{Item, counted, newRow, coeffMapOf, countCluster}
 use Rattle.coeff_group.specs.Group.{PerChannel, Reading, going, refused, after, readItem, readItems}
 use Rattle.coeff_group.specs.laws.Symbols.{symbolsIn}
-use Rattle.coeff_walk.specs.Sent.{Words, nonZeros, upTo}
-use Rattle.coeff_group.specs.Sequence.{readCells, sent}
+use Rattle.coeff_walk.specs.Sent.{Words, nonZeros, upTo, sent}
+use Rattle.coeff_group.specs.Sequence.{readCells}
+use Rattle.coeff_walk.specs.UsedUp.{Long}
 use Rattle.coeff_walk.specs.laws.Walks as walks
 use Rattle.coeff_walk.specs.laws.Walks.{gains, none, none-long, gains-none, Stop, run, nonZeros-le, walk-sent}
 use Rattle.coeff_group.specs.laws.Cells.{In, adds, adds-in, adds-both}
@@ -27,13 +28,6 @@ use Rattle.coeff_group.specs.laws.Cells.{In, adds, adds-in, adds-both}
 abbrev pub joined : List (List ℕ) → List ℕ
 joined [] = []
 joined (ds ∷ dss) = ds ++ joined dss
-
--- a symbol for each place of each item
-abbrev pub Long : List Item → List (List ℕ) → Type 0
-Long [] [] = Unit
-Long [] (ds ∷ dss) = ⊥
-Long (it ∷ its) [] = ⊥
-Long (it ∷ its) (ds ∷ dss) = (length ds ≡ length (it .cells)) × Long its dss
 
 -- 63 places for each block
 abbrev pub Sized : List Item → Type 0
@@ -58,7 +52,7 @@ Goes (stops why) = ⊥
 -- of a reading that ended, with dss at the places and k symbols read: its symbols are those sent for dss
 pub record Taken (us : List ℕ) (k : ℕ) (dss : List (List ℕ)) (us′ : List ℕ) : Type 0 where
   pub read : length us ≡ k + length us′
-  pub used : us ≡ sent dss ++ us′
+  pub rest : us ≡ sent dss ++ us′
   pub words : Words us → Words (joined dss)
 
 abbrev pub Tells : List ℕ → ℕ → List (List ℕ) → End → Type 0
@@ -124,7 +118,7 @@ tells-on n m k us ds us₁ dss (ends us′ rows) w t =
     let a = w .read in let b = t .read in
     record {
       read = omega arith;
-      used = ap₂ (λ (i : ℕ) (l : List ℕ). i ∷ l) (w .due) (w .rest ∙ rw (w .due, t .used) (sym (append-assoc (upTo (nonZeros ds) ds) (sent dss) us′)));
+      rest = ap₂ (λ (i : ℕ) (l : List ℕ). i ∷ l) (w .due) (w .rest ∙ rw (w .due, t .rest) (sym (append-assoc (upTo (nonZeros ds) ds) (sent dss) us′)));
       words = λ h. let q = w .words (h .1) in words-both ds (joined dss) (q .0) (t .words (q .1));
     }
 tells-on n m k us ds us₁ dss (stops why) w t =
@@ -231,7 +225,7 @@ module _ (clusters : ℕ) (presetMap : List ℕ) where
         further = λ h vs s at log G. let z : at + 0 ≡ at = omega arith in rw z;
         all = tt;
         few = omega arith;
-        tells = record { read = omega arith; used = refl; words = λ h. tt };
+        tells = record { read = omega arith; rest = refl; words = λ h. tt };
       }
   reads (it ∷ its) us rows = next it its (reads its) us rows
 

@@ -7,7 +7,8 @@ use native.Mathlib.Omega.{arith}
 use lib.ListN.{length, getD, set}
 use lib.Seq.{getD-set-same, getD-set-other}
 use Rattle.coeff_walk.specs.declared.WalkEnd.{WalkEnd}
-use Rattle.coeff_walk.specs.laws.Outcome.{isStopped, CountsUsed}
+use Rattle.coeff_walk.specs.laws.Outcome.{isStopped, AllUseUp}
+use Rattle.coeff_walk.specs.Item.{Item}
 use Rattle.laws.specs.Lists.{fillFrom}
 use Rattle.coeff_group.specs.declared.plan.Plan.{Plan}
 use Rattle.coeff_group.specs.Group.{PerChannel, Reading, going, refused}
@@ -30,11 +31,10 @@ abbrev pub countsBy : ℕ → Reading → List ℕ
 countsBy x (going us at log grids rows) = getD (getD rows 0 []) x 0 ∷ getD (getD rows 1 []) x 0 ∷ getD (getD rows 2 []) x 0 ∷ []
 countsBy x (refused why at log grids) = 0 ∷ 0 ∷ 0 ∷ []
 
--- what the reading R of a varblock, behind `at` symbols, hands back: how it ended, the counts, log and grids; the rows are rewritten by the counts
-pub record VarblockShown (p : Plan) (symbols : List ℕ) (at : ℕ) (w : WalkEnd) (countsOver : List ℕ) (rows : PerChannel) (log : List ℕ) (G : PerChannel) (R : Reading) : Type 0 where
+-- what the reading R of a varblock with these items, behind `at` symbols, hands back: how it ended, the counts, log and grids; the rows are rewritten by the counts, which are used up
+pub record VarblockShown (p : Plan) (its : List Item) (symbols : List ℕ) (at : ℕ) (w : WalkEnd) (countsOver : List ℕ) (rows : PerChannel) (log : List ℕ) (G : PerChannel) (R : Reading) : Type 0 where
   pub shown : Shown symbols (at + 192 * 2 ^ (p .shape .exponent)) w (rewritten p countsOver rows 3) log G R
-  -- each channel's count is used up
-  pub used : CountsUsed 3 symbols at w
+  pub used : AllUseUp its symbols at w
   pub none : isStopped w ≡ true → countsOver ≡ 0 ∷ 0 ∷ 0 ∷ []
   -- of rows that have a number in that x, as rows of 32 do
   pub counted : ((c : ℕ) → c < 3 → p .shape .x < length (getD rows c [])) → countsOver ≡ countsBy (p .shape .x) R

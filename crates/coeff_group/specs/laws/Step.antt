@@ -17,7 +17,7 @@ use Rattle.coeff_group.specs.laws.Channels.{shown-stopped}
 
 module _ (p : Plan) (group : GroupSides) (clusters : ℕ) (presetMap store : List ℕ) (rows : PerChannel) (symbols : List ℕ) (at shift : ℕ) (log : List ℕ) (G : PerChannel)
     (planned : Planned p group clusters presetMap store shift) (room : at + 192 * 2 ^ (p .shape .exponent) ≤ length log) (three : length rows ≡ 3) (w : WalkEnd) (counts log₁ : List ℕ) (G₁ : PerChannel)
-    (told : VarblockShown p symbols at w counts rows log₁ G₁ (plannedRead p group clusters presetMap store rows symbols at shift log G)) where
+    (told : VarblockShown p (itemsBy p group store) symbols at w counts rows log₁ G₁ (plannedRead p group clusters presetMap store rows symbols at shift log G)) where
   abbrev most : ℕ
   most = at + 192 * 2 ^ (p .shape .exponent)
 

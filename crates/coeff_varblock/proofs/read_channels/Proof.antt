@@ -6,7 +6,7 @@ use native.Mathlib.Omega.{arith}
 use borrow.Author.Needs.{needs}
 use lib.ListN.{length, drop, length-set}
 use Rattle.coeff_walk.specs.declared.WalkEnd.{WalkEnd}
-use Rattle.coeff_walk.specs.laws.Outcome.{CountsUsed}
+use Rattle.coeff_walk.specs.laws.Outcome.{AllUseUp}
 use Rattle.coeff_walk.specs.declared.WalkEnd.the-variants.{Done}
 use Rattle.coeff_group.specs.Group.{PerChannel, Reading, going, readItems}
 use Rattle.coeff_group.specs.laws.Steps.{Shown}
@@ -48,10 +48,10 @@ wholeAt c =
     (going (drop (a .at) (a .symbols .now)) (a .at) (a .log .now) (a .g0 .now ∷ a .g1 .now ∷ a .g2 .now ∷ []) (three (a .rows .now)))
 
 -- what it promises of the counts
-channels-use : (c : tie.Start Inv-loop μ-loop) (most : ℕ) (w : WalkEnd) (rows : PerChannel) (log : List ℕ) (G : PerChannel) → Shown (c .args .symbols .now) most w rows log G (wholeAt c) → CountsUsed 3 (c .args .symbols .now) (c .args .at) w
+channels-use : (c : tie.Start Inv-loop μ-loop) (most : ℕ) (w : WalkEnd) (rows : PerChannel) (log : List ℕ) (G : PerChannel) → Shown (c .args .symbols .now) most w rows log G (wholeAt c) → AllUseUp (itemsBy (c .args .plan) (c .args .group) (c .args .store .now)) (c .args .symbols .now) (c .args .at) w
 channels-use c most w rows log G t =
     let a = c .args in
-    reading-uses (a .shift) (a .clusters) (a .preset-map .now) (a .symbols .now) (itemsBy (a .plan) (a .group) (a .store .now)) (a .at) (a .log .now) (a .g0 .now ∷ a .g1 .now ∷ a .g2 .now ∷ []) (three (a .rows .now)) w
+    reading-uses (a .shift) (a .clusters) (a .preset-map .now) (itemsBy (a .plan) (a .group) (a .store .now)) (a .symbols .now) (a .at) (a .log .now) (a .g0 .now ∷ a .g1 .now ∷ a .g2 .now ∷ []) (three (a .rows .now)) w
     (shown-walk (a .symbols .now) most w rows log G (wholeAt c) t)
 
 loop-holds : tie.Need-loop-holds Inv-loop μ-loop

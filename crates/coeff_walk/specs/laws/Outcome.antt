@@ -8,15 +8,16 @@ use native.Mathlib.Numerals.{add-one}
 use native.Mathlib.Nat.{div-lt-iff-lt-mul}
 use lib.Pow.{pow-pos}
 use borrow.Author.Tests.{lt-ltb, le-ltb}
-use lib.ListN.{length, getD, set, drop, drop-of-length-le}
+use lib.ListN.{length, getD, set, take, drop, drop-of-length-le}
 use lib.Seq.{drop-cons, set-out}
 use Rattle.refusal.specs.declared.Refusal.the-variants.{SymbolsEnd, TooManyZeros, CountRemaining}
 use Rattle.coded_numbers.specs.Signed.{unpackSigned}
 use Rattle.coeff_walk.specs.Walk.{Walked, done, stopped, walk, coeffContext, flag, less, gain}
 use Rattle.order_natural.specs.Places.{paired}
 use Rattle.coeff_walk.specs.Places.{cellsOf}
+use Rattle.coeff_walk.specs.Item.{Item}
 use Rattle.coeff_walk.specs.Sent.{nonZeros}
-use Rattle.coeff_walk.specs.UsedUp.{between, ChannelsUsed}
+use Rattle.coeff_walk.specs.UsedUp.{CountsUsed}
 use Rattle.coeff_walk.specs.declared.WalkEnd.{WalkEnd}
 use Rattle.coeff_walk.specs.declared.WalkEnd.the-variants.{Done, Stopped}
 use Rattle.coeff_walk.specs.declared.spot.Spot.{Spot}
@@ -68,13 +69,17 @@ pub record WalkShown (r : WalkEnd) (log grid : List ℕ) (w : Walked) : Type 0 w
   pub logged : log ≡ logOf w
   pub cells : grid ≡ gridAfter w
 
--- what a walk promises of its count n, behind `from` symbols, where it is done: the symbols that it read hold exactly n that are not 0
-abbrev pub CountUsed : (n : ℕ) (symbols : List ℕ) (from : ℕ) → WalkEnd → Type 0
-CountUsed n symbols from r = (to : ℕ) → r ≡ Done to → nonZeros (between symbols from to) ≡ n
+-- the symbols from position `from` up to position `to`
+abbrev pub between : List ℕ → (from to : ℕ) → List ℕ
+between symbols from to = take (to - from) (drop from symbols)
 
--- and a reading of m channels: the symbols that it read are theirs, each with its count used up
-abbrev pub CountsUsed : (m : ℕ) (symbols : List ℕ) (from : ℕ) → WalkEnd → Type 0
-CountsUsed m symbols from r = (to : ℕ) → r ≡ Done to → ChannelsUsed symbols m from to
+-- what a walk promises of its count n, behind `from` symbols, where it is done: the symbols that it read hold exactly n that are not 0
+abbrev pub UsesUp : (n : ℕ) (symbols : List ℕ) (from : ℕ) → WalkEnd → Type 0
+UsesUp n symbols from r = (to : ℕ) → r ≡ Done to → nonZeros (between symbols from to) ≡ n
+
+-- and a reading of items: the symbols that it read are theirs, with their counts used up
+abbrev pub AllUseUp : (its : List Item) (symbols : List ℕ) (from : ℕ) → WalkEnd → Type 0
+AllUseUp its symbols from r = (to : ℕ) → r ≡ Done to → CountsUsed its (between symbols from to)
 
 less-of : (u n : ℕ) → less u n ≡ lessOf u (suc n)
 less-of zero n = refl

@@ -8,37 +8,37 @@ use Rattle.coded_numbers.specs.Signed.{unpackSigned}
 use Rattle.refusal.specs.declared.Refusal.the-variants.{SymbolsEnd, TooManyZeros, CountRemaining}
 use Rattle.coeff_walk.specs.Walk.{FREQ, NUM-NONZERO, coeffContext, done, stopped, walk}
 use Rattle.coeff_walk.specs.Item.{counted}
-use Rattle.coeff_walk.specs.Remaining.{reads}
+use Rattle.coeff_walk.specs.Remaining.{readsOne}
 
 unfoldable computes : ℕ
 unfolding counted walk coeffContext FREQ NUM-NONZERO unpackSigned
 computes = 0
 
 -- 24 behind the last place's symbol
-pub one-remaining : reads (1 ∷ replicate 63 0) ≡ stopped CountRemaining 64 (replicate 64 0 ++ replicate 2 9) (replicate 63 0)
+pub one-remaining : readsOne (1 ∷ replicate 63 0) ≡ stopped CountRemaining 64 (7 ∷ (replicate 63 5 ++ replicate 2 9)) (replicate 64 0)
 unfolding computes
 one-remaining = refl
 
 -- that symbol was added
-pub last-added : reads (2 ∷ (replicate 62 0 ++ (2 ∷ []))) ≡ stopped CountRemaining 64 (replicate 64 0 ++ replicate 2 9) (replicate 62 0 ++ (1 ∷ []))
+pub last-added : readsOne (2 ∷ (replicate 62 0 ++ (2 ∷ []))) ≡ stopped CountRemaining 64 (7 ∷ (replicate 63 5 ++ replicate 2 9)) (replicate 63 0 ++ (1 ∷ []))
 unfolding computes
 last-added = refl
 
 -- used up by the last place's symbol
-pub last-used : reads (1 ∷ (replicate 62 0 ++ (2 ∷ []))) ≡ done [] 64 (replicate 64 0 ++ replicate 2 9) (replicate 62 0 ++ (1 ∷ []))
+pub last-used : readsOne (1 ∷ (replicate 62 0 ++ (2 ∷ []))) ≡ done [] 64 (7 ∷ (replicate 63 5 ++ replicate 2 9)) (replicate 63 0 ++ (1 ∷ []))
 unfolding computes
 last-used = refl
 
 -- 15 where the last place's symbol is missing
-pub last-missing : reads (1 ∷ replicate 62 0) ≡ stopped SymbolsEnd 63 (replicate 63 0 ++ replicate 3 9) (replicate 63 0)
+pub last-missing : readsOne (1 ∷ replicate 62 0) ≡ stopped SymbolsEnd 63 (7 ∷ (replicate 62 5 ++ replicate 3 9)) (replicate 64 0)
 unfolding computes
 last-missing = refl
 
 -- 32 is the largest count that passes all places as zeros; 33 comes to 17 before
-pub thirty-two : reads (32 ∷ replicate 63 0) ≡ stopped CountRemaining 64 (replicate 64 0 ++ replicate 2 9) (replicate 63 0)
+pub thirty-two : readsOne (32 ∷ replicate 63 0) ≡ stopped CountRemaining 64 (7 ∷ (replicate 63 5 ++ replicate 2 9)) (replicate 64 0)
 unfolding computes
 thirty-two = refl
 
-pub thirty-three : reads (33 ∷ replicate 63 0) ≡ stopped TooManyZeros 32 (replicate 32 0 ++ replicate 34 9) (replicate 63 0)
+pub thirty-three : readsOne (33 ∷ replicate 63 0) ≡ stopped TooManyZeros 32 (7 ∷ (replicate 31 5 ++ replicate 34 9)) (replicate 64 0)
 unfolding computes
 thirty-three = refl

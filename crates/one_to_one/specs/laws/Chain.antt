@@ -15,7 +15,7 @@ use Rattle.layout_accepted.specs.Outcome.{bwOf, bhOf}
 use Rattle.context_call.specs.laws.Accepted.{accepted-fit}
 use Rattle.coeff_group.specs.Group.{PerChannel}
 use Rattle.coeff_call.specs.Call.{Lent}
-use Rattle.one_to_one.specs.Filling.{Fixed, Given, Filling, Fills, Fails, Accepted, finalGrids}
+use Rattle.one_to_one.specs.Filling.{Fixed, Given, Filling, Fills, Fails, ReadToEnd, finalGrids}
 use Rattle.one_to_one.specs.laws.Correspond.{from-sequence, from-grids}
 use Rattle.one_to_one.specs.laws.Demand3.{one-sequence, every-other}
 use Rattle.coeff_walk.specs.Sent.{Words}
@@ -51,9 +51,9 @@ module _ (L : Lent) (given : Given L) where
   every-other-by-calls W filling = every-other L fixed-by-calls W filling
 
   -- the correspondence, both ways
-  pub from-sequence-by-calls : (s : List ℕ) → Words s → Accepted L s → Filling L (finalGrids L s) × (theSequence (L .passGroup) (L .grids) (finalGrids L s) ≡ s)
+  pub from-sequence-by-calls : (s : List ℕ) → Words s → ReadToEnd L s → Filling L (finalGrids L s) × (theSequence (L .passGroup) (L .grids) (finalGrids L s) ≡ s)
   from-sequence-by-calls = from-sequence L fixed-by-calls
 
   pub from-grids-by-calls : (W : PerChannel) → Filling L W
-      → Words (theSequence (L .passGroup) (L .grids) W) × Accepted L (theSequence (L .passGroup) (L .grids) W) × (finalGrids L (theSequence (L .passGroup) (L .grids) W) ≡ W)
+      → Words (theSequence (L .passGroup) (L .grids) W) × ReadToEnd L (theSequence (L .passGroup) (L .grids) W) × (finalGrids L (theSequence (L .passGroup) (L .grids) W) ≡ W)
   from-grids-by-calls = from-grids L fixed-by-calls

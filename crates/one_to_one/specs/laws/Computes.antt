@@ -30,8 +30,8 @@ use Rattle.coeff_walk.specs.Item.{counted}
 use Rattle.coeff_group.specs.Group.{PerChannel, readItem, readItems}
 use Rattle.coeff_group.specs.PassGroup.{itemOf, itemsOf}
 use Rattle.one_to_one.specs.Filling.{isLow, wanted}
-use Rattle.coeff_group.specs.Sequence.{inCell, sent, theSequence}
-use Rattle.coeff_walk.specs.Sent.{nonZeros, upTo}
+use Rattle.coeff_group.specs.Sequence.{inCell, theSequence}
+use Rattle.coeff_walk.specs.Sent.{nonZeros, upTo, sent}
 
 unfoldable pub cut-computes : Bool
 unfolding cutCheck inLimits lengthsFit bwIn bhIn groupX groupY checkRun rows alongRow visitCell fitting clear wide high TRANSFORMS fillFrom cut gridFrom rowOf

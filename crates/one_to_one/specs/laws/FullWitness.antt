@@ -41,7 +41,8 @@ use Rattle.dct_select.specs.Transforms.{TRANSFORMS, wide, high, orderOf, turns}
 use Rattle.layout.specs.Varblocks.{Varblock, varblock, cornersRow, cornersFrom}
 use Rattle.coeff_walk.specs.Places.{cellsOf}
 use Rattle.coeff_group.specs.PassGroup.{blocksOf, itemOf, itemsOf}
-use Rattle.coeff_group.specs.Sequence.{inCell, sent, theSequence}
+use Rattle.coeff_walk.specs.Sent.{sent}
+use Rattle.coeff_group.specs.Sequence.{inCell, theSequence}
 
 abbrev digitSymbols : List ℕ
 digitSymbols = 1 ∷ 1 ∷ 2 ∷ 2 ∷ 0 ∷ 0 ∷ []

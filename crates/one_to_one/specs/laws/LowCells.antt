@@ -24,7 +24,7 @@ use Rattle.coeff_group.specs.Sequence.{inCell, readCells}
 -- low-frequency cell.
 module _ (L : Lent) (orders : Wrote (L .passGroup .store)) where
   by-way : Way L → LowKept (L .passGroup) (L .grids) (call L .grids)
-  by-way (before why t n e) c p hc l = ap (λ (o : Outcome). inCell (o .grids) c p) (e (L .symbols) (L .log) refl)
+  by-way (before why t e) c p hc l = ap (λ (o : Outcome). inCell (o .grids) c p) (e (L .symbols) (L .log) refl)
   by-way (work passed preset e) c p hc l =
       let P = L .passGroup in
       let k = lengths-fit L (passed .lengths) in

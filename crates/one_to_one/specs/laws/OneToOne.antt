@@ -16,9 +16,10 @@ use Rattle.coeff_call.specs.Call.{outcomeOf}
 use Rattle.coeff_walk.specs.laws.Walks.{nonZeros-le}
 use Rattle.coeff_group.specs.laws.Cells.{Distinct, Shape, same-shape, adds, adds-shape, adds-off, Fit, change, only-symbols, symbols-turn, In}
 use Rattle.coeff_group.specs.laws.Reads as run
-use Rattle.coeff_group.specs.laws.Reads.{joined, Long, Sized, words-both}
-use Rattle.coeff_group.specs.Sequence.{inCell, sent, changes, GridCell, readCells}
-use Rattle.coeff_walk.specs.Sent.{Words, nonZeros, upTo}
+use Rattle.coeff_group.specs.laws.Reads.{joined, Sized, words-both}
+use Rattle.coeff_walk.specs.UsedUp.{Long}
+use Rattle.coeff_group.specs.Sequence.{inCell, changes, GridCell, readCells}
+use Rattle.coeff_walk.specs.Sent.{Words, nonZeros, upTo, sent}
 
 -- accepted, read to the last symbol, these grids
 pub record Filled (r : Reading) (s : List ℕ) (W : PerChannel) : Type 0 where
@@ -143,7 +144,7 @@ module _ (clusters : ℕ) (presetMap : List ℕ) (its : List Item) (G W : PerCha
           joined-only its ess dss long (changes-long G W its)
           (only-symbols G (readCells its) (joined ess) (fillable .distinct) (fillable .fit) (t .words h) (long-joined its ess long)
           ∙ ap (λ (X : PerChannel). map (change G X) (readCells its)) g ∙ sym (changes-joined G W its)) in
-          t .used ∙ rw (none us (omega (arith, t .read)), d) (append-nil (sent dss))
+          t .rest ∙ rw (none us (omega (arith, t .read)), d) (append-nil (sent dss))
       go k l ess (run.stops why) long e t =
           let a = sym (ap (λ (x : Reading). outcomeOf x .answer) e) ∙ f .accepted in
           let z : _≡_ {A = ℕ} 0 1 = cc in absurd (omega arith)

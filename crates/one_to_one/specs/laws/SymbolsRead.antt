@@ -1,6 +1,7 @@
 -- How many symbols a coefficient call reads, and what it logs (document 01, Coefficients: "the number of symbols read, never above
 -- 192 × blocks, and one logged cluster for each of them"). Of every input, refused ones too.
 use mathlib.Core.Path.{_≡_, refl, ap, sym, _∙_}
+use mathlib.Core.Bool.{false, true≢false}
 use mathlib.Core.List.{List, [], _++_}
 use Prim.Native.Nat.{ℕ, _+_, _*_, _≤_}
 use native.Mathlib.Omega.{arith}
@@ -17,11 +18,11 @@ use Rattle.coeff_checks.specs.Checks.{blocks}
 use Rattle.coeff_call.specs.Call.{Lent, Outcome, reading, outcomeOf, refuse, call, Passed}
 use Rattle.coeff_call.specs.laws.CallLaws.{lengths-fit}
 use Rattle.coeff_group.specs.laws.Symbols.{most-symbols}
-use Rattle.one_to_one.specs.Filling.{relent, withLog, told, symbolsRead}
+use Rattle.one_to_one.specs.Filling.{relent, withLog, tellsRead, symbolsRead}
 use Rattle.coeff_walk.specs.laws.Walks.{symbolsEnd, count, tooManyZeros, countRemaining}
 use Rattle.coeff_group.specs.laws.Cells.{adds}
 use Rattle.coeff_group.specs.laws.Reads.{End, ends, stops, Tells, joined}
-use Rattle.one_to_one.specs.laws.Ways.{Way, before, work, way, did, answerBy, outcome-by}
+use Rattle.one_to_one.specs.laws.Ways.{Way, before, work, way, same-said, did, answerBy, outcome-by}
 use Rattle.coeff_group.specs.Sequence.{readCells}
 
 -- What holds of every call, whatever the log held before.
@@ -36,21 +37,24 @@ pub record Tied (L : Lent) : Type 0 where
       → call (withLog L log) ≡ record { answer = call L .answer; log = clusters ++ drop (length clusters) log; grids = call L .grids }
 
 number-of : (a b : Said) → _≡_ {A = Answer ℕ} (refuses a) (refuses b) → a .number ≡ b .number
-number-of a b e = let f : a ≡ b = cc in ap (λ (s : Said). s .number) f
+number-of a b e = ap (λ (s : Said). s .number) (same-said a b e)
 
-by-refusal : (L : Lent) (s : Said) → told s ≡ 0 → (s .number ≡ 15 → ⊥)
+by-refusal : (L : Lent) (s : Said) → tellsRead (s .number) ≡ false
     → ((symbols log : List ℕ) → length log ≡ length (L .log) → call (relent L symbols log) ≡ refuse (relent L symbols log) s) → Tied L
-by-refusal L s t n e =
+by-refusal L s t e =
     let c : call L ≡ refuse L s = e (L .symbols) (L .log) refl in
     record {
       clusters = [];
-      each = sym (ap (λ (o : Outcome). symbolsRead (o .answer)) c ∙ t);
+      each = sym (ap (λ (o : Outcome). symbolsRead (o .answer)) c ∙ rw t);
       most = omega arith;
       there = omega arith;
       room = omega arith;
-      none = λ m f. absurd (n (number-of s (refusals.saidAt 15 m 0) (sym (ap (λ (o : Outcome). o .answer) c) ∙ f)));
+      none = λ m f. absurd (not-15 (number-of s (refusals.saidAt 15 m 0) (sym (ap (λ (o : Outcome). o .answer) c) ∙ f)));
       logs = λ log l. e (L .symbols) log l ∙ ap (λ (o : Outcome). record { answer = o .answer; log = log; grids = o .grids }) (sym c);
     }
+  where
+    not-15 : s .number ≡ 15 → ⊥
+    not-15 x = true≢false (sym (ap tellsRead x) ∙ t)
 
 -- what the end of a reading tells
 told-by : (e : End) (us : List ℕ) (k : ℕ) (dss : List (List ℕ)) → Tells us k dss e → symbolsRead (answerBy e k) ≡ k
@@ -116,7 +120,7 @@ by-reading L passed preset e =
 
 module _ (L : Lent) where
   by-way : Way L → Tied L
-  by-way (before s t n e) = by-refusal L s t n e
+  by-way (before s t e) = by-refusal L s t e
   by-way (work passed preset e) = by-reading L passed preset e
 
   pub tied : Tied L

@@ -3,9 +3,9 @@ use mathlib.Core.List.{List, [], _∷_}
 use native.Mathlib.Nat.{mul-le-mul}
 use lib.Arith.{digits-lt}
 use Rattle.coeff_walk.specs.declared.WalkEnd.{WalkEnd}
-use Rattle.coeff_walk.specs.laws.Outcome.{CountsUsed}
+use Rattle.coeff_walk.specs.laws.Outcome.{AllUseUp}
 use Rattle.coeff_group.specs.Group.{PerChannel, Reading}
-use Rattle.coeff_group.specs.PassGroup.{PassGroup, passGroup, varblocks}
+use Rattle.coeff_group.specs.PassGroup.{PassGroup, passGroup, groupItems}
 use Rattle.coeff_group.specs.laws.Due.{Due, GroupShown, rowFrom, rowsFrom, wholeOf, due-start, due-row, due-next, due-skip, due-end, corner-asks, corner-stop, corner-step}
 use Rattle.coeff_group.specs.laws.Used.{group-uses}
 use borrow.Author.Needs.{needs}
@@ -111,10 +111,10 @@ abbrev corner : tie.After-slice-known8 Inv-loop2 μ-loop2 Inv-loop μ-loop → t
 corner c = to-else1 (to-plan-of (c .before .before .before .before .before .before .before))
 
 -- The group's reading, and what it promises of its counts.
-promised : (c : tie.Start Inv-loop2 μ-loop2 Inv-loop μ-loop) (r : WalkEnd) (log : List ℕ) (G : PerChannel) → GroupShown r log G (wholeAt c) → GroupShown r log G (wholeAt c) × CountsUsed (3 * length (varblocks (passGroupAt c))) (c .args .symbols .now) 0 r
+promised : (c : tie.Start Inv-loop2 μ-loop2 Inv-loop μ-loop) (r : WalkEnd) (log : List ℕ) (G : PerChannel) → GroupShown r log G (wholeAt c) → GroupShown r log G (wholeAt c) × AllUseUp (groupItems (passGroupAt c)) (c .args .symbols .now) 0 r
 promised c r log G g =
     let a = c .args in
-    (g, group-uses (a .shift) (a .t4 .«num_block_clusters») (a .preset-map .now) (a .symbols .now) (passGroupAt c) (a .log .now) (a .g0 .now ∷ a .g1 .now ∷ a .g2 .now ∷ []) r (g .answer))
+    (g, group-uses (a .shift) (a .t4 .«num_block_clusters») (a .preset-map .now) (passGroupAt c) (a .symbols .now) (a .log .now) (a .g0 .now ∷ a .g1 .now ∷ a .g2 .now ∷ []) r (g .answer))
 
 loop-holds : tie.Need-loop-holds Inv-loop2 μ-loop2 Inv-loop μ-loop
 loop-holds c =

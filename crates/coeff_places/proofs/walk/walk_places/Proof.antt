@@ -16,13 +16,13 @@ returns : tie.Need-returns
 returns c =
     let d = c .before .before .before .before in
     let a = to-start-from-dense d .args in
-    (d .walk-dense .ensures, walk-uses (a .symbols .now) (a .at) (a .shift) (2 ^ (a .spot .exponent)) (a .coeff-map .now) (spotCells (a .spot) (a .list .now)) 0 (a .first-prev) (a .count) (a .log .now) (a .grid .now) (d .walk-dense .result) (d .walk-dense .ensures .answer))
+    (d .walk-dense .ensures, walk-uses (a .shift) (2 ^ (a .spot .exponent)) (a .coeff-map .now) (spotCells (a .spot) (a .list .now)) 0 (a .first-prev) (a .count) (a .symbols .now) (a .at) (a .log .now) (a .grid .now) (d .walk-dense .result) (d .walk-dense .ensures .answer))
 
 returns-2 : tie.Need-returns-2
 returns-2 c =
     let d = c .before .before .before .before in
     let a = to-start-from-sparse d .args in
-    (d .walk-sparse .ensures, walk-uses (a .symbols .now) (a .at) (a .shift) (2 ^ (a .spot .exponent)) (a .coeff-map .now) (spotCells (a .spot) (a .list .now)) 0 (a .first-prev) (a .count) (a .log .now) (a .grid .now) (d .walk-sparse .result) (d .walk-sparse .ensures .answer))
+    (d .walk-sparse .ensures, walk-uses (a .shift) (2 ^ (a .spot .exponent)) (a .coeff-map .now) (spotCells (a .spot) (a .list .now)) 0 (a .first-prev) (a .count) (a .symbols .now) (a .at) (a .log .now) (a .grid .now) (d .walk-sparse .result) (d .walk-sparse .ensures .answer))
 
 pub walk-places-spec : {M : Type 1} → statement M
 walk-places-spec =

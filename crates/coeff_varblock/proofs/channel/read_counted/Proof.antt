@@ -6,11 +6,11 @@ use lib.Pow.{pow-pos}
 use Rattle.coeff_walk.specs.declared.WalkEnd.{WalkEnd}
 use Rattle.coeff_walk.specs.Walk.{Walked}
 use Rattle.coeff_walk.specs.Item.{counted}
-use Rattle.coeff_walk.specs.laws.Used.{channel-uses}
-use Rattle.coeff_walk.specs.laws.Outcome.{WalkShown, ends, CountsUsed}
+use Rattle.coeff_group.specs.laws.Used.{channel-uses}
+use Rattle.coeff_walk.specs.laws.Outcome.{WalkShown, ends, AllUseUp}
 use borrow.Author.Needs.{needs}
 use native.Mathlib.Omega.{arith}
-use mathlib.Core.List.{List}
+use mathlib.Core.List.{List, [], _∷_}
 use lib.ListN.{drop, length-set}
 use Rattle.coeff_varblock.proofs.channel.read_counted.Statement.{statement}
 use Rattle.coeff_varblock.proofs.channel.read_counted.Tie as tie
@@ -28,10 +28,10 @@ countedAt c =
     let a = c .args in
     counted (a .shift) (a .clusters) (a .preset-map .now) (itemAt (a .v) (a .bw) (a .block-context) (a .list .now)) (a .row .now) (drop (a .at) (a .symbols .now)) (a .at) (a .log .now) (a .grid .now)
 
-promised : (c : tie.Start) (r : WalkEnd) (log g : List ℕ) → WalkShown r log g (countedAt c) → WalkShown r log g (countedAt c) × CountsUsed 1 (c .args .symbols .now) (c .args .at) r
+promised : (c : tie.Start) (r : WalkEnd) (log g : List ℕ) → WalkShown r log g (countedAt c) → WalkShown r log g (countedAt c) × AllUseUp (itemAt (c .args .v) (c .args .bw) (c .args .block-context) (c .args .list .now) ∷ []) (c .args .symbols .now) (c .args .at) r
 promised c r log g h =
     let a = c .args in
-    (h, channel-uses (a .symbols .now) (a .at) (a .shift) (a .clusters) (a .preset-map .now) (itemAt (a .v) (a .bw) (a .block-context) (a .list .now)) (a .row .now) (a .log .now) (a .grid .now) r (h .answer))
+    (h, channel-uses (a .shift) (a .clusters) (a .preset-map .now) (itemAt (a .v) (a .bw) (a .block-context) (a .list .now)) (a .row .now) (a .symbols .now) (a .at) (a .log .now) (a .grid .now) r (h .answer))
 
 returns : tie.Need-returns
 returns c = let s = c .before .before .before .before .before .before in let a = s .args in promised s _ _ _ (ends _ _ _ (counted-15 (a .shift) (a .clusters) (a .preset-map .now) (itemAt (a .v) (a .bw) (a .block-context) (a .list .now)) (a .row .now) (a .symbols .now) (a .at) (a .log .now) (a .grid .now) (omega arith)) refl)
