@@ -77,9 +77,9 @@ fn walk_dense(
     let mut prev = first_prev;
     let mut k = 0;
     let end = list.len() / 2;
-    while k < end {
-        if left == 0 {
-            return WalkEnd::Done(at);
+    while left != 0 {
+        if end <= k {
+            return WalkEnd::Stopped(Refusal::CountRemaining(at));
         }
         let context = coeff_context(nonzeros, frequencies, spot.exponent, left - 1, k, prev);
         if 458 <= context {
@@ -96,10 +96,7 @@ fn walk_dense(
         at += 1;
         k += 1;
     }
-    if left == 0 {
-        return WalkEnd::Done(at);
-    }
-    WalkEnd::Stopped(Refusal::CountRemaining(at))
+    WalkEnd::Done(at)
 }
 
 // Skips the zeros from place `from` on, below place `stop`: logs each, and tells the place behind them. A 0 leaves the

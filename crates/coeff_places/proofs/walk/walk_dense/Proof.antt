@@ -30,7 +30,7 @@ to-start c = c .before .before .before .before .before .before .before
 
 -- There is a place.
 place : (c : tie.Else1 Inv-loop μ-loop) → c .before .before .loop .k < length (spotCells (to-start (c .before) .args .spot) (to-start (c .before) .args .list .now))
-place c = omega (arith, c .before .loop-test .taken, c .before .before .loop .inv .5)
+place c = omega (arith, c .if1 .left, c .before .before .loop .inv .5)
 
 loop-holds : tie.Need-loop-holds Inv-loop μ-loop
 loop-holds c = let a = c .before .before .before .before .before .args in let r = c .before .before .before .before .before .pre .2 in (omega arith, r .counted, r .flagged, refl, refl, sym (places-count (a .spot .turn) (a .spot .width) (a .spot .x) (a .spot .y) (a .list .now)), refl)
@@ -39,7 +39,7 @@ returns : tie.Need-returns Inv-loop μ-loop
 returns c =
     let l = c .before .before .loop in
     let a = to-start (c .before) .args in
-    ends _ _ _ (walk-used (a .shift) (2 ^ (a .spot .exponent)) (a .coeff-map .now) (spotCells (a .spot) (a .list .now)) (a .symbols .now) (l .k) (l .prev) (l .left) (l .at) (l .log) (l .grid) (c .if1 .taken)) (l .inv .6)
+    ends _ _ _ (walk-24 (a .shift) (2 ^ (a .spot .exponent)) (a .coeff-map .now) (spotCells (a .spot) (a .list .now)) (a .symbols .now) (l .k) (l .prev) (l .left) (l .at) (l .log) (l .grid) (omega (arith, c .if1 .taken, l .inv .5)) (omega (arith, c .before .loop-test .taken))) (l .inv .6)
 
 coeff-context-requires : tie.Need-coeff-context-requires Inv-loop μ-loop
 coeff-context-requires c κs = (to-start (c .before) .pre .0, to-start (c .before) .pre .1, to-start (c .before) .pre .2 .exponent, omega (arith, c .if1 .left, c .before .before .loop .inv .1), omega (arith, c .before .loop-test .taken, to-start (c .before) .pre .2 .fits), c .before .before .loop .inv .2)
@@ -63,7 +63,7 @@ slice-write-log : tie.Need-slice-write-log Inv-loop μ-loop
 slice-write-log c = omega (arith, c .before .before .before .before .before .before .before .loop .inv .0, c .before .before .before .before .before .before .before .loop .inv .3, c .before .before .before .before .before .before .loop-test .taken, to-start (c .before .before .before .before .before .before) .pre .2 .room)
 
 gain-at-requires : tie.Need-gain-at-requires Inv-loop μ-loop
-gain-at-requires c κs = let r = to-start (c .before .before .before .before .before .before .before) .pre .2 in (c .before .before .before .before .before .before .before .loop-test .taken, r .width, r .inX, r .inY, r .shifts)
+gain-at-requires c κs = let r = to-start (c .before .before .before .before .before .before .before) .pre .2 in (c .before .before .before .before .before .before .if1 .left, r .width, r .inX, r .inY, r .shifts)
 
 sub-left : tie.Need-sub-left Inv-loop μ-loop
 sub-left c = omega (arith, c .flag-of .ensures .1, c .before .before .before .before .before .before .before .before .before .before .if1 .left)
@@ -88,15 +88,9 @@ loop-again c =
 
 returns-4 : tie.Need-returns-4 Inv-loop μ-loop
 returns-4 c =
-    let l = c .before .before .loop in
-    let a = c .before .before .before .before .before .before .before .before .args in
-    ends _ _ _ (walk-used (a .shift) (2 ^ (a .spot .exponent)) (a .coeff-map .now) (spotCells (a .spot) (a .list .now)) (a .symbols .now) (l .k) (l .prev) (l .left) (l .at) (l .log) (l .grid) (c .if4 .taken)) (l .inv .6)
-
-returns-5 : tie.Need-returns-5 Inv-loop μ-loop
-returns-5 c =
-    let l = c .before .before .loop in
-    let a = c .before .before .before .before .before .before .before .before .args in
-    ends _ _ _ (walk-24 (a .shift) (2 ^ (a .spot .exponent)) (a .coeff-map .now) (spotCells (a .spot) (a .list .now)) (a .symbols .now) (l .k) (l .prev) (l .left) (l .at) (l .log) (l .grid) (omega (arith, c .before .loop-test .left, l .inv .5)) (omega (arith, c .if4 .left))) (l .inv .6)
+    let l = c .before .loop in
+    let a = c .before .before .before .before .before .before .before .args in
+    ends _ _ _ (walk-used (a .shift) (2 ^ (a .spot .exponent)) (a .coeff-map .now) (spotCells (a .spot) (a .list .now)) (a .symbols .now) (l .k) (l .prev) (l .left) (l .at) (l .log) (l .grid) (omega (arith, c .loop-test .left))) (l .inv .6)
 
 pub walk-dense-spec : {M : Type 1} → statement M
 walk-dense-spec =
@@ -127,9 +121,6 @@ walk-dense-spec =
     (λ c. search needs)
     loop-less
     loop-again
-    (λ c. c .before .before .loop .inv .3)
-    (λ c. c .before .before .loop .inv .4)
-    returns-4
-    (λ c. c .before .before .loop .inv .3)
-    (λ c. c .before .before .loop .inv .4)
-    returns-5)
+    (λ c. c .before .loop .inv .3)
+    (λ c. c .before .loop .inv .4)
+    returns-4)
