@@ -138,7 +138,7 @@ static void take_presets(struct input *in, struct group_call *call)
  * the count that is the least too large, the one that is not used up by its places, and whether they
  * end where no context is left. */
 struct manner {
-    uint32_t sparse, most, refused, remaining;
+    uint32_t sparse, most, refused, remaining_in;
     bool ends_at_17;
 };
 
@@ -181,7 +181,7 @@ static size_t write_symbols(struct input *in, struct manner manner, const struct
         if (count + 192 * (size_t)blocks > SYMBOLS_MOST)
             break;
         for (int channel = 0; channel < 3; channel++, number++) {
-            uint32_t remaining = number == manner.remaining;
+            uint32_t remaining = number == manner.remaining_in;
             uint32_t left = spread_below(in, manner.most * blocks + 1 - remaining) + remaining;
             symbols[count++] = number == manner.refused ? 63 * blocks + 1 : left;
             if (!write_places(in, manner, blocks, left, remaining, symbols, &count))
@@ -196,11 +196,11 @@ static struct manner take_manner(struct input *in)
     struct manner manner;
     manner.sparse = 1 + take_below(in, 8);
     manner.most = take_once_in(in, 4) ? 63 : 4;
-    manner.refused = manner.remaining = UINT32_MAX;
+    manner.refused = manner.remaining_in = UINT32_MAX;
     if (take_once_in(in, 16))
         manner.refused = take_below(in, 8);
     if (take_once_in(in, 8))
-        manner.remaining = take_below(in, 8);
+        manner.remaining_in = take_below(in, 8);
     manner.ends_at_17 = take_once_in(in, 4);
     return manner;
 }

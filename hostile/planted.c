@@ -48,7 +48,7 @@ enum plant {
     SECOND_NOT_SEEN,
     SURPLUS_NOT_SEEN,
     LARGE_AS_11,
-    /* Places that end with count remaining: whether it is told, when, where, and what then stays. */
+    /* Refusal 24: whether it is told, when, where, for what, and what then stays. */
     REMAINING_ACCEPTED,
     REMAINING_TOO_SOON,
     REMAINING_NOT_ADDED,

@@ -30,7 +30,7 @@ use Rattle.coeff_group.specs.declared.plan.Plan.{Plan}
 use Rattle.order_store.specs.Store.{stretch}
 
 -- what the reading of the n-th channel walked hands back: how it ended, and its count over the varblock's blocks, whatever rows the reading
--- has for the other channels; its count is used up
+-- has for the other channels; where it is done, its count is used up
 pub record ChannelShown (p : Plan) (group : GroupSides) (clusters : ℕ) (presetMap store symbols : List ℕ) (at shift : ℕ) (rows : PerChannel) (log : List ℕ) (G : PerChannel) (n : ℕ) (w : WalkEnd) (count : ℕ) (log₁ : List ℕ) (G₁ : PerChannel) : Type 0 where
   pub shown : (R : PerChannel) → getD R (channelWalked n) [] ≡ getD rows (channelWalked n) []
       → Shown symbols (at + 64 * 2 ^ (p .shape .exponent)) w (rowBy R (channelWalked n) (p .shape .x) (p .shape .wide) count) log₁ G₁

@@ -31,7 +31,7 @@ abbrev pub countsBy : ℕ → Reading → List ℕ
 countsBy x (going us at log grids rows) = getD (getD rows 0 []) x 0 ∷ getD (getD rows 1 []) x 0 ∷ getD (getD rows 2 []) x 0 ∷ []
 countsBy x (refused why at log grids) = 0 ∷ 0 ∷ 0 ∷ []
 
--- what the reading R of a varblock with these items, behind `at` symbols, hands back: how it ended, the counts, log and grids; the rows are rewritten by the counts, which are used up
+-- what the reading R of a varblock with these items, behind `at` symbols, hands back: how it ended, the counts, log and grids; the rows are rewritten by the counts; where it is done, these are used up
 pub record VarblockShown (p : Plan) (its : List Item) (symbols : List ℕ) (at : ℕ) (w : WalkEnd) (countsOver : List ℕ) (rows : PerChannel) (log : List ℕ) (G : PerChannel) (R : Reading) : Type 0 where
   pub shown : Shown symbols (at + 192 * 2 ^ (p .shape .exponent)) w (rewritten p countsOver rows 3) log G R
   pub used : AllUseUp its symbols at w

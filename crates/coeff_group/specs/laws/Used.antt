@@ -31,7 +31,7 @@ record ItemsRead (its : List Item) (us : List ℕ) (at : ℕ) (us′ : List ℕ)
   are : us ≡ sent dss ++ us′
   read : at′ + length us′ ≡ at + length us
 
--- items of which one remains
+-- items of which the count of one remains
 pub record ItemsRemain (its : List Item) (us : List ℕ) (at at′ : ℕ) : Type 0 where
   pub s : List ℕ
   pub vs : List ℕ
@@ -80,7 +80,7 @@ module _ (shift clusters : ℕ) (presetMap : List ℕ) where
   group-uses P symbols log G w e =
       reading-uses (itemsOf P (varblocks P)) symbols 0 log G zeroRows w (e ∙ ap walkOf (group-items shift clusters presetMap P (varblocks P) (going symbols 0 log G zeroRows)))
 
-  -- Items of which 24 stopped one: that one, or one behind.
+  -- Items that 24 stopped: the first of them, or one behind it.
   abbrev Claim : List Item → Type 0
   Claim its = (us : List ℕ) (at : ℕ) (log : List ℕ) (G rows : PerChannel) (why : ℕ → Refusal) (at′ : ℕ) (log′ : List ℕ) (G′ : PerChannel)
       → readItems shift clusters presetMap its (going us at log G rows) ≡ refused why at′ log′ G′ → why ≡ CountRemaining → ItemsRemain its us at at′
@@ -105,12 +105,12 @@ module _ (shift clusters : ℕ) (presetMap : List ℕ) where
               before = it ∷ m .before;
               it = m .it;
               behind = m .behind;
-              turn = ap (λ (l : List Item). it ∷ l) (m .turn);
-              read = xs ++ m .read;
+              parts = ap (λ (l : List Item). it ∷ l) (m .parts);
+              earlier = xs ++ m .earlier;
               last = m .last;
               used = record { dss = ds ∷ m .used .dss; long = (l .0, m .used .long); are = rw (append-nil (upTo (nonZeros ds) ds), m .used .are) };
               remains = m .remains;
-              are = ap (λ (l : List ℕ). xs ++ l) (m .are) ∙ sym (append-assoc xs (m .read) (m .last));
+              are = ap (λ (l : List ℕ). xs ++ l) (m .are) ∙ sym (append-assoc xs (m .earlier) (m .last));
             };
           }
 
@@ -137,7 +137,7 @@ module _ (shift clusters : ℕ) (presetMap : List ℕ) where
             vs = t .vs;
             are = t .are;
             read = sym x ∙ t .read;
-            among = record { before = []; it = it; behind = its; turn = refl; read = []; last = t .s; used = record { dss = []; long = tt; are = refl }; remains = t .remains; are = refl };
+            among = record { before = []; it = it; behind = its; parts = refl; earlier = []; last = t .s; used = record { dss = []; long = tt; are = refl }; remains = t .remains; are = refl };
           }
 
 -- what the code holds of a reading tells its end

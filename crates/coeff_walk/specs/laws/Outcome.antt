@@ -69,7 +69,7 @@ pub record WalkShown (r : WalkEnd) (log grid : List ℕ) (w : Walked) : Type 0 w
   pub logged : log ≡ logOf w
   pub cells : grid ≡ gridAfter w
 
--- the symbols from position `from` up to position `to`
+-- the symbols from position `from` on, before position `to`
 abbrev pub between : List ℕ → (from to : ℕ) → List ℕ
 between symbols from to = take (to - from) (drop from symbols)
 
@@ -77,7 +77,7 @@ between symbols from to = take (to - from) (drop from symbols)
 abbrev pub UsesUp : (n : ℕ) (symbols : List ℕ) (from : ℕ) → WalkEnd → Type 0
 UsesUp n symbols from r = (to : ℕ) → r ≡ Done to → nonZeros (between symbols from to) ≡ n
 
--- and a reading of items: the symbols that it read are theirs, with their counts used up
+-- and a reading of items, where it is done: the symbols that it read are as many items', with their counts used up
 abbrev pub AllUseUp : (its : List Item) (symbols : List ℕ) (from : ℕ) → WalkEnd → Type 0
 AllUseUp its symbols from r = (to : ℕ) → r ≡ Done to → CountsUsed its (between symbols from to)
 

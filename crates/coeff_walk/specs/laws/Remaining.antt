@@ -34,7 +34,7 @@ pub last-missing : readsOne (1 ∷ replicate 62 0) ≡ stopped SymbolsEnd 63 (7 
 unfolding computes
 last-missing = refl
 
--- 32 is the largest count that passes all places as zeros; 33 comes to 17 before
+-- 32 comes to the last place over zeros alone, 33 to 17 before
 pub thirty-two : readsOne (32 ∷ replicate 63 0) ≡ stopped CountRemaining 64 (7 ∷ (replicate 63 5 ++ replicate 2 9)) (replicate 64 0)
 unfolding computes
 thirty-two = refl

@@ -4,6 +4,7 @@ use mathlib.Core.Bool.{Bool, true, false, true≢false, cond}
 use mathlib.Core.List.{List, [], _∷_, _++_}
 use Prim.Native.Nat.{ℕ, zero, suc, _+_, _*_, _-_, _<_}
 use native.Mathlib.Omega.{arith}
+use borrow.Author.Tests.{leb-true}
 use lib.Dec.{ltb, leb}
 use lib.ListN.{length, getD, set, take, drop, length-append}
 use lib.Seq.{take-at}
@@ -53,7 +54,7 @@ module _ (shift blocks : ℕ) (coeffMap ps : List ℕ) (i prev n : ℕ) (symbols
   walk-uses r e to f = let w = run blocks coeffMap ps i prev n (drop at symbols) in by-end (length (w .clusters)) _ _ (w .ds) (w .end) (w .is shift at log g) (w .tells) to (sym e ∙ f)
 
 -- A walk that 24 stopped: one symbol was read for each place, and fewer than n of them were not 0.
-pub record Passed (ps : List ℕ) (n : ℕ) (us : List ℕ) (at at′ : ℕ) : Type 0 where
+pub record PlacesPassed (ps : List ℕ) (n : ℕ) (us : List ℕ) (at at′ : ℕ) : Type 0 where
   pub ds : List ℕ
   pub vs : List ℕ
   pub are : us ≡ ds ++ vs
@@ -63,7 +64,7 @@ pub record Passed (ps : List ℕ) (n : ℕ) (us : List ℕ) (at at′ : ℕ) : T
 
 abbrev PassedBy : List ℕ → ℕ → List ℕ → ℕ → Walked → Type 0
 PassedBy ps n us at (done us′ at′ log g) = Unit
-PassedBy ps n us at (stopped why at′ log g) = why ≡ CountRemaining → Passed ps n us at at′
+PassedBy ps n us at (stopped why at′ log g) = why ≡ CountRemaining → PlacesPassed ps n us at at′
 
 either : (ps : List ℕ) (n : ℕ) (us : List ℕ) (at : ℕ) (b : Bool) (v w : Walked) → PassedBy ps n us at v → PassedBy ps n us at w → PassedBy ps n us at (cond b v w)
 either ps n us at true v w f h = f
@@ -119,7 +120,7 @@ pub counted-remains : (shift clusters : ℕ) (presetMap : List ℕ) (it : Item) 
     → counted shift clusters presetMap it row us at log g ≡ stopped why at′ log′ g′ → why ≡ CountRemaining → Stopped24 it us at at′
 unfolding counted
 counted-remains shift clusters presetMap it row [] at log g why at′ log′ g′ e f = let z : SymbolsEnd ≡ why = cc in absurd (not-24 SymbolsEnd (λ z. omega arith) (z ∙ f))
-counted-remains shift clusters presetMap it row (n ∷ us) at log g why at′ log′ g′ e f = go (leb n (63 * it .blocks)) e
+counted-remains shift clusters presetMap it row (n ∷ us) at log g why at′ log′ g′ e f = go (leb n (63 * it .blocks)) refl e
   where
     log₁ : List ℕ
     log₁ = set log at (countCluster clusters presetMap it row)
@@ -130,17 +131,17 @@ counted-remains shift clusters presetMap it row (n ∷ us) at log g why at′ lo
     w : Walked
     w = walk shift (it .blocks) (coeffMapOf clusters presetMap it) (it .cells) 0 prev n us (at + 1) log₁ g
 
-    by : (v : Walked) → v ≡ stopped why at′ log′ g′ → PassedBy (it .cells) n us (at + 1) v → Passed (it .cells) n us (at + 1) at′
+    by : (v : Walked) → v ≡ stopped why at′ log′ g′ → PassedBy (it .cells) n us (at + 1) v → PlacesPassed (it .cells) n us (at + 1) at′
     by v q h = subst (PassedBy (it .cells) n us (at + 1)) q h f
 
-    go : (b : Bool) → cond b w (stopped Count (at + 1) log₁ g) ≡ stopped why at′ log′ g′ → Stopped24 it (n ∷ us) at at′
-    go true q =
+    go : (b : Bool) → leb n (63 * it .blocks) ≡ b → cond b w (stopped Count (at + 1) log₁ g) ≡ stopped why at′ log′ g′ → Stopped24 it (n ∷ us) at at′
+    go true m q =
         let t = by w q (walk-remains shift (it .blocks) (coeffMapOf clusters presetMap it) (it .cells) 0 prev n us (at + 1) log₁ g) in
         record {
           s = n ∷ t .ds;
           vs = t .vs;
           are = ap (λ (l : List ℕ). n ∷ l) (t .are);
           read = omega (arith, t .read);
-          remains = record { count = n; ds = t .ds; long = t .long; fewer = t .fewer; are = refl };
+          remains = record { count = n; most = leb-true n (63 * it .blocks) m; ds = t .ds; long = t .long; fewer = t .fewer; are = refl };
         }
-    go false q = let z : Count ≡ why = cc in absurd (not-24 Count (λ z. omega arith) (z ∙ f))
+    go false m q = let z : Count ≡ why = cc in absurd (not-24 Count (λ z. omega arith) (z ∙ f))

@@ -27,7 +27,7 @@ module _ (L : Lent) (fixed : Fixed L) where
       let d = did (withSymbols L s) (fixed .rest .preset) in
       ap (λ (o : Outcome). o .grids) (group-read L fixed s ∙ ap outcomeOf (d .is (L .log)) ∙ outcome-by (d .end) (length (d .clusters)) (sets (L .log) 0 (d .clusters)) (added s))
 
-  -- whatever is read, the grids keep their sizes, their 32-bit numbers and the low-frequency cells
+  -- whatever is read, the grids keep their sizes and the low-frequency cells, and hold 32-bit numbers
   final-filling : (s : List ℕ) → Filling L (finalGrids L s)
   final-filling s =
       let a = adds-shape (L .shift) (L .grids) (readCells (groupItems (L .passGroup))) (joined (did (withSymbols L s) (fixed .rest .preset) .dss)) in

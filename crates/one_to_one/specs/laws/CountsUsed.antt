@@ -1,4 +1,4 @@
--- What a coefficient call tells of its counts (document 02, No. 8): an accepted one has used every count up, and 24 is told where the last place of a
+-- What a coefficient call tells of its counts (document 02, No. 8): an accepted one has used every count up, and where 24 is told, the last place of a
 -- channel was passed with count remaining.
 use mathlib.Core.Path.{_≡_, refl, ap, sym, subst, _∙_}
 use mathlib.Core.Bool.{true≢false}
@@ -77,6 +77,6 @@ module _ (L : Lent) where
           let r = items-remain (L .shift) (clustersOf P) (presetMap L preset) (groupItems P) (L .symbols) 0 (L .log) (L .grids) zeroRows why m log G (sym by-items ∙ q) (w .0) in
           subst (RemainsAmong (groupItems P)) (sym (ap (take k) (r .are) ∙ take-at (r .s) (r .vs) k (omega (arith, r .read, w .1)))) (r .among)
 
-  -- 24: of the group's channels some have used their counts up, then the last place of one was passed with count remaining
+  -- 24 with k symbols read: earlier channels of the group have used their counts up, then the last place of one was passed with count remaining
   pub count-remains : (k : ℕ) → call L .answer ≡ refuses (saidAt 24 k 0) → RemainsAmong (groupItems (L .passGroup)) (take k (L .symbols))
   count-remains = remains-by (way L)
