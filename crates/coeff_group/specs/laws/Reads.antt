@@ -16,6 +16,7 @@ use Rattle.coeff_walk.specs.Walk.{Walked, stopped, walk}
 use Rattle.coeff_walk.specs.laws.Counts.{few-le}
 use Rattle.coeff_walk.specs.Item.{Item, counted, newRow, coeffMapOf, countCluster}
 use Rattle.coeff_group.specs.Group.{PerChannel, Reading, going, refused, after, readItem, readItems}
+use Rattle.coeff_group.specs.laws.GroupLaws.{read-refused}
 use Rattle.coeff_group.specs.laws.Symbols.{symbolsIn}
 use Rattle.coeff_walk.specs.Sent.{Words, nonZeros, upTo, sent}
 use Rattle.coeff_group.specs.Sequence.{readCells}
@@ -125,11 +126,6 @@ tells-on n m k us ds us₁ dss (stops why) w t =
     walks.stop-later (suc m) (length us₁) k (suc (length us)) (suc (m + k)) why (omega (arith, w .read)) (omega arith) t
 
 module _ (clusters : ℕ) (presetMap : List ℕ) where
-  read-refused : (s : ℕ) (its : List Item) (why : ℕ → Refusal) (at : ℕ) (log : List ℕ) (G : PerChannel) → readItems s clusters presetMap its (refused why at log G) ≡ refused why at log G
-  unfolding readItems readItem
-  read-refused s [] why at log G = refl
-  read-refused s (it ∷ its) why at log G = read-refused s its why at log G
-
   abbrev Claim : List Item → Type 0
   Claim its = (us : List ℕ) (rows : PerChannel)
       → Reads its us (λ s at log G. readItems s clusters presetMap its (going us at log G rows)) (λ vs s at log G. readItems s clusters presetMap its (going (us ++ vs) at log G rows))
@@ -171,7 +167,7 @@ module _ (clusters : ℕ) (presetMap : List ℕ) where
         is = λ s at log G.
             let z : at + 1 + length ks ≡ at + suc (length ks) = omega arith in
             ap (λ (w : Walked). readItems s clusters presetMap its (after c G rows₁ w)) (is s (at + 1) (set log at k) (getD G c []))
-            ∙ read-refused s its why (at + 1 + length ks) (sets (set log at k) (at + 1) ks) (set G c (gains s (getD G c []) (it .cells) ds))
+            ∙ read-refused s clusters presetMap its why (at + 1 + length ks) (sets (set log at k) (at + 1) ks) (set G c (gains s (getD G c []) (it .cells) ds))
             ∙ rw (z, add-one at) (ap (refused why (at + suc (length ks)) (sets (set log at k) (suc at) ks))
             (sym (adds-nones s its (set G c (gains s (getD G c []) (it .cells) ds))) ∙ cells-step s it its G ds (joined (nones its)) long));
         further = λ h vs s at log G. absurd h;
@@ -203,7 +199,7 @@ module _ (clusters : ℕ) (presetMap : List ℕ) where
         by-end (r .clusters) (r .ds) (r .all) (r .end) (r .is) (r .further) (r .few) (r .tells)
     by-count false =
         refused-here (it ∷ its) (n ∷ us) (k ∷ []) Count _ _
-        (λ s at log G. read-refused s its Count (at + 1) (set log at k) (set G c (getD G c [])) ∙ ap (refused Count (at + 1) (set log at k)) (set-getD G c [])) (omega arith)
+        (λ s at log G. read-refused s clusters presetMap its Count (at + 1) (set log at k) (set G c (getD G c [])) ∙ ap (refused Count (at + 1) (set log at k)) (set-getD G c [])) (omega arith)
         (walks.count refl (omega arith))
 
   next : (it : Item) (its : List Item) → Claim its → Claim (it ∷ its)
@@ -211,7 +207,7 @@ module _ (clusters : ℕ) (presetMap : List ℕ) where
   next it its ih [] rows =
       refused-here (it ∷ its) [] [] SymbolsEnd _ _
       (λ s at log G. let z : at + 0 ≡ at = omega arith in
-      read-refused s its SymbolsEnd at log (set G (it .channel) (getD G (it .channel) [])) ∙ rw z (ap (refused SymbolsEnd at log) (set-getD G (it .channel) []))) (omega arith) (walks.symbolsEnd refl refl)
+      read-refused s clusters presetMap its SymbolsEnd at log (set G (it .channel) (getD G (it .channel) [])) ∙ rw z (ap (refused SymbolsEnd at log) (set-getD G (it .channel) []))) (omega arith) (walks.symbolsEnd refl refl)
   next it its ih (n ∷ us) rows = by-count it its ih n us rows (leb n (63 * it .blocks))
 
   pub reads : (its : List Item) → Claim its

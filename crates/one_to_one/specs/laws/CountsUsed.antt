@@ -22,17 +22,14 @@ use Rattle.coeff_group.specs.laws.Due.{walkOf}
 use Rattle.coeff_group.specs.laws.GroupLaws.{group-items}
 use Rattle.coeff_group.specs.laws.Used.{group-uses, items-remain}
 use Rattle.coeff_group.specs.laws.Reads.{End, ends, stops, readBy, Tells}
-use Rattle.coeff_call.specs.Call.{Lent, Outcome, presetMap, reading, outcomeOf, refuse, call}
-use Rattle.one_to_one.specs.laws.Ways.{Way, before, work, way, same-said, did}
+use Rattle.coeff_call.specs.Call.{Lent, Outcome, presetMap, reading, outcomeOf, call}
+use Rattle.one_to_one.specs.laws.Ways.{Way, before, work, way, same-said, no-answer, did}
 use Rattle.one_to_one.specs.Filling.{tellsRead}
 
 module _ (L : Lent) where
   read-to : (R : Reading) (n : ℕ) → outcomeOf R .answer ≡ gives n → walkOf R ≡ Done n
   read-to (going us at log grids rows) n e = let z : at ≡ n = cc in ap Done z
   read-to (refused why at log grids) n e = absurd (let z : _≡_ {A = ℕ} 0 1 = cc in omega arith)
-
-  no-answer : (s : Said) (n : ℕ) → refuse L s .answer ≡ gives n → ⊥
-  no-answer s n e = let z : _≡_ {A = ℕ} 0 1 = cc in omega arith
 
   used-by : Way L → (n : ℕ) → call L .answer ≡ gives n → CountsUsed (groupItems (L .passGroup)) (take n (L .symbols))
   unfolding reading
