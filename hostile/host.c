@@ -15,15 +15,36 @@ static void (*const hosts[CALLS])(struct input *in) = {
     [ORDERS] = host_orders,
     [ORDER] = host_order,
     [PLACES_FIT] = host_places_fit,
+    [COEFFICIENT_CONTEXT] = host_coefficient_context,
     [COEFFICIENTS] = host_coefficients,
 };
 
 /* The calls with more to go wrong come more often. */
 static const enum call turns[] = {
-    TRANSFORM,    READ_BITS,     READ_U32,      UNPACK_SIGNED, COLUMN_COUNT, LAYOUT,
-    LAYOUT,       LAYOUT,        LAYOUT,        CUT,           CUT,          ALIKE,
-    ALIKE,        BLOCK_CONTEXT, BLOCK_CONTEXT, ORDERS,        ORDER,        PLACES_FIT,
-    COEFFICIENTS, COEFFICIENTS,  COEFFICIENTS,  COEFFICIENTS,
+    TRANSFORM,
+    READ_BITS,
+    READ_U32,
+    UNPACK_SIGNED,
+    COLUMN_COUNT,
+    LAYOUT,
+    LAYOUT,
+    LAYOUT,
+    LAYOUT,
+    CUT,
+    CUT,
+    ALIKE,
+    ALIKE,
+    BLOCK_CONTEXT,
+    BLOCK_CONTEXT,
+    ORDERS,
+    ORDER,
+    PLACES_FIT,
+    COEFFICIENT_CONTEXT,
+    COEFFICIENT_CONTEXT,
+    COEFFICIENTS,
+    COEFFICIENTS,
+    COEFFICIENTS,
+    COEFFICIENTS,
 };
 
 void host_prepare(void)

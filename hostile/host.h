@@ -26,6 +26,7 @@ void host_block_context(struct input *in);
 void host_orders(struct input *in);
 void host_order(struct input *in);
 void host_places_fit(struct input *in);
+void host_coefficient_context(struct input *in);
 void host_coefficients(struct input *in);
 
 /* A list of spread bytes, lent. */

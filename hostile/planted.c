@@ -2,7 +2,7 @@
  * Calls with a fault planted, to see that the host finds it. Linked in place of the archive's calls
  * (--wrap); HOSTILE_PLANT is the number of the fault, 0 for none. .ci/hostile tries each.
  */
-#include "netbuff.h"
+#include "netbuff_structs.h"
 #include "promise.h"
 
 #include <math.h>
@@ -55,6 +55,16 @@ enum plant {
     REMAINING_ONE_LESS,
     REMAINING_FOR_17,
     REMAINING_TAKEN_BACK,
+    /* Situations: which are told a number, and what it goes by. */
+    MORE_BLOCKS_TAKEN,
+    COUNT_0_TAKEN,
+    LOW_PLACES_TAKEN,
+    SUM_WRAPPED,
+    FLAG_ABOVE_1_TAKEN,
+    FIRST_FLAG_JUDGED,
+    FLAG_NOT_SEEN,
+    COUNT_NOT_LESS_ONE,
+    OTHER_ENTRY,
     /* Beside a refusal a result is set to 0, call by call. */
     WIDTH_ZERO,
     VALUE_ZERO,
@@ -66,6 +76,7 @@ enum plant {
     RECORD_CLEARED,
     BITS_READ_ZERO,
     ORDERS_READ_ZERO,
+    CONTEXT_ZERO,
     COEFFICIENTS_READ_ZERO
 };
 
@@ -79,6 +90,8 @@ __typeof__(netbuff_alike) __real_netbuff_alike, __wrap_netbuff_alike;
 __typeof__(netbuff_layout) __real_netbuff_layout, __wrap_netbuff_layout;
 __typeof__(netbuff_block_context) __real_netbuff_block_context, __wrap_netbuff_block_context;
 __typeof__(netbuff_orders) __real_netbuff_orders, __wrap_netbuff_orders;
+__typeof__(netbuff_coefficient_context) __real_netbuff_coefficient_context,
+    __wrap_netbuff_coefficient_context;
 __typeof__(netbuff_coefficients) __real_netbuff_coefficients, __wrap_netbuff_coefficients;
 
 static enum plant planted(void)
@@ -345,6 +358,49 @@ uint32_t __wrap_netbuff_orders(const uint8_t *bytes, size_t bytes_length, const 
         *symbols_read = 0;
     if (refused == 0 && (bytes[0] & 3) < 2)
         spoil_order_0(store);
+    return refused;
+}
+
+/* A situation in the place of what is none, where a fault takes that for one. */
+static struct netbuff_situation taken(struct netbuff_situation of)
+{
+    uint64_t sum = (uint64_t)of.count + of.place, places = 63 * (uint64_t)of.blocks;
+    bool low = planted() == LOW_PLACES_TAKEN && sum > places && sum <= places + of.blocks;
+    bool wrapped = planted() == SUM_WRAPPED && sum > UINT32_MAX && (uint32_t)sum <= places;
+    if (low || wrapped)
+        return (struct netbuff_situation){of.blocks, of.count > 0, 0, of.prev};
+    if (planted() == MORE_BLOCKS_TAKEN && of.blocks == 2048)
+        return (struct netbuff_situation){1024, of.count / 2 + of.count % 2, of.place / 2, of.prev};
+    of.count += planted() == COUNT_0_TAKEN && of.count == 0;
+    if (planted() == FLAG_ABOVE_1_TAKEN && of.prev > 1)
+        of.prev = 1;
+    return of;
+}
+
+/* A situation in the place of another, whose number a fault tells; one with a flag of 2 is refused. */
+static struct netbuff_situation mistaken(struct netbuff_situation of)
+{
+    bool walked = of.prev == (of.count <= 4 * (uint64_t)of.blocks);
+    bool more = (uint64_t)of.count + of.place < 63 * (uint64_t)of.blocks;
+    if (planted() == FIRST_FLAG_JUDGED && of.place == 0 && !walked)
+        of.prev = 2;
+    if (planted() == FLAG_NOT_SEEN && of.prev == 1)
+        of.prev = 0;
+    of.count += planted() == COUNT_NOT_LESS_ONE && of.count > 0 && more;
+    return of;
+}
+
+uint32_t __wrap_netbuff_coefficient_context(uint32_t blocks, uint32_t count, uint32_t place,
+                                            uint32_t prev, uint32_t *context, size_t *x, size_t *y)
+{
+    struct netbuff_situation of =
+        mistaken(taken((struct netbuff_situation){blocks, count, place, prev}));
+    uint32_t refused =
+        __real_netbuff_coefficient_context(of.blocks, of.count, of.place, of.prev, context, x, y);
+    if (planted() == OTHER_ENTRY && refused == 0 && place / blocks == 30)
+        *context += 2;
+    if (planted() == CONTEXT_ZERO && refused != 0)
+        *context = 0;
     return refused;
 }
 

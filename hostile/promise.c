@@ -29,6 +29,7 @@
     call(ORDERS, "orders", BIT(0) | BIT(1) | BIT(3) | BIT(13) | BIT(15))                           \
     call(ORDER, "order", BIT(0))                                                                   \
     call(PLACES_FIT, "places_fit", BIT(0))                                                         \
+    call(COEFFICIENT_CONTEXT, "coefficient_context", BIT(0) | BIT(11))                             \
     call(COEFFICIENTS, "coefficients", BIT(0) | BIT(1) | BIT(2) | BIT(3) | BITS_11_TO_18 | BIT(24))
 
 static const struct {

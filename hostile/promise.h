@@ -22,6 +22,7 @@ enum call {
     ORDERS,
     ORDER,
     PLACES_FIT,
+    COEFFICIENT_CONTEXT,
     COEFFICIENTS,
     CALLS
 };

@@ -81,7 +81,7 @@ extern "C" {
 /* The version of this header. */
 #define NETBUFF_VERSION_MAJOR 0
 #define NETBUFF_VERSION_MINOR 3
-#define NETBUFF_VERSION_PATCH 0
+#define NETBUFF_VERSION_PATCH 1
 
 /* A version as one number. */
 #define NETBUFF_VERSION_NUMBER(major, minor, patch) ((major)*1000000 + (minor)*1000 + (patch))
@@ -113,7 +113,8 @@ uint32_t netbuff_version(void);
     refusal(OVERLAP, 8, "varblocks overlap", "x, y")                                               \
     refusal(OUTSIDE, 9, "varblock leaves the LF group", "x, y")                                    \
     refusal(SHARPNESS, 10, "sharpness not 0 to 7", "x, y")                                         \
-    refusal(PARAMETER, 11, "scale, mode, float, shift or presets outside limits", "0, 0")          \
+    refusal(PARAMETER, 11, "scale, mode, float, shift, presets or situation outside limits",       \
+            "0, 0")                                                                                \
     refusal(CONTEXT, 12, "context record unfit", "0, 0")                                           \
     refusal(ORDER, 13, "order length, digit or stored place too large", "symbols read, 0")         \
     refusal(PRESET, 14, "preset number not below presets", "bits read, 0")                         \
@@ -512,9 +513,10 @@ bool netbuff_places_fit(const uint16_t *store, size_t store_length);
  * below presets: none for one preset. The cluster map has 495 * num_block_clusters bytes for each
  * preset: first those of counts, entry n of block context b at n * num_block_clusters + b (n is the
  * predicted count p, or 4 + p / 2 from 8 on, 36 at most); then those of coefficients, 458 for each
- * block context, one block context behind the other. Which entry is a symbol's depends on the
- * symbols before it, so the caller's entropy decoder makes the same walk (as write_hf_coeff of
- * jxl-vardct does), and the log is there to be held against it.
+ * block context, one block context behind the other (netbuff_coefficient_context tells which of the
+ * 458). Which entry is a symbol's depends on the symbols before it, so the caller's entropy decoder
+ * makes the same walk (as write_hf_coeff of jxl-vardct does), and the log is there to be held
+ * against it.
  *
  * The symbols: corners row by row, and for each corner channel 1, then 0, then 2. A channel has a
  * count of its coefficients that are not 0; then, if that is not 0, one symbol for each place of
@@ -548,6 +550,28 @@ uint32_t netbuff_coefficients(size_t bw, size_t bh, const uint8_t *kinds, size_t
                               uint8_t *log, size_t log_length, int32_t *grid0, size_t grid0_length,
                               int32_t *grid1, size_t grid1_length, int32_t *grid2,
                               size_t grid2_length, size_t *symbols_read, size_t *x, size_t *y);
+
+/*
+ * The context number of a coefficient, 0 to 457: which of the 458 entries of its block context in
+ * the cluster map is its own. It is told for a situation: a varblock of so many blocks, a power of
+ * two up to 1,024; a count, at least 1, of the coefficients that are not 0 still due, this place's
+ * included; the place, counted from 0 behind the low-frequency ones; and prev, 1 where the symbol
+ * before was not 0, else 0. count + place is at most 63 * blocks. At the first place a reading has
+ * a prev of 1 where the count is at most 4 * blocks, else 0; here both are taken at every place.
+ *
+ * The number is 2 * (n + f) + prev. n goes by k = (count - 1) / blocks: 0 for 0, 31 for 1, 62 up to
+ * 3, 93 up to 7, 123 up to 11, 152 up to 19, 180 up to 31, 206 up to 62. f goes by j = place /
+ * blocks: j up to 14, (j + 15) / 2 up to 30, (j + 61) / 4 up to 62. Quotients are rounded down.
+ * (The tables are COEFF_NUM_NONZERO_CONTEXT and COEFF_FREQ_CONTEXT of jxl-vardct.) So a situation
+ * has the number of that of one block with count k + 1, place j and the same prev. Two situations
+ * have the same number exactly if n, f and prev are the same, and each number occurs:
+ * docs/CENSUS.md of the sources lists them all.
+ *
+ * Refused: 11 where blocks is no such power of two, count is 0, count + place, which does not wrap,
+ * is above 63 * blocks, or prev is above 1.
+ */
+uint32_t netbuff_coefficient_context(uint32_t blocks, uint32_t count, uint32_t place, uint32_t prev,
+                                     uint32_t *context, size_t *x, size_t *y);
 
 #ifdef __cplusplus
 }

@@ -158,7 +158,7 @@ struct netbuff_order_list {
     size_t places; /* half as many as numbers */
 };
 
-/* ---- Coefficients: netbuff_coefficients ---- */
+/* ---- Coefficients: netbuff_coefficients, netbuff_coefficient_context ---- */
 
 /* The LF coefficients of a channel, one for each block. */
 struct netbuff_lf_grid {
@@ -195,6 +195,14 @@ struct netbuff_coefficients_output {
     uint8_t *log;                 /* the cluster of each symbol */
     size_t log_length;            /* at least netbuff_log_length */
     size_t symbols_read;
+};
+
+/* What the context number of a coefficient goes by; count + place is at most 63 * blocks. */
+struct netbuff_situation {
+    uint32_t blocks; /* of the varblock: a power of two up to 1,024 */
+    uint32_t count;  /* coefficients that are not 0 still due, this place's included */
+    uint32_t place;  /* from 0, behind the low-frequency ones */
+    uint32_t prev;   /* 1 where the symbol before was not 0, else 0 */
 };
 
 /* ---- Lengths ---- */
@@ -473,6 +481,15 @@ netbuff_read_coefficients(const struct netbuff_coefficients_input *input,
         NETBUFF_LEND(i32, grids[0].data, grids[0].length),
         NETBUFF_LEND(i32, grids[1].data, grids[1].length),
         NETBUFF_LEND(i32, grids[2].data, grids[2].length), &output->symbols_read, &no.x, &no.y);
+    return no;
+}
+
+static inline struct netbuff_refusal netbuff_find_context(const struct netbuff_situation *situation,
+                                                          uint32_t *context)
+{
+    struct netbuff_refusal no = {0, 0, 0};
+    no.number = netbuff_coefficient_context(situation->blocks, situation->count, situation->place,
+                                            situation->prev, context, &no.x, &no.y);
     return no;
 }
 

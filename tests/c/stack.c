@@ -153,6 +153,13 @@ static void call_spoilt_coefficients(void)
     stores[0][3] = kept;
 }
 
+static void call_coefficient_context(void)
+{
+    struct netbuff_situation situation = {(uint32_t)(1024 - cut_short), 64512, 0, 1};
+    uint32_t context;
+    answer = netbuff_find_context(&situation, &context);
+}
+
 /* ---- The measure ---- */
 
 static ucontext_t here, there;
@@ -211,6 +218,7 @@ int main(void)
         {"store", call_store, 0, 0},
         {"coefficients", call_coefficients, 0, 15},
         {"coefficients, a stored place", call_spoilt_coefficients, 13, 13},
+        {"coefficient context", call_coefficient_context, 0, 11},
     };
     size_t most = 0;
     size_t without = stack_of(call_nothing);

@@ -57,12 +57,13 @@ enum call {
     CONTEXTS,
     ORDERS,
     COEFFICIENTS,
+    COEFFICIENT_CONTEXT,
     CALLS
 };
 
-static const char *const names[CALLS] = {"transform", "bits",        "u32",      "column count",
-                                         "layout",    "cut",         "likeness", "contexts",
-                                         "orders",    "coefficients"};
+static const char *const names[CALLS] = {
+    "transform", "bits",   "u32",          "column count",       "layout", "cut", "likeness",
+    "contexts",  "orders", "coefficients", "coefficient context"};
 static unsigned answers[CALLS][NETBUFF_REFUSALS_END];
 static unsigned nulls, threshold_records, likenesses[2]; /* no, yes */
 
@@ -387,7 +388,7 @@ static void try_orders(void)
     const uint8_t data[2] = {(uint8_t)(once_in(2) ? 2 : 3 + 4 * below(64)), (uint8_t)below(4)};
     uint32_t digits[40];
     for (size_t k = 0; k < 40; k++)
-        digits[k] = below(once_in(20) ? 70 : 3);
+        digits[k] = below(once_in(20) ? 200 : 3);
     struct netbuff_bytes bytes = {MAYBE(data), once_in(9) ? below(2) : 2};
     struct netbuff_symbols symbols = {MAYBE(digits), once_in(3) ? below(41) : 40};
     struct netbuff_order_store store = {MAYBE(stores[0]), length_near(NETBUFF_STORE_LENGTH)};
@@ -510,6 +511,58 @@ static void try_coefficients(void)
     hold_lent(COEFFICIENTS);
 }
 
+/* Mostly a situation, its sum often at the limit; else one of its numbers is another. */
+static struct netbuff_situation any_situation(void)
+{
+    struct netbuff_situation situation = {1U << below(11), 0, 0, below(2)};
+    uint32_t places = 63 * situation.blocks;
+    situation.count = 1 + below(places);
+    situation.place = places - situation.count;
+    if (once_in(2))
+        situation.place = below(situation.place + 1);
+    uint32_t *const numbers[4] = {&situation.blocks, &situation.count, &situation.place,
+                                  &situation.prev};
+    if (once_in(4))
+        *numbers[below(4)] = once_in(2) ? below(4) : (uint32_t)next();
+    return situation;
+}
+
+static void try_coefficient_context(void)
+{
+    struct netbuff_situation situation = any_situation();
+    uint32_t a = 999, b = a;
+    struct netbuff_refusal no = {0, 0, 0};
+    no.number = netbuff_coefficient_context(situation.blocks, situation.count, situation.place,
+                                            situation.prev, &b, &no.x, &no.y);
+    hold_answer(COEFFICIENT_CONTEXT, netbuff_find_context(&situation, &a), no);
+    hold(COEFFICIENT_CONTEXT, a == b, "results");
+}
+
+/* The numbers of one block's situations are those that the header says, and all occur. */
+static void try_numbers(void)
+{
+    static const struct {
+        uint32_t last, n;
+    } by_count[] = {{0, 0}, {1, 31}, {3, 62}, {7, 93}, {11, 123}, {19, 152}, {31, 180}, {62, 206}};
+    bool occurs[458] = {false};
+    size_t row = 0, numbers = 0;
+    for (uint32_t k = 0; k <= 62; k++) {
+        row += k > by_count[row].last;
+        for (uint32_t j = 0; k + j <= 62; j++)
+            for (uint32_t prev = 0; prev < 2; prev++) {
+                uint32_t f = j <= 14 ? j : j <= 30 ? (j + 15) / 2 : (j + 61) / 4;
+                struct netbuff_situation situation = {1, k + 1, j, prev};
+                uint32_t found = 999, due = 2 * (by_count[row].n + f) + prev;
+                hold(COEFFICIENT_CONTEXT, netbuff_find_context(&situation, &found).number == 0,
+                     "situations");
+                hold(COEFFICIENT_CONTEXT, found == due && due < 458, "numbers");
+                numbers += !occurs[due];
+                occurs[due] = true;
+            }
+    }
+    hold(COEFFICIENT_CONTEXT, numbers == 458, "all numbers");
+}
+
 /* The names of transforms say their size, and the header the sizes of the orders. */
 static void try_names(void)
 {
@@ -580,9 +633,11 @@ static void try_zeros(void)
     static const struct netbuff_context_map map;
     static const struct netbuff_symbols symbols;
     static struct netbuff_order_store store;
+    static const struct netbuff_situation situation;
     struct netbuff_column_total total;
     struct netbuff_contexts contexts;
     size_t read;
+    uint32_t context;
     bool alike;
     hold(LAYOUT, netbuff_read_layout(&layout_input, &layout_output).number == 2, "zeros");
     hold(COEFFICIENTS, netbuff_read_coefficients(&input, &output).number == 2, "zeros");
@@ -593,6 +648,7 @@ static void try_zeros(void)
     hold(ORDERS, netbuff_read_orders(&bytes, &symbols, &store, &read).number == 1, "zeros");
     hold(ORDERS, netbuff_find_order(&store, 0, 0).places == 0 && !netbuff_store_fits(&store),
          "zeros");
+    hold(COEFFICIENT_CONTEXT, netbuff_find_context(&situation, &context).number == 11, "zeros");
 }
 
 /* Each call has to have been answered in each of these ways. */
@@ -613,6 +669,7 @@ static void hold_counts(void)
         {CONTEXTS, {0, 1, 3, 12}, 4},
         {ORDERS, {0, 1, 3, 13, 15}, 5},
         {COEFFICIENTS, {0, 1, 2, 3, 11, 12, 13, 14, 15, 16, 17, 18, 24}, 13},
+        {COEFFICIENT_CONTEXT, {0, 11}, 2},
     };
     for (size_t row = 0; row < sizeof due / sizeof due[0]; row++)
         for (size_t k = 0; k < due[row].count; k++)
@@ -628,6 +685,7 @@ int main(void)
     prepare();
     try_zeros();
     try_names();
+    try_numbers();
     try_texts();
     for (unsigned round = 0; round < ROUNDS; round++) {
         try_transform();
@@ -638,6 +696,7 @@ int main(void)
         try_alike();
         try_contexts();
         try_coefficients();
+        try_coefficient_context();
         if (round % 20 == 0)
             try_orders();
     }

@@ -37,10 +37,11 @@
 //! | 6 | [`coefficients`]: symbols to coefficients, added to three grids | [`GridsBuf`] |
 //!
 //! Beside them [`transform()`] looks a transform number up, [`alike`] compares two layouts with their
-//! filter strengths, [`order()`] and [`places_fit`] look into a store of orders, [`version()`] tells
-//! the library's version, [`read_bits`], [`read_u32`] and [`unpack_signed`] read single numbers.
-//! Every call that is lent bytes, those three aside, begins at their first bit, and bits come lowest
-//! first within each byte.
+//! filter strengths, [`order()`] and [`places_fit`] look into a store of orders,
+//! [`coefficient_context`] tells the context number of a coefficient, [`version()`] the library's
+//! version, [`read_bits`], [`read_u32`] and [`unpack_signed`] read single numbers. Every call that is
+//! lent bytes, those three aside, begins at their first bit, and bits come lowest first within each
+//! byte.
 //!
 //! ```
 //! use netbuff::*;
@@ -123,6 +124,7 @@ mod layout;
 mod orders;
 mod record;
 mod refusal;
+mod situation;
 mod transform;
 mod version;
 
@@ -135,6 +137,7 @@ pub use layout::{
 pub use orders::{order, orders, places_fit, Orders, STORE_LENGTH};
 pub use record::{alike, cut, FilteredLayout, Group, GroupMut, Layout, Sides, Varblock};
 pub use refusal::{Refusal, Result};
+pub use situation::{coefficient_context, Situation};
 pub use transform::{transform, Transform, TransformType};
 pub use version::{version, Version, VERSION};
 

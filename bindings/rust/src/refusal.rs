@@ -81,7 +81,7 @@ pub enum Refusal {
         /// Of the free block whose varblock was being placed.
         y: usize,
     },
-    /// 11: scale, mode, float, shift or presets are outside their limits.
+    /// 11: scale, mode, float, shift, presets or situation are outside their limits.
     Parameter,
     /// 12: a context record is unfit.
     Context,
@@ -225,7 +225,7 @@ impl Refusal {
             Self::Overlap { .. } => "varblocks overlap",
             Self::Outside { .. } => "varblock leaves the LF group",
             Self::Sharpness { .. } => "sharpness not 0 to 7",
-            Self::Parameter => "scale, mode, float, shift or presets outside limits",
+            Self::Parameter => "scale, mode, float, shift, presets or situation outside limits",
             Self::Context => "context record unfit",
             Self::Order { .. } => "order length or digit too large",
             Self::StoredPlace => "stored place outside its order's size",

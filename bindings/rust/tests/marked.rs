@@ -149,20 +149,87 @@ fn m10_three_presets_take_two_bits() {
     assert_eq!(read(0, 3, &[3], &|_| 0, &none).0, refused);
 }
 
+/// The contexts of the symbols read: places in the preset's part of the cluster map. Each has
+/// another byte as far as bytes go, so it is read twice, for its low and its high part.
+fn contexts_read(transform: u32, symbols: &[u32]) -> Vec<u32> {
+    let (answer, _, low) = read(transform, 1, &[], &|context| context as u8, symbols);
+    let (_, _, high) = read(transform, 1, &[], &|context| (context >> 8) as u8, symbols);
+    (0..answer.expect("coefficients"))
+        .map(|k| u32::from(low[k]) + 256 * u32::from(high[k]))
+        .collect()
+}
+
 #[test]
 fn m11_one_dct8() {
-    // Each context has another byte as far as bytes go: twice, for its low and its high part.
     let symbols = [2, 3, 0, 4, 0, 0];
-    let (answer, grids, low) = read(0, 1, &[], &|context| context as u8, &symbols);
-    let (_, _, high) = read(0, 1, &[], &|context| (context >> 8) as u8, &symbols);
+    let (answer, grids, _) = read(0, 1, &[], &|_| 0, &symbols);
     assert_eq!(answer, Ok(6));
     assert_eq!((grids.at(1, 0, 1), grids.at(1, 2, 0)), (-2, 2));
     let filled = grids.channels.iter().flatten().filter(|&&cell| cell != 0);
     assert_eq!(filled.count(), 2);
-    let contexts: Vec<usize> = (0..6)
-        .map(|k| usize::from(low[k]) + 256 * usize::from(high[k]))
-        .collect();
-    assert_eq!(contexts, [300, 618, 558, 559, 307, 307]);
+    let contexts = [300, 618, 558, 559, 307, 307];
+    assert_eq!(contexts_read(0, &symbols), contexts);
+}
+
+/// The first of the 458 entries of a block context, of standard contexts.
+fn first_entry(block_context: u32) -> u32 {
+    458 * block_context + 37 * 15
+}
+
+fn number(blocks: u32, count: u32, place: u32, prev: u32) -> u32 {
+    let situation = Situation {
+        blocks,
+        count,
+        place,
+        prev,
+    };
+    coefficient_context(situation).expect("a situation")
+}
+
+/// Block context 0: 63, 3 and 4.
+#[test]
+fn no_9_the_coefficients_of_m11() {
+    let numbers = [number(1, 2, 0, 1), number(1, 1, 1, 1), number(1, 1, 2, 0)];
+    assert_eq!(numbers, [63, 3, 4]);
+    assert_eq!(numbers.map(|n| first_entry(0) + n), [618, 558, 559]);
+}
+
+/// In channel 1 of a varblock: the entry of each coefficient is that of its situation.
+fn reads_entries_of_situations(transform: u32, blocks: u32, count: u32) {
+    // Every second coefficient that is not 0 has a 0 before it.
+    let filled = |k| [0, 1].into_iter().skip(usize::from(k % 2 == 0));
+    let coefficients: Vec<u32> = (0..count).flat_map(filled).collect();
+    let contexts = contexts_read(transform, &[&[count], &coefficients[..], &[0, 0]].concat());
+    let first = first_entry(contexts[0] % 15);
+    let (mut left, mut prev) = (count, u32::from(count <= 4 * blocks));
+    for ((place, &symbol), &context) in (0..).zip(&coefficients).zip(&contexts[1..]) {
+        assert_eq!(context, first + number(blocks, left, place, prev));
+        prev = u32::from(symbol != 0);
+        left -= prev;
+    }
+    assert_eq!(left, 0);
+}
+
+#[test]
+fn no_9_a_reading_takes_the_entries_of_its_situations() {
+    for transform in [0, 4, 5, 6, 18, 24] {
+        let known = netbuff::transform(transform).expect("a transform");
+        let blocks = (known.wide * known.high) as u32;
+        for count in [1, 4 * blocks, 4 * blocks + 1, 42 * blocks] {
+            reads_entries_of_situations(transform, blocks, count);
+        }
+    }
+}
+
+#[test]
+fn no_9_each_number_occurs() {
+    let mut occurs = [false; 458];
+    for (count, place) in (1..=63).flat_map(|n| (0..=63 - n).map(move |i| (n, i))) {
+        for prev in [0, 1] {
+            occurs[number(1, count, place, prev) as usize] = true;
+        }
+    }
+    assert!(occurs.iter().all(|&once| once));
 }
 
 #[test]

@@ -475,6 +475,86 @@ fn a_scan_of_contexts_tells_what_the_call_takes() {
     assert!(ended > 100 && accepted > 100 && too_many > 100);
 }
 
+/// The number of a situation.
+fn number(blocks: u32, count: u32, place: u32, prev: u32) -> Result<u32> {
+    coefficient_context(Situation {
+        blocks,
+        count,
+        place,
+        prev,
+    })
+}
+
+#[test]
+fn blocks_of_a_situation_are_a_power_of_two_up_to_1024() {
+    for exponent in 0..=10 {
+        let blocks = 1 << exponent;
+        assert_eq!(number(blocks, 1, 0, 0), Ok(0), "{blocks}");
+        assert_eq!(number(blocks, blocks, blocks - 1, 1), Ok(1), "{blocks}");
+    }
+    let mut wrong = vec![0, 3, 5, 63, 65, 1000, 1023, 1025, 1536, u32::MAX];
+    for exponent in 11..32 {
+        let blocks = 1 << exponent;
+        wrong.extend([blocks - 1, blocks, blocks + 1]);
+    }
+    for blocks in wrong {
+        assert_eq!(number(blocks, 1, 0, 0), Err(Refusal::Parameter), "{blocks}");
+    }
+}
+
+#[test]
+fn count_and_place_of_a_situation_are_63_for_each_block_together() {
+    for (count, place, due) in [
+        (64_512, 0, 413),
+        (1, 64_511, 60),
+        (33 * 1024, 30 * 1024, 457),
+        (33 * 1024 - 1, 30 * 1024 + 1, 457),
+    ] {
+        assert_eq!(number(1024, count, place, due % 2), Ok(due));
+        for (count, place) in [(count + 1, place), (count, place + 1)] {
+            let refused = number(1024, count, place, 0);
+            assert_eq!(refused, Err(Refusal::Parameter), "{count} {place}");
+        }
+    }
+    // Sums that would wrap to something small, and counts of none.
+    for (count, place) in [
+        (0, 0),
+        (0, 63),
+        (u32::MAX, 0),
+        (u32::MAX, 1),
+        (u32::MAX, 64),
+        (u32::MAX, u32::MAX),
+        (1, u32::MAX),
+        (2, u32::MAX),
+        (1 << 31, 1 << 31),
+        ((1 << 31) + 1, 1 << 31),
+    ] {
+        for blocks in [1, 1024, 1 << 31, u32::MAX] {
+            let refused = number(blocks, count, place, 1);
+            assert_eq!(refused, Err(Refusal::Parameter), "{count} {place}");
+        }
+    }
+}
+
+#[test]
+fn both_flags_are_taken_at_every_place_and_no_other() {
+    for blocks in [1, 2, 1024] {
+        for (count, place) in [
+            (1, 0),
+            (4 * blocks, 0),
+            (4 * blocks + 1, 0),
+            (1, 62 * blocks),
+        ] {
+            let least = number(blocks, count, place, 0).expect("a situation");
+            assert_eq!(number(blocks, count, place, 1), Ok(least + 1));
+            for prev in [2, 3, 256, 1 << 31, u32::MAX] {
+                let refused = number(blocks, count, place, prev);
+                assert_eq!(refused, Err(Refusal::Parameter), "{prev}");
+            }
+        }
+    }
+}
+
 #[test]
 fn the_library_is_of_the_crates_version() {
     assert_eq!(version(), VERSION);

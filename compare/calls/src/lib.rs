@@ -1,6 +1,7 @@
-//! What goes into each call of document 01 and what comes out, as plain owned data: shared by the
-//! Rust under comparison, the model of the papers, the recorder and the comparison.
+//! What goes into each call of the papers and what comes out, as plain owned data: shared by the Rust
+//! under comparison, the model of the papers, the recorder and the comparison.
 
+mod census;
 mod coefficients;
 mod columns;
 mod contexts;
@@ -10,6 +11,7 @@ mod lf_group;
 mod orders;
 mod reads;
 
+pub use census::Situation;
 pub use coefficients::{CoefficientBuffers, CoefficientsCall};
 pub use columns::{ColumnCount, ColumnCountCall};
 pub use contexts::{Contexts, ContextsCall, LIST_MOST, MAP_MOST};

@@ -1,11 +1,15 @@
 //! What the papers expect of each call: the checks that only they have, then the Rust; where a request
-//! of document 02 asks for another answer than the Rust's, the model.
+//! of document 02 asks for another answer than the Rust's, or for one that the Rust does not give, the
+//! model.
 
 use calls::{
     Answer, CoefficientBuffers, CoefficientsCall, ColumnCount, ColumnCountCall, Contexts,
-    ContextsCall, LayoutBuffers, LayoutCall, OrdersCall, Outcome, Refusal, Store, Transform,
+    ContextsCall, LayoutBuffers, LayoutCall, OrdersCall, Outcome, Refusal, Situation, Store,
+    Transform,
 };
 use jxl_vardct::oracle::{self, Orders};
+
+use crate::walks::Walks;
 
 /// The whole number counts, where the Rust takes one byte.
 pub fn transform(number: u32) -> Answer<Transform> {
@@ -91,4 +95,15 @@ pub fn coefficients(
 /// 24, which the Rust has no error for.
 pub fn count_remains(outcome: &Outcome<usize, CoefficientBuffers>) -> bool {
     outcome.answer.is_err_and(|refusal| refusal.number == 24)
+}
+
+/// The Rust's number where a walk comes to the situation, else the model's.
+pub fn census(situation: &Situation, walks: &Walks) -> Answer<u32> {
+    match paper::census_before_work(situation) {
+        Some(refusal) => Err(refusal),
+        None => {
+            let context = walks.context(situation);
+            Ok(context.unwrap_or_else(|| paper::census(situation)))
+        }
+    }
 }

@@ -11,6 +11,8 @@ pub mod cases;
 #[cfg(live)]
 pub mod driver;
 #[cfg(live)]
+pub mod entries;
+#[cfg(live)]
 pub mod examples;
 #[cfg(live)]
 pub mod expected;
@@ -22,3 +24,5 @@ pub mod progress;
 pub mod rng;
 #[cfg(live)]
 pub mod rounds;
+#[cfg(live)]
+pub mod walks;

@@ -5,8 +5,8 @@ use std::collections::BTreeMap;
 
 use calls::{AlikeCall, FilteredLayout};
 use compare::cases::{
-    AlikeCase, Case, CoefficientsCase, ColumnCountCase, ContextsCase, CutCase, LayoutCase,
-    OrdersCase, TransformCase,
+    AlikeCase, Case, CensusCase, CoefficientsCase, ColumnCountCase, ContextsCase, CutCase,
+    LayoutCase, OrdersCase, TransformCase,
 };
 use compare::driver::{run, Effort};
 use compare::rng::Rng;
@@ -43,6 +43,7 @@ fn every_refusal_is_met() {
     let coefficients = [0, 1, 2, 3, 11, 12, 13, 14, 15, 16, 17, 18, 24];
     let case = CoefficientsCase::new(1);
     assert_eq!(not_met(&case, 8000, &coefficients), none);
+    assert_eq!(not_met(&CensusCase::default(), 8000, &[0, 11]), none);
 }
 
 /// What differs where two layouts are not alike, and each refusal, are met often.

@@ -7,7 +7,7 @@ pub use lf_group::{CutOf, LfGroupBuffers};
 use calls::{
     AlikeCall, Answer, CoefficientBuffers, CoefficientsCall, ColumnCount, ColumnCountCall,
     Contexts, ContextsCall, CutCall, GroupBuffers, LayoutBuffers, LayoutCall, OrderCall,
-    OrdersCall, Outcome, ReadCall, ReadKind, Refusal, Store, Transform,
+    OrdersCall, Outcome, ReadCall, ReadKind, Refusal, Situation, Store, Transform,
 };
 use netbuff::{
     BlockClusters, BlockContexts, Choice, CoefficientInput, CoefficientMut, Columns, Filter, Group,
@@ -246,4 +246,13 @@ pub fn coefficients_into(
         log: &mut buffers.log,
     };
     answer(netbuff::coefficients(&input, output))
+}
+
+pub fn census(situation: &Situation) -> Outcome<u32, ()> {
+    plain(netbuff::coefficient_context(netbuff::Situation {
+        blocks: situation.blocks,
+        count: situation.count,
+        place: situation.place,
+        prev: situation.prev,
+    }))
 }

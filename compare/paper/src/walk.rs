@@ -15,7 +15,7 @@ use crate::{transform, ENTRIES_PER_CLUSTER};
 /// The channels of a varblock in the order in which they are read.
 const CHANNELS: [usize; 3] = [1, 0, 2];
 /// Places for each block behind the low-frequency ones.
-const PLACES: u32 = 63;
+pub const PLACES: u32 = 63;
 /// What is predicted at the group's first block.
 const PREDICTED_FIRST: u32 = 32;
 

@@ -4,7 +4,7 @@
 use calls::{CoefficientsCall, ORDER_COUNT};
 
 /// Entries of counts for each cluster, in front of those of coefficients.
-const COUNT_ENTRIES: usize = 37;
+pub const COUNT_ENTRIES: usize = 37;
 /// Entries of the coefficients of a block context.
 pub const COEFFICIENT_ENTRIES: usize = 458;
 /// Entries of the cluster map for each preset and cluster.

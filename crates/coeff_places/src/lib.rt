@@ -1,7 +1,7 @@
 // The places of one channel of a varblock: the coefficients behind its count (`hf_coeff.rs`).
-use crate::context::COEFF_FREQ_CONTEXT;
-use crate::context::COEFF_NUM_NONZERO_CONTEXT;
 use crate::walk::walk_places;
+use coeff_context::tables::COEFF_FREQ_CONTEXT;
+use coeff_context::tables::COEFF_NUM_NONZERO_CONTEXT;
 use coeff_walk::WalkEnd;
 use coeff_walk::spot::Spot;
 use refusal::Refusal;

@@ -10,7 +10,8 @@ use refusal::Refusal;
 ghost use mathlib.Core.Path.{_≡_};
 ghost use Prim.Native.Nat.{_+_, _-_, _/_, _*_, _%_, _^_, _≤_, _<_};
 ghost use lib.ListN.{length, getD, drop};
-ghost use Rattle.coeff_walk.specs.Walk.{FREQ, NUM-NONZERO, flag, gain, walk};
+ghost use Rattle.coeff_context.specs.Context.{FREQ, NUM-NONZERO};
+ghost use Rattle.coeff_walk.specs.Walk.{flag, gain, walk};
 ghost use Rattle.coeff_walk.specs.laws.Outcome.{WalkReady, WalkShown, spotCells, UsesUp};
 ghost use Rattle.coeff_walk.specs.laws.Runs.{ZerosReady, Zeros};
 

@@ -1,7 +1,7 @@
--- Counts that are used up, and one that is not (document 02, No. 8).
+-- Counts that are used up, and one that is not or cannot be (document 02, Nos. 8 and 9).
 use mathlib.Core.Path.{_≡_}
 use mathlib.Core.List.{List, [], _∷_, _++_}
-use Prim.Native.Nat.{ℕ, _*_, _<_, _≤_}
+use Prim.Native.Nat.{ℕ, _+_, _*_, _<_, _≤_}
 use lib.ListN.{length}
 use Rattle.coeff_walk.specs.Item.{Item}
 use Rattle.coeff_walk.specs.Sent.{nonZeros, sent}
@@ -29,8 +29,22 @@ pub record CountRemains (it : Item) (s : List ℕ) : Type 0 where
   pub fewer : nonZeros ds < count
   pub are : s ≡ count ∷ ds
 
--- the symbols s of items in turn: earlier ones that have used their counts up, then one that has not; none of those behind
-pub record RemainsAmong (its : List Item) (s : List ℕ) : Type 0 where
+-- the symbols s of an item of which more coefficients are due than places remain (document 02, No. 9): a count that 16 lets pass, and a symbol for each
+-- place passed; what is still due of the count is above the number of the places that remain, of which there is one at least
+pub record MoreDue (it : Item) (s : List ℕ) : Type 0 where
+  pub count : ℕ
+  pub most : count ≤ 63 * it .blocks
+  pub ds : List ℕ
+  pub due : ℕ
+  pub still : count ≡ nonZeros ds + due
+  pub remaining : ℕ
+  pub places : length (it .cells) ≡ length ds + remaining
+  pub some : 1 ≤ remaining
+  pub more : remaining < due
+  pub are : s ≡ count ∷ ds
+
+-- the symbols s of items in turn: earlier ones that have used their counts up, then one of whose symbols Q holds; none of those behind
+pub record StoppedAmong (Q : Item → List ℕ → Type 0) (its : List Item) (s : List ℕ) : Type 0 where
   pub before : List Item
   pub it : Item
   pub behind : List Item
@@ -38,5 +52,5 @@ pub record RemainsAmong (its : List Item) (s : List ℕ) : Type 0 where
   pub earlier : List ℕ
   pub last : List ℕ
   pub used : CountsUsed before earlier
-  pub remains : CountRemains it last
+  pub holds : Q it last
   pub are : s ≡ earlier ++ last

@@ -9,5 +9,4 @@ pub mod Items
 pub mod Kept
 pub mod Used
 pub mod Remaining
-pub mod Contexts
 pub mod Walks

@@ -10,7 +10,8 @@ use lib.ListN.{length, getD, set}
 use Rattle.dct_select.specs.Transforms.{COUNT, wide}
 use Rattle.layout.specs.Varblocks.{Varblock}
 use Rattle.context_record.specs.Record.{bsizeOf}
-use Rattle.coeff_walk.specs.Walk.{FREQ, NUM-NONZERO, coeffContext, flag, less, gain}
+use Rattle.coeff_context.specs.Context.{FREQ, NUM-NONZERO, coeffContext}
+use Rattle.coeff_walk.specs.Walk.{flag, less, gain}
 use Rattle.coeff_walk.specs.Item.{Item, countEntry, countCluster, coeffMapOf}
 use Rattle.coeff_group.specs.Group.{Reading, going, refused, readItem, readVarblock, zeroRows}
 use Rattle.coeff_group.specs.PassGroup.{PassGroup, varblocks, blocksOf, blockEntryOf, cellsIn, channelItems}

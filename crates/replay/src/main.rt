@@ -6,6 +6,7 @@ ghost use Rattle.io.specs.Counts.{Counts};
 
 mod alike;
 mod answer;
+mod census;
 mod coefficients;
 mod columns;
 mod contexts;
@@ -50,7 +51,7 @@ fn replay_all<'a>(file: &'a [u8], words: &'a [u32]) {
         return;
     }
     let mut records = 0;
-    for call in 1..9 {
+    for call in 1..10 {
         records = walk::replay_call(file, words, call);
     }
     names::number(records);

@@ -28,7 +28,7 @@ fn named(names: &[u8], k: usize) {
 
 pub(crate) fn call(k: u32) {
     named(
-        b"transform   column countlayout      cut         alike       contexts    orders      coefficients",
+        b"transform   column countlayout      cut         alike       contexts    orders      coefficientscensus      ",
         k as usize,
     );
 }

@@ -1,6 +1,7 @@
 // The records of a list, one behind the other.
 use crate::alike;
 use crate::answer::agreed;
+use crate::census;
 use crate::coefficients;
 use crate::columns;
 use crate::contexts;
@@ -47,6 +48,7 @@ fn replay<'a>(call: u32, body: &'a [u8], words: &'a [u32], out: &mut [usize; 48]
         6 => contexts::replay(body, words, out),
         7 => orders::replay(body, words, out),
         8 => coefficients::replay(body, words, out),
+        9 => census::replay(words, out),
         _ => 0,
     }
 }

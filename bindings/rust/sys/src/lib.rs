@@ -232,4 +232,15 @@ extern "C" {
         x: *mut usize,
         y: *mut usize,
     ) -> u32;
+
+    /// The context number of a coefficient.
+    pub fn netbuff_coefficient_context(
+        blocks: u32,
+        count: u32,
+        place: u32,
+        prev: u32,
+        context: *mut u32,
+        x: *mut usize,
+        y: *mut usize,
+    ) -> u32;
 }

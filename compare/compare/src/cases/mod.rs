@@ -1,6 +1,7 @@
 //! The calls to compare: what is expected of each, and inputs for it.
 
 mod alike;
+mod census;
 mod coefficient_faults;
 mod coefficient_smaller;
 mod coefficients;
@@ -26,13 +27,14 @@ use calls::Outcome;
 use crate::rng::Rng;
 
 pub use alike::AlikeCase;
+pub use census::{situation, CensusCase};
 pub use coefficients::{CoefficientsCase, CoefficientsInput, MAP_MOST};
 pub use column_count::ColumnCountCase;
 pub use contexts::ContextsCase;
 pub use cut::CutCase;
 pub use layout::LayoutCase;
 pub use orders::OrdersCase;
-pub use placing::fill;
+pub use placing::{fill, single};
 pub use reader::ReaderCase;
 pub use signed::SignedCase;
 pub use stores::{OrderCase, PlacesCase, PlacesInput};
@@ -49,8 +51,9 @@ pub trait Case {
 
     fn expected(&self, input: &Self::Input) -> Outcome<Self::Value, Self::Buffers>;
 
-    /// Whether a request of document 02 keeps this input from the Rust, so that what is expected is
-    /// the model's answer; told by calls that have such inputs.
+    /// Whether what is expected of this input, behind the checks before work, is the model's answer: a
+    /// request of document 02 keeps it from the Rust, or the Rust does not come to it; told by calls that
+    /// have such inputs.
     fn by_model(
         &self,
         _input: &Self::Input,

@@ -1,6 +1,7 @@
 use calls::{CoefficientBuffers, CoefficientsCall};
 
 use super::{row, say, Calls, Said};
+use crate::entries::Entries;
 use crate::expected;
 use crate::make::{self, OrdersAndStore};
 
@@ -8,9 +9,10 @@ use crate::make::{self, OrdersAndStore};
 const ENTRIES: usize = 3 * 15 * paper::ENTRIES_PER_CLUSTER;
 
 pub fn said(calls: &Calls) -> Vec<Said> {
-    let orders = orders_with_map(|place| place as u8);
+    let entries = Entries::new(ENTRIES);
+    let orders = &entries.low;
     let zeros = [vec![33], vec![0; 31]].concat();
-    let one = |transform, symbols: &[u32]| one_varblock(&orders, transform, symbols);
+    let one = |transform, symbols: &[u32]| one_varblock(orders, transform, symbols);
     let examples = [
         ("15: none", one(0, &[]), "refused 15 0 0"),
         ("16: type 0, 64", one(0, &[64]), "refused 16 1 0"),
@@ -22,28 +24,28 @@ pub fn said(calls: &Calls) -> Vec<Said> {
         ("surplus symbols", one(0, &[0, 0, 0, 9]), "read 3"),
         (
             "14: presets 0",
-            with_presets(&orders, 0, 0),
+            with_presets(orders, 0, 0),
             "refused 14 0 0",
         ),
         ("M9: count 252 for type 4", one(4, &[252]), "refused 15 1 0"),
         ("M9: count 253 for type 4", one(4, &[253]), "refused 16 1 0"),
         (
             "M10: three presets, 2",
-            with_presets(&orders, 3, 2),
+            with_presets(orders, 3, 2),
             "read 3",
         ),
         (
             "M10: three presets, 3",
-            with_presets(&orders, 3, 3),
+            with_presets(orders, 3, 3),
             "refused 14 2 0",
         ),
     ];
     let rows = examples
         .into_iter()
-        .map(|(example, call, paper)| row(example, answer(calls, &call, &orders), paper));
-    let rows = rows.chain(counts(calls, &orders));
-    let rows = rows.chain(m11(calls, &orders));
-    rows.chain(sums(calls, &orders)).collect()
+        .map(|(example, call, paper)| row(example, answer(calls, &call, orders), paper));
+    let rows = rows.chain(counts(calls, orders));
+    let rows = rows.chain(m11(calls, &entries));
+    rows.chain(sums(calls, orders)).collect()
 }
 
 fn answer(calls: &Calls, call: &CoefficientsCall, orders: &OrdersAndStore) -> String {
@@ -94,22 +96,14 @@ fn buffers(calls: &Calls, call: &CoefficientsCall, orders: &OrdersAndStore) -> C
     (calls.coefficients)(call, &orders.orders).buffers
 }
 
-fn m11(calls: &Calls, orders: &OrdersAndStore) -> [Said; 2] {
+fn m11(calls: &Calls, entries: &Entries) -> [Said; 2] {
     let symbols = [2, 3, 0, 4, 0, 0];
-    let left = |orders: &OrdersAndStore| {
-        let call = one_varblock(orders, 0, &symbols);
-        buffers(calls, &call, orders)
-    };
-    let low = left(orders);
-    let high = left(&orders_with_map(|place| (place >> 8) as u8));
-    let grid = low.grids[1].iter().enumerate();
+    let call = |orders: &OrdersAndStore| one_varblock(orders, 0, &symbols);
+    let logged = entries.logged(call, calls.coefficients);
+    let grid = logged.outcome.buffers.grids[1].iter().enumerate();
     let gained: Vec<_> = grid
         .filter(|(_, &gain)| gain != 0)
         .map(|(cell, gain)| format!("({},{}) {gain}", cell % 8, cell / 8))
-        .collect();
-    let logged = low.log.iter().zip(&high.log).take(symbols.len());
-    let places: Vec<_> = logged
-        .map(|(&low, &high)| u32::from(high) << 8 | u32::from(low))
         .collect();
     let contexts = "[300, 618, 558, 559, 307, 307]";
     [
@@ -118,12 +112,8 @@ fn m11(calls: &Calls, orders: &OrdersAndStore) -> [Said; 2] {
             gained.join(", "),
             "(2,0) 2, (0,1) -2",
         ),
-        row("M11: contexts", format!("{places:?}"), contexts),
+        row("M11: contexts", format!("{:?}", logged.entries), contexts),
     ]
-}
-
-fn orders_with_map(byte: impl Fn(usize) -> u8) -> OrdersAndStore {
-    OrdersAndStore::new(0, &[], (0..ENTRIES).map(byte).collect())
 }
 
 /// A coefficient call over a group that is one varblock, with default contexts.

@@ -1,6 +1,7 @@
 //! The papers' examples, run through the Rust (where it has no such check, through the model of
 //! the paper) and through Netbuff, held against the paper's words.
 
+mod census;
 mod coefficients;
 mod layouts;
 mod likeness;
@@ -12,11 +13,12 @@ use std::fmt;
 use calls::{
     AlikeCall, Answer, CoefficientBuffers, CoefficientsCall, ColumnCount, ColumnCountCall,
     Contexts, ContextsCall, CutCall, GroupBuffers, LayoutBuffers, LayoutCall, OrdersCall, Outcome,
-    Store, Transform,
+    Situation, Store, Transform,
 };
 use jxl_vardct::oracle::Orders;
 
 use crate::expected;
+use crate::walks::Walks;
 
 /// Those who answer the examples.
 struct Calls {
@@ -28,6 +30,7 @@ struct Calls {
     contexts: fn(&ContextsCall) -> Outcome<usize, Contexts>,
     orders: fn(&OrdersCall) -> Outcome<usize, Store>,
     coefficients: fn(&CoefficientsCall, &Orders) -> Outcome<usize, CoefficientBuffers>,
+    census: fn(&Situation, &Walks) -> Answer<u32>,
 }
 
 const RUST: Calls = Calls {
@@ -39,6 +42,7 @@ const RUST: Calls = Calls {
     contexts: expected::contexts,
     orders: expected::orders,
     coefficients: expected::coefficients,
+    census: expected::census,
 };
 
 const NETBUFF: Calls = Calls {
@@ -50,6 +54,7 @@ const NETBUFF: Calls = Calls {
     contexts: ours::contexts,
     orders: ours::orders,
     coefficients: |call, _| ours::coefficients(call),
+    census: |situation, _| ours::census(situation).answer,
 };
 
 /// What the Rust and Netbuff say of an example, and what the paper says.
@@ -102,6 +107,7 @@ fn said(calls: &Calls) -> Vec<Said> {
         reading::said(calls),
         orders::said(calls),
         coefficients::said(calls),
+        census::said(calls),
     ];
     parts.into_iter().flatten().collect()
 }

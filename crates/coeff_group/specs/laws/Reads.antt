@@ -5,7 +5,7 @@ use mathlib.Core.List.{List, [], _∷_, _++_, map, append-assoc, List·Memᴰ·h
 use Prim.Native.Nat.{ℕ, suc, _+_, _*_, _≤_}
 use native.Mathlib.Omega.{arith}
 use native.Mathlib.Numerals.{add-one}
-use borrow.Author.Tests.{le-leb}
+use borrow.Author.Tests.{le-leb, leb-true}
 use lib.Dec.{leb}
 use lib.ListN.{length, getD, set, length-append, length-map}
 use lib.Seq.{sets, set-getD}
@@ -20,7 +20,8 @@ use Rattle.coeff_group.specs.laws.GroupLaws.{read-refused}
 use Rattle.coeff_group.specs.laws.Symbols.{symbolsIn}
 use Rattle.coeff_walk.specs.Sent.{Words, nonZeros, upTo, sent}
 use Rattle.coeff_group.specs.Sequence.{readCells}
-use Rattle.coeff_walk.specs.UsedUp.{Long}
+use Rattle.coeff_walk.specs.UsedUp.{Long, CountRemains, MoreDue, StoppedAmong}
+use Rattle.coeff_walk.specs.laws.Used.{more-due, count-remains}
 use Rattle.coeff_walk.specs.laws.Walks as walks
 use Rattle.coeff_walk.specs.laws.Walks.{gains, none, none-long, gains-none, Stop, run, nonZeros-le, walk-sent}
 use Rattle.coeff_group.specs.laws.Cells.{In, adds, adds-in, adds-both}
@@ -56,9 +57,10 @@ pub record Taken (us : List ℕ) (k : ℕ) (dss : List (List ℕ)) (us′ : List
   pub rest : us ≡ sent dss ++ us′
   pub words : Words us → Words (joined dss)
 
-abbrev pub Tells : List ℕ → ℕ → List (List ℕ) → End → Type 0
-Tells us k dss (ends us′ rows) = Taken us k dss us′
-Tells us k dss (stops why) = Stop (length us) k why
+-- where it stopped: with what 17 and 24 tell of the item that was read last
+abbrev pub Tells : List Item → List ℕ → ℕ → List (List ℕ) → End → Type 0
+Tells its us k dss (ends us′ rows) = Taken us k dss us′
+Tells its us k dss (stops why) = Stop (λ (s : List ℕ). Sized its → StoppedAmong MoreDue its s) (StoppedAmong CountRemains its) us k why
 
 pub record Reads (its : List Item) (us : List ℕ) (F : ℕ → ℕ → List ℕ → PerChannel → Reading) (F′ : List ℕ → ℕ → ℕ → List ℕ → PerChannel → Reading) : Type 0 where
   pub clusters : List ℕ
@@ -69,7 +71,7 @@ pub record Reads (its : List Item) (us : List ℕ) (F : ℕ → ℕ → List ℕ
       → F′ vs s at log G ≡ readBy (longer vs end) (at + length clusters) (sets log at clusters) (adds s G (readCells its) (joined dss))
   pub all : Long its dss
   pub few : length clusters ≤ symbolsIn its
-  pub tells : Tells us (length clusters) dss end
+  pub tells : Tells its us (length clusters) dss end
 
 -- no symbol at any place
 abbrev nones : List Item → List (List ℕ)
@@ -101,7 +103,7 @@ adds-nones s (it ∷ its) G =
 
 -- refused before the first place
 refused-here : (its : List Item) (us : List ℕ) (ks : List ℕ) (why : ℕ → Refusal) (F : ℕ → ℕ → List ℕ → PerChannel → Reading) (F′ : List ℕ → ℕ → ℕ → List ℕ → PerChannel → Reading)
-    → ((s at : ℕ) (log : List ℕ) (G : PerChannel) → F s at log G ≡ refused why (at + length ks) (sets log at ks) G) → length ks ≤ symbolsIn its → Stop (length us) (length ks) why → Reads its us F F′
+    → ((s at : ℕ) (log : List ℕ) (G : PerChannel) → F s at log G ≡ refused why (at + length ks) (sets log at ks) G) → length ks ≤ symbolsIn its → Tells its us (length ks) [] (stops why) → Reads its us F F′
 refused-here its us ks why F F′ e f t = record {
   clusters = ks;
   dss = nones its;
@@ -113,17 +115,44 @@ refused-here its us ks why F F′ e f t = record {
   tells = t;
 }
 
-tells-on : (n m k : ℕ) (us ds us₁ : List ℕ) (dss : List (List ℕ)) (e : End) → walks.Taken n us m ds us₁ → Tells us₁ k dss e → Tells (n ∷ us) (suc (m + k)) (ds ∷ dss) e
+-- one item is read: it is the last, or others come behind it
+module _ {Q : Item → List ℕ → Type 0} (it : Item) (its : List Item) where
+  at-first : (s : List ℕ) → Q it s → StoppedAmong Q (it ∷ its) s
+  unfolding sent
+  at-first s q = record { before = []; it = it; behind = its; parts = refl; earlier = []; last = s; used = record { dss = []; long = tt; are = refl }; holds = q; are = refl }
+
+  behind-first : (ds : List ℕ) → length ds ≡ length (it .cells) → (s : List ℕ) → StoppedAmong Q its s → StoppedAmong Q (it ∷ its) ((nonZeros ds ∷ upTo (nonZeros ds) ds) ++ s)
+  unfolding sent
+  behind-first ds long s m =
+      let xs = nonZeros ds ∷ upTo (nonZeros ds) ds in
+      record {
+        before = it ∷ m .before;
+        it = m .it;
+        behind = m .behind;
+        parts = ap (λ (l : List Item). it ∷ l) (m .parts);
+        earlier = xs ++ m .earlier;
+        last = m .last;
+        used = record { dss = ds ∷ m .used .dss; long = (long, m .used .long); are = ap (λ (l : List ℕ). xs ++ l) (m .used .are) };
+        holds = m .holds;
+        are = ap (λ (l : List ℕ). xs ++ l) (m .are) ∙ sym (append-assoc xs (m .earlier) (m .last));
+      }
+
+tells-on : (it : Item) (its : List Item) (n m k : ℕ) (us ds us₁ : List ℕ) (dss : List (List ℕ)) (e : End) → length ds ≡ length (it .cells)
+    → walks.Taken n us m ds us₁ → Tells its us₁ k dss e → Tells (it ∷ its) (n ∷ us) (suc (m + k)) (ds ∷ dss) e
 unfolding sent
-tells-on n m k us ds us₁ dss (ends us′ rows) w t =
+tells-on it its n m k us ds us₁ dss (ends us′ rows) long w t =
     let a = w .read in let b = t .read in
     record {
       read = omega arith;
       rest = ap₂ (λ (i : ℕ) (l : List ℕ). i ∷ l) (w .due) (w .rest ∙ rw (w .due, t .rest) (sym (append-assoc (upTo (nonZeros ds) ds) (sent dss) us′)));
       words = λ h. let q = w .words (h .1) in words-both ds (joined dss) (q .0) (t .words (q .1));
     }
-tells-on n m k us ds us₁ dss (stops why) w t =
-    walks.stop-later (suc m) (length us₁) k (suc (length us)) (suc (m + k)) why (omega (arith, w .read)) (omega arith) t
+tells-on it its n m k us ds us₁ dss (stops why) long w t =
+    let xs = nonZeros ds ∷ upTo (nonZeros ds) ds in
+    let e : us ≡ upTo (nonZeros ds) ds ++ us₁ = w .rest ∙ ap (λ (j : ℕ). upTo j ds ++ us₁) (w .due) in
+    walks.stop-later xs us₁ (n ∷ us) k (suc (m + k)) why (ap₂ (λ (i : ℕ) (l : List ℕ). i ∷ l) (w .due) e)
+    (omega (arith, w .read, ap length e, length-append (upTo (nonZeros ds) ds) us₁))
+    (λ s q z. behind-first it its ds long s (q (λ (u : Item) (j : In u its). z u (there j)))) (λ s. behind-first it its ds long s) t
 
 module _ (clusters : ℕ) (presetMap : List ℕ) where
   abbrev Claim : List Item → Type 0
@@ -140,8 +169,11 @@ module _ (clusters : ℕ) (presetMap : List ℕ) where
     abbrev rows₁ : PerChannel
     rows₁ = set rows c (newRow it (getD rows c []) (n ∷ us))
 
+    abbrev firstPrev : ℕ
+    firstPrev = cond (leb n (4 * it .blocks)) 1 0
+
     abbrev W : List ℕ → ℕ → ℕ → List ℕ → List ℕ → Walked
-    W vs s at log g = walk s (it .blocks) (coeffMapOf clusters presetMap it) (it .cells) 0 (cond (leb n (4 * it .blocks)) 1 0) n vs at log g
+    W vs s at log g = walk s (it .blocks) (coeffMapOf clusters presetMap it) (it .cells) 0 firstPrev n vs at log g
 
     abbrev on : (b : Bool) → List ℕ → ℕ → ℕ → List ℕ → PerChannel → Reading
     on b vs s at log G = readItems s clusters presetMap its (after c G rows₁ (cond b (W vs s (at + 1) (set log at k) (getD G c [])) (stopped Count (at + 1) (set log at k) (getD G c []))))
@@ -159,8 +191,8 @@ module _ (clusters : ℕ) (presetMap : List ℕ) where
 
       by-end : (e : walks.End) → ((s at : ℕ) (log g : List ℕ) → W us s at log g ≡ walks.walkedBy e (at + length ks) (sets log at ks) (gains s g (it .cells) ds))
           → (walks.Goes e → (vs : List ℕ) (s at : ℕ) (log g : List ℕ) → W (us ++ vs) s at log g ≡ walks.walkedBy (walks.longer vs e) (at + length ks) (sets log at ks) (gains s g (it .cells) ds))
-          → length ks ≤ length (it .cells) → walks.Tells n us (length ks) ds e → Reads (it ∷ its) (n ∷ us) (on true us) (λ vs. on true (us ++ vs))
-      by-end (walks.stops why) is further few t = record {
+          → length ks ≤ length (it .cells) → n ≤ 63 * it .blocks → walks.Tells (it .blocks) 0 firstPrev n (it .cells) us (length ks) ds e → Reads (it ∷ its) (n ∷ us) (on true us) (λ vs. on true (us ++ vs))
+      by-end (walks.stops why) is further few most t = record {
         clusters = k ∷ ks;
         dss = ds ∷ nones its;
         end = stops why;
@@ -173,9 +205,10 @@ module _ (clusters : ℕ) (presetMap : List ℕ) where
         further = λ h vs s at log G. absurd h;
         all = (long, nones-long its);
         few = omega arith;
-        tells = walks.stop-later 1 (length us) (length ks) (suc (length us)) (suc (length ks)) why (omega arith) (omega arith) t;
+        tells = walks.stop-later (n ∷ []) us (n ∷ us) (length ks) (suc (length ks)) why refl (omega arith)
+            (λ s q z. at-first it its (n ∷ s) (more-due it n most firstPrev (few-le n (4 * it .blocks)) (z it (here refl)) s q)) (λ s q. at-first it its (n ∷ s) (count-remains it n most s q)) t;
       }
-      by-end (walks.ends us₁) is further few t =
+      by-end (walks.ends us₁) is further few most t =
           let q = ih us₁ rows₁ in
           let m = q .few in
           record {
@@ -190,14 +223,14 @@ module _ (clusters : ℕ) (presetMap : List ℕ) where
                 ∙ q .further h vs s (at + 1 + length ks) (sets (set log at k) (at + 1) ks) (set G c (gains s (getD G c []) (it .cells) ds)) ∙ both s at log G (longer vs (q .end)) (q .clusters) (joined (q .dss));
             all = (long, q .all);
             few = omega (arith, length-append ks (q .clusters));
-            tells = rw (length-append ks (q .clusters)) (tells-on n (length ks) (length (q .clusters)) us ds us₁ (q .dss) (q .end) t (q .tells));
+            tells = rw (length-append ks (q .clusters)) (tells-on it its n (length ks) (length (q .clusters)) us ds us₁ (q .dss) (q .end) long t (q .tells));
           }
 
-    by-count : (b : Bool) → Reads (it ∷ its) (n ∷ us) (on b us) (λ vs. on b (us ++ vs))
-    by-count true =
-        let r = run (it .blocks) (coeffMapOf clusters presetMap it) (it .cells) 0 (cond (leb n (4 * it .blocks)) 1 0) n us in
-        by-end (r .clusters) (r .ds) (r .all) (r .end) (r .is) (r .further) (r .few) (r .tells)
-    by-count false =
+    by-count : (b : Bool) → leb n (63 * it .blocks) ≡ b → Reads (it ∷ its) (n ∷ us) (on b us) (λ vs. on b (us ++ vs))
+    by-count true e =
+        let r = run (it .blocks) (coeffMapOf clusters presetMap it) (it .cells) 0 firstPrev n us in
+        by-end (r .clusters) (r .ds) (r .all) (r .end) (r .is) (r .further) (r .few) (leb-true n (63 * it .blocks) e) (r .tells)
+    by-count false e =
         refused-here (it ∷ its) (n ∷ us) (k ∷ []) Count _ _
         (λ s at log G. read-refused s clusters presetMap its Count (at + 1) (set log at k) (set G c (getD G c [])) ∙ ap (refused Count (at + 1) (set log at k)) (set-getD G c [])) (omega arith)
         (walks.count refl (omega arith))
@@ -208,7 +241,7 @@ module _ (clusters : ℕ) (presetMap : List ℕ) where
       refused-here (it ∷ its) [] [] SymbolsEnd _ _
       (λ s at log G. let z : at + 0 ≡ at = omega arith in
       read-refused s clusters presetMap its SymbolsEnd at log (set G (it .channel) (getD G (it .channel) [])) ∙ rw z (ap (refused SymbolsEnd at log) (set-getD G (it .channel) []))) (omega arith) (walks.symbolsEnd refl refl)
-  next it its ih (n ∷ us) rows = by-count it its ih n us rows (leb n (63 * it .blocks))
+  next it its ih (n ∷ us) rows = by-count it its ih n us rows (leb n (63 * it .blocks)) refl
 
   pub reads : (its : List Item) → Claim its
   unfolding readItems readCells sent

@@ -5,7 +5,7 @@ use borrow.Author.Needs.{needs}
 use borrow.Author.Tests.{not-true, not-false, le-leb, lt-leb}
 use native.Mathlib.Omega.{arith}
 use lib.ListN.{length}
-use Rattle.coeff_walk.specs.Walk.{FREQ, NUM-NONZERO}
+use Rattle.coeff_context.specs.Context.{FREQ, NUM-NONZERO}
 use Rattle.coeff_walk.specs.laws.Counts.{shifted-left}
 use Rattle.coeff_walk.specs.laws.Lent.{lentFits, fits-ready}
 use Rattle.coeff_walk.specs.laws.Used.{not-done}

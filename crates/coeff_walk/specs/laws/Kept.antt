@@ -9,7 +9,8 @@ use lib.ListN.{length, getD, set, drop, length-set}
 use Rattle.refusal.specs.declared.Refusal.{Refusal}
 use Rattle.refusal.specs.declared.Refusal.the-variants.{SymbolsEnd, TooManyZeros, Count}
 use Rattle.coded_numbers.specs.Signed.{unpackSigned}
-use Rattle.coeff_walk.specs.Walk.{Walked, done, stopped, walk, coeffContext, flag, less, gain}
+use Rattle.coeff_context.specs.Context.{coeffContext}
+use Rattle.coeff_walk.specs.Walk.{Walked, done, stopped, walk, flag, less, gain}
 use Rattle.coeff_walk.specs.Item.{Item, countCluster, coeffMapOf, counted}
 
 -- from symbols us at a position to what a walk ends in; at most n symbols are read

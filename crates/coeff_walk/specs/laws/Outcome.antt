@@ -12,7 +12,8 @@ use lib.ListN.{length, getD, set, take, drop, drop-of-length-le}
 use lib.Seq.{drop-cons, set-out}
 use Rattle.refusal.specs.declared.Refusal.the-variants.{SymbolsEnd, TooManyZeros, CountRemaining}
 use Rattle.coded_numbers.specs.Signed.{unpackSigned}
-use Rattle.coeff_walk.specs.Walk.{Walked, done, stopped, walk, coeffContext, flag, less, gain}
+use Rattle.coeff_context.specs.Context.{coeffContext}
+use Rattle.coeff_walk.specs.Walk.{Walked, done, stopped, walk, flag, less, gain}
 use Rattle.order_natural.specs.Places.{paired}
 use Rattle.coeff_walk.specs.Places.{cellsOf}
 use Rattle.coeff_walk.specs.Item.{Item}

@@ -6,7 +6,8 @@ use Prim.Native.Nat.{ℕ}
 use lib.ListN.{replicate}
 use Rattle.coded_numbers.specs.Signed.{unpackSigned}
 use Rattle.refusal.specs.declared.Refusal.the-variants.{SymbolsEnd, TooManyZeros, CountRemaining}
-use Rattle.coeff_walk.specs.Walk.{FREQ, NUM-NONZERO, coeffContext, done, stopped, walk}
+use Rattle.coeff_context.specs.Context.{FREQ, NUM-NONZERO, coeffContext}
+use Rattle.coeff_walk.specs.Walk.{done, stopped, walk}
 use Rattle.coeff_walk.specs.Item.{counted}
 use Rattle.coeff_walk.specs.Remaining.{readsOne}
 

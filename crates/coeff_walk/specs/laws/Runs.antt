@@ -11,7 +11,8 @@ use lib.Seq.{set-getD, getD-drop}
 use Rattle.laws.specs.laws.Lists.{tail-all}
 use Rattle.laws.specs.laws.Tables.{at-each, each-at}
 use Rattle.coded_numbers.specs.Signed.{unpackSigned}
-use Rattle.coeff_walk.specs.Walk.{walk, coeffContext, FREQ, NUM-NONZERO, gain}
+use Rattle.coeff_context.specs.Context.{coeffContext, FREQ, NUM-NONZERO}
+use Rattle.coeff_walk.specs.Walk.{walk, gain}
 use Rattle.coeff_walk.specs.laws.Outcome.{walk-zero, below-63}
 
 -- the largest entries: of the table by counts below 32 for each block, and of the table by places

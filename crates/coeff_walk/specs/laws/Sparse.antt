@@ -4,7 +4,8 @@ use mathlib.Core.List.{List}
 use Prim.Native.Nat.{ℕ, _+_, _*_, _-_, _/_, _^_, _<_, _≤_}
 use native.Mathlib.Omega.{arith}
 use lib.ListN.{length, getD, set, take, drop, length-set}
-use Rattle.coeff_walk.specs.Walk.{Walked, walk, coeffContext, NUM-NONZERO, gain}
+use Rattle.coeff_context.specs.Context.{coeffContext, NUM-NONZERO}
+use Rattle.coeff_walk.specs.Walk.{Walked, walk, gain}
 use Rattle.coeff_walk.specs.declared.WalkEnd.the-variants.{Done, Stopped}
 use Rattle.refusal.specs.declared.Refusal.the-variants.{SymbolsEnd, CountRemaining}
 use Rattle.coeff_walk.specs.declared.spot.Spot.{Spot}

@@ -1,19 +1,22 @@
 -- What a walk reads, logs and adds, whatever the shift and whatever log and grid held: all of it in one induction.
 use mathlib.Core.Path.{_≡_, refl, ap, ap₂, sym, _∙_}
 use mathlib.Core.Bool.{Bool, true, false, cond}
-use mathlib.Core.List.{List, [], _∷_, _++_}
-use Prim.Native.Nat.{ℕ, zero, suc, _+_, _*_, _^_, _<_, _≤_}
+use mathlib.Core.List.{List, [], _∷_, _++_, append-assoc}
+use mathlib.Core.Logic.{_⊎_, inl, inr}
+use Prim.Native.Nat.{ℕ, zero, suc, _+_, _*_, _<_, _≤_}
 use native.Mathlib.Omega.{arith}
 use native.Mathlib.Numerals.{add-one}
-use borrow.Author.Tests.{lt-ltb}
+use borrow.Author.Tests.{lt-ltb, ltb-false}
 use lib.Dec.{ltb}
-use lib.ListN.{length, getD, set, replicate, length-replicate}
+use lib.ListN.{length, getD, set, replicate, length-replicate, length-append}
 use lib.Seq.{sets}
+use Rattle.laws.specs.laws.Cases.{le-or-lt}
 use Rattle.refusal.specs.declared.Refusal.{Refusal}
 use Rattle.refusal.specs.declared.Refusal.the-variants.{SymbolsEnd, TooManyZeros, Count, CountRemaining}
-use Rattle.coeff_walk.specs.Walk.{Walked, done, stopped, walk, coeffContext, flag, less, gain}
+use Rattle.coeff_context.specs.Context.{coeffContext}
+use Rattle.coeff_walk.specs.Walk.{Walked, done, stopped, walk, flag, less, gain}
 use Rattle.coeff_walk.specs.laws.Kept.{length-gain}
-use Rattle.coeff_walk.specs.laws.Contexts.{context-below}
+use Rattle.coeff_context.specs.laws.Contexts.{context-below}
 use Rattle.coeff_walk.specs.Sent.{Words, more, nonZeros, upTo}
 
 -- symbols added at places, one after the other
@@ -72,19 +75,38 @@ pub record Taken (n : ℕ) (us : List ℕ) (k : ℕ) (ds us′ : List ℕ) : Typ
   pub due : n ≡ nonZeros ds
   pub words : Words us → Words ds × Words us′
 
--- of one that stopped behind k of its symbols: 15 comes only when none is left
-pub data Stop (all k : ℕ) (why : ℕ → Refusal) : Type 0 where
-  symbolsEnd : why ≡ SymbolsEnd → k ≡ all → Stop all k why
-  count : why ≡ Count → k ≤ all → Stop all k why
-  tooManyZeros : why ≡ TooManyZeros → k ≤ all → Stop all k why
-  countRemaining : why ≡ CountRemaining → k ≤ all → Stop all k why
+-- k symbols that were read, in front of those that were not, and what is told of them
+pub record ReadOf (Q : List ℕ → Type 0) (us : List ℕ) (k : ℕ) : Type 0 where
+  pub s : List ℕ
+  pub vs : List ℕ
+  pub are : us ≡ s ++ vs
+  pub long : k ≡ length s
+  pub told : Q s
 
-abbrev pub Tells : ℕ → List ℕ → ℕ → List ℕ → End → Type 0
-Tells n us k ds (ends us′) = Taken n us k ds us′
-Tells n us k ds (stops why) = Stop (length us) k why
+pub read-le : {Q : List ℕ → Type 0} (us : List ℕ) (k : ℕ) → ReadOf Q us k → k ≤ length us
+read-le us k r = omega (arith, r .long, ap length (r .are), length-append (r .s) (r .vs))
+
+-- of one that stopped behind k of its symbols: 15 comes only when none is left; what 17 and 24 tell of the symbols read
+pub data Stop (Due Remains : List ℕ → Type 0) (us : List ℕ) (k : ℕ) (why : ℕ → Refusal) : Type 0 where
+  symbolsEnd : why ≡ SymbolsEnd → k ≡ length us → Stop Due Remains us k why
+  count : why ≡ Count → k ≤ length us → Stop Due Remains us k why
+  tooManyZeros : why ≡ TooManyZeros → ReadOf Due us k → Stop Due Remains us k why
+  countRemaining : why ≡ CountRemaining → ReadOf Remains us k → Stop Due Remains us k why
+
+-- a walk over the places ps, the first of them number i, with n due: behind the symbols ds more are due than places remain; all places are passed, with
+-- fewer symbols that are not 0 than were due
+abbrev pub TooMany : (blocks i prev n : ℕ) (ps ds : List ℕ) → Type 0
+TooMany blocks i prev n ps ds = prev ≤ 1 → (length ds < length ps) × (63 * blocks + nonZeros ds < i + length ds + n)
+
+abbrev pub TooFew : (n : ℕ) (ps ds : List ℕ) → Type 0
+TooFew n ps ds = (length ds ≡ length ps) × (nonZeros ds < n)
+
+abbrev pub Tells : (blocks i prev n : ℕ) (ps us : List ℕ) → ℕ → List ℕ → End → Type 0
+Tells blocks i prev n ps us k ds (ends us′) = Taken n us k ds us′
+Tells blocks i prev n ps us k ds (stops why) = Stop (TooMany blocks i prev n ps) (TooFew n ps) us k why
 
 -- a reading F of the symbols us at the places ps, n of them due; F′ is the same with more symbols behind
-pub record Run (ps : List ℕ) (n : ℕ) (us : List ℕ) (F : ℕ → ℕ → List ℕ → List ℕ → Walked) (F′ : List ℕ → ℕ → ℕ → List ℕ → List ℕ → Walked) : Type 0 where
+pub record Run (blocks i prev n : ℕ) (ps us : List ℕ) (F : ℕ → ℕ → List ℕ → List ℕ → Walked) (F′ : List ℕ → ℕ → ℕ → List ℕ → List ℕ → Walked) : Type 0 where
   pub clusters : List ℕ
   pub ds : List ℕ
   pub end : End
@@ -92,16 +114,30 @@ pub record Run (ps : List ℕ) (n : ℕ) (us : List ℕ) (F : ℕ → ℕ → Li
   pub further : Goes end → (vs : List ℕ) (s at : ℕ) (log g : List ℕ) → F′ vs s at log g ≡ walkedBy (longer vs end) (at + length clusters) (sets log at clusters) (gains s g ps ds)
   pub all : length ds ≡ length ps
   pub few : length clusters ≤ length ps
-  pub tells : Tells n us (length clusters) ds end
+  pub tells : Tells blocks i prev n ps us (length clusters) ds end
 
-either : (ps : List ℕ) (n : ℕ) (us : List ℕ) (b : Bool) (F H : ℕ → ℕ → List ℕ → List ℕ → Walked) (F′ H′ : List ℕ → ℕ → ℕ → List ℕ → List ℕ → Walked)
-    → Run ps n us F F′ → Run ps n us H H′ → Run ps n us (λ s at log g. cond b (F s at log g) (H s at log g)) (λ vs s at log g. cond b (F′ vs s at log g) (H′ vs s at log g))
-either ps n us true F H F′ H′ r q = r
-either ps n us false F H F′ H′ r q = q
+module _ (blocks i prev n : ℕ) (ps us : List ℕ) where
+  either : (b : Bool) (F H : ℕ → ℕ → List ℕ → List ℕ → Walked) (F′ H′ : List ℕ → ℕ → ℕ → List ℕ → List ℕ → Walked) → Run blocks i prev n ps us F F′ → (b ≡ false → Run blocks i prev n ps us H H′)
+      → Run blocks i prev n ps us (λ s at log g. cond b (F s at log g) (H s at log g)) (λ vs s at log g. cond b (F′ vs s at log g) (H′ vs s at log g))
+  either true F H F′ H′ r q = r
+  either false F H F′ H′ r q = q refl
+
+  stops-here : (F′ : List ℕ → ℕ → ℕ → List ℕ → List ℕ → Walked) (why : ℕ → Refusal) → Stop (TooMany blocks i prev n ps) (TooFew n ps) us 0 why
+      → Run blocks i prev n ps us (λ s at log g. stopped why at log g) F′
+  stops-here F′ why t = record {
+    clusters = [];
+    ds = none ps;
+    end = stops why;
+    is = λ s at log g. let z : at + 0 ≡ at = omega arith in rw (z, gains-none s g ps);
+    further = λ h vs s at log g. absurd h;
+    all = none-long ps;
+    few = omega arith;
+    tells = t;
+  }
 
 -- nothing is read
-ends-here : (ps us : List ℕ) → upTo 0 (none ps) ≡ [] → Run ps 0 us (λ s at log g. done us at log g) (λ vs s at log g. done (us ++ vs) at log g)
-ends-here ps us f = record {
+ends-here : (blocks i prev : ℕ) (ps us : List ℕ) → upTo 0 (none ps) ≡ [] → Run blocks i prev 0 ps us (λ s at log g. done us at log g) (λ vs s at log g. done (us ++ vs) at log g)
+ends-here blocks i prev ps us f = record {
   clusters = [];
   ds = none ps;
   end = ends us;
@@ -112,41 +148,55 @@ ends-here ps us f = record {
   tells = record { rest = rw f; read = omega arith; due = sym (none-nonZero ps); words = λ w. (none-words ps, w) };
 }
 
-stops-here : (ps : List ℕ) (n : ℕ) (us : List ℕ) (F′ : List ℕ → ℕ → ℕ → List ℕ → List ℕ → Walked) (why : ℕ → Refusal) → Stop (length us) 0 why
-    → Run ps n us (λ s at log g. stopped why at log g) F′
-stops-here ps n us F′ why t = record {
-  clusters = [];
-  ds = none ps;
-  end = stops why;
-  is = λ s at log g. let z : at + 0 ≡ at = omega arith in rw (z, gains-none s g ps);
-  further = λ h vs s at log g. absurd h;
-  all = none-long ps;
-  few = omega arith;
-  tells = t;
-}
+-- the symbols xs were read before
+pub stop-later : {Due Remains Due′ Remains′ : List ℕ → Type 0} (xs us us′ : List ℕ) (k k′ : ℕ) (why : ℕ → Refusal) → us′ ≡ xs ++ us → k′ ≡ length xs + k
+    → ((s : List ℕ) → Due s → Due′ (xs ++ s)) → ((s : List ℕ) → Remains s → Remains′ (xs ++ s)) → Stop Due Remains us k why → Stop Due′ Remains′ us′ k′ why
+stop-later {Due} {Remains} {Due′} {Remains′} xs us us′ k k′ why e f d r = go
+  where
+    long : length us′ ≡ length xs + length us
+    long = ap length e ∙ length-append xs us
 
--- further symbols were read before
-pub stop-later : (n all k all′ k′ : ℕ) (why : ℕ → Refusal) → all′ ≡ n + all → k′ ≡ n + k → Stop all k why → Stop all′ k′ why
-stop-later n all k all′ k′ why a b (symbolsEnd w e) = symbolsEnd w (omega arith)
-stop-later n all k all′ k′ why a b (count w h) = count w (omega arith)
-stop-later n all k all′ k′ why a b (tooManyZeros w h) = tooManyZeros w (omega arith)
-stop-later n all k all′ k′ why a b (countRemaining w h) = countRemaining w (omega arith)
+    behind : {Q Q′ : List ℕ → Type 0} → ((s : List ℕ) → Q s → Q′ (xs ++ s)) → ReadOf Q us k → ReadOf Q′ us′ k′
+    behind g q = record {
+      s = xs ++ q .s;
+      vs = q .vs;
+      are = e ∙ ap (λ (l : List ℕ). xs ++ l) (q .are) ∙ sym (append-assoc xs (q .s) (q .vs));
+      long = omega (arith, f, q .long, length-append xs (q .s));
+      told = g (q .s) (q .told);
+    }
+
+    go : Stop Due Remains us k why → Stop Due′ Remains′ us′ k′ why
+    go (symbolsEnd w q) = symbolsEnd w (omega (arith, f, q, long))
+    go (count w q) = count w (omega (arith, f, q, long))
+    go (tooManyZeros w q) = tooManyZeros w (behind d q)
+    go (countRemaining w q) = countRemaining w (behind r q)
 
 due-later : (u n m : ℕ) → less u n ≡ m → suc n ≡ more u m
 due-later zero n m e = e
 due-later (suc u) n m e = ap suc e
 
-tells-later : (u n k : ℕ) (us ds : List ℕ) (e : End) → Tells (less u n) us k ds e → Tells (suc n) (u ∷ us) (suc k) (u ∷ ds) e
+many-later : (blocks i prev n u p : ℕ) (ps ds : List ℕ) → TooMany blocks (i + 1) (flag u) (less u n) ps ds → TooMany blocks i prev (suc n) (p ∷ ps) (u ∷ ds)
+unfolding nonZeros
+many-later blocks i prev n zero p ps ds t f = let q = t (omega arith) in (omega (arith, q .0), omega (arith, q .1))
+many-later blocks i prev n (suc u) p ps ds t f = let q = t (omega arith) in (omega (arith, q .0), omega (arith, q .1))
+
+few-later : (n u p : ℕ) (ps ds : List ℕ) → TooFew (less u n) ps ds → TooFew (suc n) (p ∷ ps) (u ∷ ds)
+unfolding nonZeros
+few-later n zero p ps ds t = (ap suc (t .0), t .1)
+few-later n (suc u) p ps ds t = (ap suc (t .0), omega (arith, t .1))
+
+tells-later : (blocks i prev n u k p : ℕ) (ps us ds : List ℕ) (e : End) → Tells blocks (i + 1) (flag u) (less u n) ps us k ds e → Tells blocks i prev (suc n) (p ∷ ps) (u ∷ us) (suc k) (u ∷ ds) e
 unfolding nonZeros upTo
-tells-later u n k us ds (ends us′) t =
+tells-later blocks i prev n u k p ps us ds (ends us′) t =
     let r = t .read in
     record { rest = ap (λ (l : List ℕ). u ∷ l) (t .rest); read = omega arith; due = due-later u n (nonZeros ds) (t .due); words = λ w. let q = t .words (w .1) in ((w .0, q .0), q .1) }
-tells-later u n k us ds (stops why) t = stop-later 1 (length us) k (suc (length us)) (suc k) why (omega arith) (omega arith) t
+tells-later blocks i prev n u k p ps us ds (stops why) t =
+    stop-later (u ∷ []) us (u ∷ us) k (suc k) why refl (omega arith) (λ s. unfold nonZeros in many-later blocks i prev n u p ps s) (λ s. unfold nonZeros in few-later n u p ps s) t
 
 -- a symbol was read before
-later : (p : ℕ) (ps : List ℕ) (n u k : ℕ) (us : List ℕ) (F : ℕ → ℕ → List ℕ → List ℕ → Walked) (F′ : List ℕ → ℕ → ℕ → List ℕ → List ℕ → Walked) → Run ps (less u n) us F F′
-    → Run (p ∷ ps) (suc n) (u ∷ us) (λ s at log g. F s (at + 1) (set log at k) (gain s g p u)) (λ vs s at log g. F′ vs s (at + 1) (set log at k) (gain s g p u))
-later p ps n u k us F F′ r = record {
+later : (blocks i prev n u k p : ℕ) (ps us : List ℕ) (F : ℕ → ℕ → List ℕ → List ℕ → Walked) (F′ : List ℕ → ℕ → ℕ → List ℕ → List ℕ → Walked) → Run blocks (i + 1) (flag u) (less u n) ps us F F′
+    → Run blocks i prev (suc n) (p ∷ ps) (u ∷ us) (λ s at log g. F s (at + 1) (set log at k) (gain s g p u)) (λ vs s at log g. F′ vs s (at + 1) (set log at k) (gain s g p u))
+later blocks i prev n u k p ps us F F′ r = record {
   clusters = k ∷ r .clusters;
   ds = u ∷ r .ds;
   end = r .end;
@@ -154,7 +204,7 @@ later p ps n u k us F F′ r = record {
   further = λ h vs s at log g. r .further h vs s (at + 1) (set log at k) (gain s g p u) ∙ shifted s at log g (longer vs (r .end));
   all = ap suc (r .all);
   few = let m = r .few in omega arith;
-  tells = tells-later u n (length (r .clusters)) us (r .ds) (r .end) (r .tells);
+  tells = tells-later blocks i prev n u (length (r .clusters)) p ps us (r .ds) (r .end) (r .tells);
 }
   where
     shifted : (s at : ℕ) (log g : List ℕ) (e : End) → walkedBy e (at + 1 + length (r .clusters)) (sets (set log at k) (at + 1) (r .clusters)) (gains s (gain s g p u) ps (r .ds))
@@ -163,21 +213,32 @@ later p ps n u k us F F′ r = record {
         ap₂ (λ (m q : ℕ). walkedBy e m (sets (set log at k) q (r .clusters)) (gains s (gain s g p u) ps (r .ds))) (omega arith) (add-one at)
 
 module _ (blocks : ℕ) (coeffMap : List ℕ) where
-  pub run : (ps : List ℕ) (i prev n : ℕ) (us : List ℕ)
-      → Run ps n us (λ s at log g. walk s blocks coeffMap ps i prev n us at log g) (λ vs s at log g. walk s blocks coeffMap ps i prev n (us ++ vs) at log g)
-  unfolding walk upTo
-  run [] i prev zero us = ends-here [] us refl
-  run [] i prev (suc n) us = stops-here [] (suc n) us _ CountRemaining (countRemaining refl (omega arith))
-  run (p ∷ ps) i prev zero us = ends-here (p ∷ ps) us refl
-  run (p ∷ ps) i prev (suc n) [] = go (ltb (coeffContext blocks n i prev) 458)
+  -- 17 before a symbol is read: more are due than places remain, or the context would be below 458
+  too-many : (i prev n p : ℕ) (ps us : List ℕ) → ltb (coeffContext blocks n i prev) 458 ≡ false → Stop (TooMany blocks i prev (suc n) (p ∷ ps)) (TooFew (suc n) (p ∷ ps)) us 0 TooManyZeros
+  unfolding nonZeros
+  too-many i prev n p ps us t = tooManyZeros refl (record { s = []; vs = us; are = refl; long = refl; told = λ f. (omega arith, by f (le-or-lt (suc n + i) (63 * blocks))) })
     where
-      go : (b : Bool) → Run (p ∷ ps) (suc n) [] (λ s at log g. cond b (stopped SymbolsEnd at log g) (stopped TooManyZeros at log g)) (λ vs s at log g. walk s blocks coeffMap (p ∷ ps) i prev (suc n) vs at log g)
-      go true = stops-here (p ∷ ps) (suc n) [] _ SymbolsEnd (symbolsEnd refl refl)
-      go false = stops-here (p ∷ ps) (suc n) [] _ TooManyZeros (tooManyZeros refl (omega arith))
+      by : prev ≤ 1 → (suc n + i ≤ 63 * blocks) ⊎ (63 * blocks < suc n + i) → 63 * blocks + 0 < i + 0 + suc n
+      by f (inl h) = absurd (omega (arith, context-below blocks n i prev h f, ltb-false (coeffContext blocks n i prev) 458 t))
+      by f (inr h) = omega (arith, h)
+
+  pub run : (ps : List ℕ) (i prev n : ℕ) (us : List ℕ)
+      → Run blocks i prev n ps us (λ s at log g. walk s blocks coeffMap ps i prev n us at log g) (λ vs s at log g. walk s blocks coeffMap ps i prev n (us ++ vs) at log g)
+  unfolding walk upTo nonZeros
+  run [] i prev zero us = ends-here blocks i prev [] us refl
+  run [] i prev (suc n) us =
+      stops-here blocks i prev (suc n) [] us _ CountRemaining (countRemaining refl (record { s = []; vs = us; are = refl; long = refl; told = (refl, omega arith) }))
+  run (p ∷ ps) i prev zero us = ends-here blocks i prev (p ∷ ps) us refl
+  run (p ∷ ps) i prev (suc n) [] = go (ltb (coeffContext blocks n i prev) 458) refl
+    where
+      go : (b : Bool) → ltb (coeffContext blocks n i prev) 458 ≡ b
+          → Run blocks i prev (suc n) (p ∷ ps) [] (λ s at log g. cond b (stopped SymbolsEnd at log g) (stopped TooManyZeros at log g)) (λ vs s at log g. walk s blocks coeffMap (p ∷ ps) i prev (suc n) vs at log g)
+      go true t = stops-here blocks i prev (suc n) (p ∷ ps) [] _ SymbolsEnd (symbolsEnd refl refl)
+      go false t = stops-here blocks i prev (suc n) (p ∷ ps) [] _ TooManyZeros (too-many i prev n p ps [] t)
   run (p ∷ ps) i prev (suc n) (u ∷ us) =
-      either (p ∷ ps) (suc n) (u ∷ us) (ltb (coeffContext blocks n i prev) 458) _ _ _ _
-      (later p ps n u (getD coeffMap (coeffContext blocks n i prev) 0) us _ _ (run ps (i + 1) (flag u) (less u n) us))
-      (stops-here (p ∷ ps) (suc n) (u ∷ us) (λ vs s at log g. stopped TooManyZeros at log g) TooManyZeros (tooManyZeros refl (omega arith)))
+      either blocks i prev (suc n) (p ∷ ps) (u ∷ us) (ltb (coeffContext blocks n i prev) 458) _ _ _ _
+      (later blocks i prev n u (getD coeffMap (coeffContext blocks n i prev) 0) p ps us _ _ (run ps (i + 1) (flag u) (less u n) us))
+      (λ t. stops-here blocks i prev (suc n) (p ∷ ps) (u ∷ us) (λ vs s at log g. stopped TooManyZeros at log g) TooManyZeros (too-many i prev n p ps (u ∷ us) t))
 
 -- Symbols that are sent are read.
 pub nonZeros-le : (ds : List ℕ) → nonZeros ds ≤ length ds

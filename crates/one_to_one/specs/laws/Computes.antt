@@ -24,7 +24,8 @@ use Rattle.lent_sides.specs.Limits.{inLimits, lengthsFit}
 use Rattle.lent_cut.specs.Calls.{cutCheck}
 use Rattle.context_index.specs.Contexts.{lfSizeOf, above, lfIndexIn, entryOf}
 use Rattle.context_call.specs.Call.{contextsOf}
-use Rattle.coeff_walk.specs.Walk.{walk, coeffContext, FREQ, NUM-NONZERO}
+use Rattle.coeff_context.specs.Context.{coeffContext, FREQ, NUM-NONZERO}
+use Rattle.coeff_walk.specs.Walk.{walk}
 use Rattle.coeff_walk.specs.Places.{cellsOf}
 use Rattle.coeff_walk.specs.Item.{counted}
 use Rattle.coeff_group.specs.Group.{PerChannel, readItem, readItems}

@@ -1,30 +1,38 @@
--- What a coefficient call tells of its counts (document 02, No. 8): an accepted one has used every count up, and where 24 is told, the last place of a
--- channel was passed with count remaining.
+-- What a coefficient call tells of its counts: an accepted one has used every count up; where 24 is told, the last place of a channel was passed with
+-- count remaining (document 02, No. 8), and where 17 is told, more coefficients of a channel are due than places remain (document 02, No. 9).
 use mathlib.Core.Path.{_≡_, refl, ap, sym, subst, _∙_}
-use mathlib.Core.Bool.{true≢false}
-use mathlib.Core.List.{List}
-use Prim.Native.Nat.{ℕ, _-_}
+use mathlib.Core.Bool.{true, true≢false}
+use mathlib.Core.List.{List, _∷_, _++_, List·Memᴰ·head as here, Memᴰ·append-right}
+use Prim.Native.Nat.{ℕ, _*_, _-_, _<_}
 use native.Mathlib.Omega.{arith}
 use lib.ListN.{length, take}
-use lib.Seq.{sets, take-at}
+use lib.Seq.{take-at}
 use Rattle.refusal.specs.declared.Refusal.{Refusal}
-use Rattle.refusal.specs.declared.Refusal.the-variants.{CountRemaining}
+use Rattle.refusal.specs.declared.Refusal.the-variants.{SymbolsEnd, Count, TooManyZeros, CountRemaining}
 use Rattle.refusal.specs.declared.Said.{Said}
 use Rattle.refusal.specs.Said.{saidAt, said}
 use Rattle.refusal.specs.Answer.{gives, refuses}
+use Rattle.layout.specs.Varblocks.{Varblock}
+use Rattle.layout.specs.Listed.{Among}
+use Rattle.layout.specs.laws.Rectangles.{known}
+use Rattle.layout.specs.laws.Theorems.{layout-iff}
 use Rattle.coeff_walk.specs.declared.WalkEnd.the-variants.{Done}
-use Rattle.coeff_walk.specs.UsedUp.{CountsUsed, RemainsAmong}
-use Rattle.coeff_walk.specs.laws.Walks.{Stop, symbolsEnd, count, tooManyZeros, countRemaining}
-use Rattle.coeff_group.specs.Group.{PerChannel, Reading, going, refused, readItems, zeroRows}
-use Rattle.coeff_group.specs.PassGroup.{PassGroup, varblocks, groupItems}
+use Rattle.coeff_walk.specs.Item.{Item}
+use Rattle.coeff_walk.specs.UsedUp.{CountsUsed, CountRemains, MoreDue, StoppedAmong}
+use Rattle.coeff_walk.specs.laws.Walks.{ReadOf, Stop, symbolsEnd, count, tooManyZeros, countRemaining}
+use Rattle.coeff_group.specs.Group.{Reading, going, refused}
+use Rattle.coeff_group.specs.PassGroup.{PassGroup, varblocks, itemOf, groupItems}
 use Rattle.coeff_group.specs.Work.{clustersOf}
+use Rattle.coeff_group.specs.laws.Cells.{In}
 use Rattle.coeff_group.specs.laws.Due.{walkOf}
-use Rattle.coeff_group.specs.laws.GroupLaws.{group-items}
-use Rattle.coeff_group.specs.laws.Used.{group-uses, items-remain}
-use Rattle.coeff_group.specs.laws.Reads.{End, ends, stops, readBy, Tells}
-use Rattle.coeff_call.specs.Call.{Lent, Outcome, presetMap, reading, outcomeOf, call}
-use Rattle.one_to_one.specs.laws.Ways.{Way, before, work, way, same-said, no-answer, did}
-use Rattle.one_to_one.specs.Filling.{tellsRead}
+use Rattle.coeff_group.specs.laws.Symbols.{places-many}
+use Rattle.coeff_group.specs.laws.Used.{group-uses}
+use Rattle.coeff_group.specs.laws.Reads.{Sized, End, ends, stops, Tells}
+use Rattle.coeff_call.specs.Call.{Lent, Outcome, Passed, presetMap, reading, outcomeOf, call}
+use Rattle.coeff_call.specs.laws.CallLaws.{lengths-fit}
+use Rattle.one_to_one.specs.Filling.{tellsRead, ChannelOf}
+use Rattle.one_to_one.specs.laws.Items.{each-item}
+use Rattle.one_to_one.specs.laws.Ways.{Way, before, work, way, same-said, no-answer, did, answerBy, outcome-by}
 
 module _ (L : Lent) where
   read-to : (R : Reading) (n : ℕ) → outcomeOf R .answer ≡ gives n → walkOf R ≡ Done n
@@ -44,36 +52,73 @@ module _ (L : Lent) where
   pub counts-used : (n : ℕ) → call L .answer ≡ gives n → CountsUsed (groupItems (L .passGroup)) (take n (L .symbols))
   counts-used = used-by (way L)
 
-  -- a refusal of the reading that is 24
-  is-24 : (why : ℕ → Refusal) (all at k : ℕ) → Stop all at why → said (why at) ≡ saidAt 24 k 0 → (why ≡ CountRemaining) × (at ≡ k)
-  is-24 why all at k (symbolsEnd w h) q = absurd (let z : _≡_ {A = ℕ} 15 24 = ap (λ (s : Said). s .number) (rw w at q) in omega arith)
-  is-24 why all at k (count w h) q = absurd (let z : _≡_ {A = ℕ} 16 24 = ap (λ (s : Said). s .number) (rw w at q) in omega arith)
-  is-24 why all at k (tooManyZeros w h) q = absurd (let z : _≡_ {A = ℕ} 17 24 = ap (λ (s : Said). s .number) (rw w at q) in omega arith)
-  is-24 why all at k (countRemaining w h) q = (w, ap (λ (s : Said). s .x) (rw w at q))
+  abbrev P : PassGroup
+  P = L .passGroup
 
-  remains-by : Way L → (k : ℕ) → call L .answer ≡ refuses (saidAt 24 k 0) → RemainsAmong (groupItems (L .passGroup)) (take k (L .symbols))
-  unfolding reading
-  remains-by (before s t e) k a =
-      let q = same-said s (saidAt 24 k 0) (sym (ap (λ (o : Outcome). o .answer) (e (L .symbols) (L .log) refl)) ∙ a) in
-      absurd (true≢false (sym (ap (λ (r : Said). tellsRead (r .number)) q) ∙ t))
-  remains-by (work passed preset e) k a =
+  -- a channel's places are 63 for each block, whatever the store holds
+  sized : Passed L → Sized (groupItems P)
+  sized passed =
+      let l = lengths-fit L (passed .lengths) in
+      let lay = layout-iff (P .bw) (P .bh) (P .kinds) (P .hfMul) (l .kinds) (l .hfMul) .0 (passed .layout) in
+      each-item P (λ (it : Item). length (it .cells) ≡ 63 * it .blocks) (varblocks P) (λ v i n c hn hc. unfold itemOf in places-many P (l .store) v (known lay v i) c hc)
+
+  -- how the reading stopped behind so many symbols
+  abbrev StopAt : ℕ → (ℕ → Refusal) → Type 0
+  StopAt = Stop (λ (s : List ℕ). Sized (groupItems P) → StoppedAmong MoreDue (groupItems P) s) (StoppedAmong CountRemains (groupItems P)) (L .symbols)
+
+  -- where the answer is a refusal that tells the symbols read
+  record Stopped (s : Said) : Type 0 where
+    checks : Passed L
+    at : ℕ
+    why : ℕ → Refusal
+    tells : said (why at) ≡ s
+    stop : StopAt at why
+
+  stopped-by : Way L → (s : Said) → tellsRead (s .number) ≡ true → call L .answer ≡ refuses s → Stopped s
+  stopped-by (before r t e) s h a =
+      let q = same-said r s (sym (ap (λ (o : Outcome). o .answer) (e (L .symbols) (L .log) refl)) ∙ a) in
+      absurd (true≢false (sym h ∙ sym (ap (λ (r : Said). tellsRead (r .number)) q) ∙ t))
+  stopped-by (work passed preset e) s h a =
       let d = did L preset in
-      go (length (d .clusters)) (sets (L .log) 0 (d .clusters)) _ (d .dss) (d .end) (d .is (L .log)) (d .tells) (sym (ap (λ (o : Outcome). o .answer) (e (L .symbols) (L .log) refl)) ∙ a)
+      let b : call L .answer ≡ answerBy (d .end) (length (d .clusters)) =
+      ap (λ (o : Outcome). o .answer) (e (L .symbols) (L .log) refl ∙ ap outcomeOf (d .is (L .log)) ∙ outcome-by (d .end) (length (d .clusters)) _ _) in
+      go (length (d .clusters)) (d .dss) (d .end) (d .tells) (sym b ∙ a)
     where
-      P : PassGroup
-      P = L .passGroup
+      go : (k : ℕ) (dss : List (List ℕ)) (end : End) → Tells (groupItems P) (L .symbols) k dss end → answerBy end k ≡ refuses s → Stopped s
+      go k dss (ends us rows) t b = absurd (no-answer s k (sym b))
+      go k dss (stops why) t b = record { checks = passed; at = k; why = why; tells = same-said (said (why k)) s b; stop = t }
 
-      by-items : reading L preset ≡ readItems (L .shift) (clustersOf P) (presetMap L preset) (groupItems P) (going (L .symbols) 0 (L .log) (L .grids) zeroRows)
-      by-items = group-items (L .shift) (clustersOf P) (presetMap L preset) P (varblocks P) (going (L .symbols) 0 (L .log) (L .grids) zeroRows)
+  -- the symbols that were read are the first k of those lent
+  first-read : {Q : List ℕ → Type 0} (at k : ℕ) → at ≡ k → ReadOf Q (L .symbols) at → Q (take k (L .symbols))
+  first-read {Q} at k e r = subst Q (sym (ap (take k) (r .are) ∙ take-at (r .s) (r .vs) k (omega (arith, r .long, e)))) (r .told)
 
-      go : (m : ℕ) (log : List ℕ) (G : PerChannel) (dss : List (List ℕ)) (end : End) → reading L preset ≡ readBy end m log G → Tells (L .symbols) m dss end
-          → outcomeOf (reading L preset) .answer ≡ refuses (saidAt 24 k 0) → RemainsAmong (groupItems (L .passGroup)) (take k (L .symbols))
-      go m log G dss (ends us rows) q t b = absurd (let z = sym (ap (λ (R : Reading). outcomeOf R .answer) q) ∙ b in let y : _≡_ {A = ℕ} 0 1 = cc in omega arith)
-      go m log G dss (stops why) q t b =
-          let w = is-24 why (length (L .symbols)) m k t (same-said (said (why m)) (saidAt 24 k 0) (sym (ap (λ (R : Reading). outcomeOf R .answer) q) ∙ b)) in
-          let r = items-remain (L .shift) (clustersOf P) (presetMap L preset) (groupItems P) (L .symbols) 0 (L .log) (L .grids) zeroRows why m log G (sym by-items ∙ q) (w .0) in
-          subst (RemainsAmong (groupItems P)) (sym (ap (take k) (r .are) ∙ take-at (r .s) (r .vs) k (omega (arith, r .read, w .1)))) (r .among)
+  -- no other refusal has its number
+  number-is : (of why : ℕ → Refusal) (at : ℕ) (s : Said) → why ≡ of → said (why at) ≡ s → s .number ≡ said (of at) .number
+  number-is of why at s w e = sym (ap (λ (r : Said). r .number) e) ∙ ap (λ (f : ℕ → Refusal). said (f at) .number) w
 
-  -- 24 with k symbols read: earlier channels of the group have used their counts up, then the last place of one was passed with count remaining
-  pub count-remains : (k : ℕ) → call L .answer ≡ refuses (saidAt 24 k 0) → RemainsAmong (groupItems (L .passGroup)) (take k (L .symbols))
-  count-remains = remains-by (way L)
+  module _ (k : ℕ) where
+    remains-at : (at : ℕ) (why : ℕ → Refusal) → said (why at) ≡ saidAt 24 k 0 → StopAt at why → StoppedAmong CountRemains (groupItems P) (take k (L .symbols))
+    remains-at at why e (symbolsEnd w h) = absurd (omega (arith, number-is SymbolsEnd why at _ w e))
+    remains-at at why e (count w h) = absurd (omega (arith, number-is Count why at _ w e))
+    remains-at at why e (tooManyZeros w h) = absurd (omega (arith, number-is TooManyZeros why at _ w e))
+    remains-at at why e (countRemaining w h) = first-read at k (ap (λ (s : Said). s .x) (rw w at e)) h
+
+    due-at : (at : ℕ) (why : ℕ → Refusal) → said (why at) ≡ saidAt 17 k 0 → Sized (groupItems P) → StopAt at why → StoppedAmong MoreDue (groupItems P) (take k (L .symbols))
+    due-at at why e z (symbolsEnd w h) = absurd (omega (arith, number-is SymbolsEnd why at _ w e))
+    due-at at why e z (count w h) = absurd (omega (arith, number-is Count why at _ w e))
+    due-at at why e z (tooManyZeros w h) = first-read at k (ap (λ (s : Said). s .x) (rw w at e)) h z
+    due-at at why e z (countRemaining w h) = absurd (omega (arith, number-is CountRemaining why at _ w e))
+
+    -- 24 with k symbols read: earlier channels of the group have used their counts up, then the last place of one was passed with count remaining
+    pub count-remains : call L .answer ≡ refuses (saidAt 24 k 0) → StoppedAmong CountRemains (groupItems (L .passGroup)) (take k (L .symbols))
+    count-remains a = let r = stopped-by (way L) _ refl a in remains-at (r .at) (r .why) (r .tells) (r .stop)
+
+    -- 17 with k symbols read: earlier channels have used their counts up, then more coefficients of one are due than places remain
+    pub more-due : call L .answer ≡ refuses (saidAt 17 k 0) → StoppedAmong MoreDue (groupItems (L .passGroup)) (take k (L .symbols))
+    more-due a = let r = stopped-by (way L) _ refl a in due-at (r .at) (r .why) (r .tells) (sized (r .checks)) (r .stop)
+
+-- the channel is one of a varblock of the group
+pub at-varblock : {Q : Item → List ℕ → Type 0} (P : PassGroup) (s : List ℕ) → (m : StoppedAmong Q (groupItems P) s) → ChannelOf P (m .it)
+at-varblock P s m =
+    each-item P (ChannelOf P) (varblocks P) (λ v i n c hn hc. record { of = v; there = i; n = n; c = c; is = refl }) (m .it)
+    (subst (In (m .it)) (sym (m .parts)) (Memᴰ·append-right (m .before) (here refl)))

@@ -10,7 +10,8 @@ use lib.ListN.{length, getD, set, drop, length-set, length-drop}
 use lib.Seq.{sets, length-sets, length-take-le}
 use borrow.Author.Tests.{leb-true, leb-false}
 use Rattle.refusal.specs.declared.Refusal.the-variants.{Count}
-use Rattle.coeff_walk.specs.Walk.{FREQ, NUM-NONZERO, Walked, stopped, walk, coeffContext, flag, less, gain}
+use Rattle.coeff_context.specs.Context.{FREQ, NUM-NONZERO, coeffContext}
+use Rattle.coeff_walk.specs.Walk.{Walked, stopped, walk, flag, less, gain}
 use Rattle.coeff_walk.specs.laws.Kept.{length-gain}
 use Rattle.coeff_walk.specs.laws.Counts.{count-over}
 use Rattle.laws.specs.Lists.{fillFrom}

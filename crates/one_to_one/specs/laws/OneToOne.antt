@@ -114,7 +114,7 @@ module _ (clusters : ℕ) (presetMap : List ℕ) (its : List Item) (G W : PerCha
   to-last : (s : List ℕ) (at : ℕ) (log′ : List ℕ) (F rows′ : PerChannel) → reading clusters presetMap its s log G rows ≡ going [] at log′ F rows′ → at ≡ length s
   to-last s at log′ F rows′ e = let q = run.reads clusters presetMap its s rows in go (length (q .clusters)) (sets log 0 (q .clusters)) (adds 0 G (readCells its) (joined (q .dss))) (q .dss) (q .end) (q .is 0 0 log G) (q .tells)
     where
-      go : (k : ℕ) (l : List ℕ) (H : PerChannel) (ess : List (List ℕ)) (e₁ : run.End) → reading clusters presetMap its s log G rows ≡ run.readBy e₁ (0 + k) l H → run.Tells s k ess e₁ → at ≡ length s
+      go : (k : ℕ) (l : List ℕ) (H : PerChannel) (ess : List (List ℕ)) (e₁ : run.End) → reading clusters presetMap its s log G rows ≡ run.readBy e₁ (0 + k) l H → run.Tells its s k ess e₁ → at ≡ length s
       go k l H ess (run.ends us rows₁) f t =
           let g : going [] at log′ F rows′ ≡ going us (0 + k) l H rows₁ = sym e ∙ f in
           let a : at ≡ 0 + k = cc in let b : _≡_ {A = List ℕ} [] us = cc in
@@ -135,7 +135,7 @@ module _ (clusters : ℕ) (presetMap : List ℕ) (its : List Item) (G W : PerCha
   unique s h f = let q = run.reads clusters presetMap its s rows in go (length (q .clusters)) (sets log 0 (q .clusters)) (q .dss) (q .end) (q .all) (q .is 0 0 log G) (q .tells)
     where
       go : (k : ℕ) (l : List ℕ) (ess : List (List ℕ)) (e : run.End) → Long its ess → reading clusters presetMap its s log G rows ≡ run.readBy e (0 + k) l (adds 0 G (readCells its) (joined ess))
-          → run.Tells s k ess e → s ≡ sent dss
+          → run.Tells its s k ess e → s ≡ sent dss
       go k l ess (run.ends us rows₁) long e t =
           let a : gives (0 + k) ≡ gives (length s) = sym (ap (λ (x : Reading). outcomeOf x .answer) e) ∙ f .accepted in
           let b : 0 + k ≡ length s = cc in

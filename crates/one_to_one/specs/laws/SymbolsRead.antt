@@ -19,7 +19,8 @@ use Rattle.coeff_call.specs.Call.{Lent, Outcome, reading, outcomeOf, refuse, ca
 use Rattle.coeff_call.specs.laws.CallLaws.{lengths-fit}
 use Rattle.coeff_group.specs.laws.Symbols.{most-symbols}
 use Rattle.one_to_one.specs.Filling.{relent, withLog, tellsRead, symbolsRead}
-use Rattle.coeff_walk.specs.laws.Walks.{symbolsEnd, count, tooManyZeros, countRemaining}
+use Rattle.coeff_walk.specs.Item.{Item}
+use Rattle.coeff_walk.specs.laws.Walks.{symbolsEnd, count, tooManyZeros, countRemaining, read-le}
 use Rattle.coeff_group.specs.laws.Cells.{adds}
 use Rattle.coeff_group.specs.laws.Reads.{End, ends, stops, Tells, joined}
 use Rattle.one_to_one.specs.laws.Ways.{Way, before, work, way, same-said, did, answerBy, outcome-by}
@@ -57,39 +58,40 @@ by-refusal L s t e =
     not-15 x = true≢false (sym (ap tellsRead x) ∙ t)
 
 -- what the end of a reading tells
-told-by : (e : End) (us : List ℕ) (k : ℕ) (dss : List (List ℕ)) → Tells us k dss e → symbolsRead (answerBy e k) ≡ k
-told-by (ends us′ rows) us k dss t = refl
-told-by (stops why) us k dss (symbolsEnd w e) = rw w
-told-by (stops why) us k dss (count w h) = rw w
-told-by (stops why) us k dss (tooManyZeros w h) = rw w
-told-by (stops why) us k dss (countRemaining w h) = rw w
+module _ (its : List Item) (us : List ℕ) (k : ℕ) (dss : List (List ℕ)) where
+  told-by : (e : End) → Tells its us k dss e → symbolsRead (answerBy e k) ≡ k
+  told-by (ends us′ rows) t = refl
+  told-by (stops why) (symbolsEnd w e) = rw w
+  told-by (stops why) (count w h) = rw w
+  told-by (stops why) (tooManyZeros w r) = rw w
+  told-by (stops why) (countRemaining w r) = rw w
 
-there-by : (e : End) (us : List ℕ) (k : ℕ) (dss : List (List ℕ)) → Tells us k dss e → k ≤ length us
-there-by (ends us′ rows) us k dss t = omega (arith, t .read)
-there-by (stops why) us k dss (symbolsEnd w e) = omega arith
-there-by (stops why) us k dss (count w h) = h
-there-by (stops why) us k dss (tooManyZeros w h) = h
-there-by (stops why) us k dss (countRemaining w h) = h
+  there-by : (e : End) → Tells its us k dss e → k ≤ length us
+  there-by (ends us′ rows) t = omega (arith, t .read)
+  there-by (stops why) (symbolsEnd w e) = omega arith
+  there-by (stops why) (count w h) = h
+  there-by (stops why) (tooManyZeros w r) = read-le us k r
+  there-by (stops why) (countRemaining w r) = read-le us k r
 
-last-by : (e : End) (us : List ℕ) (k : ℕ) (dss : List (List ℕ)) → Tells us k dss e → (n : ℕ) → answerBy e k ≡ refuses (refusals.saidAt 15 n 0) → n ≡ length us
-last-by (ends us′ rows) us k dss t n e = absurd (let z : _≡_ {A = ℕ} 0 1 = cc in omega arith)
-last-by (stops why) us k dss (symbolsEnd w f) n e =
-    let a : said (why k) ≡ refusals.saidAt 15 n 0 = cc in
-    let b : said (SymbolsEnd k) ≡ refusals.saidAt 15 n 0 = rw w at a in
-    let c : k ≡ n = ap (λ (s : Said). s .x) b in
-    omega arith
-last-by (stops why) us k dss (count w h) n e =
-    let a : refuses (said (Count k)) ≡ refuses (refusals.saidAt 15 n 0) = rw w at e in
-    let z : _≡_ {A = ℕ} 16 15 = number-of (said (Count k)) (refusals.saidAt 15 n 0) a in
-    absurd (omega arith)
-last-by (stops why) us k dss (tooManyZeros w h) n e =
-    let a : refuses (said (TooManyZeros k)) ≡ refuses (refusals.saidAt 15 n 0) = rw w at e in
-    let z : _≡_ {A = ℕ} 17 15 = number-of (said (TooManyZeros k)) (refusals.saidAt 15 n 0) a in
-    absurd (omega arith)
-last-by (stops why) us k dss (countRemaining w h) n e =
-    let a : refuses (said (CountRemaining k)) ≡ refuses (refusals.saidAt 15 n 0) = rw w at e in
-    let z : _≡_ {A = ℕ} 24 15 = number-of (said (CountRemaining k)) (refusals.saidAt 15 n 0) a in
-    absurd (omega arith)
+  last-by : (e : End) → Tells its us k dss e → (n : ℕ) → answerBy e k ≡ refuses (refusals.saidAt 15 n 0) → n ≡ length us
+  last-by (ends us′ rows) t n e = absurd (let z : _≡_ {A = ℕ} 0 1 = cc in omega arith)
+  last-by (stops why) (symbolsEnd w f) n e =
+      let a : said (why k) ≡ refusals.saidAt 15 n 0 = cc in
+      let b : said (SymbolsEnd k) ≡ refusals.saidAt 15 n 0 = rw w at a in
+      let c : k ≡ n = ap (λ (s : Said). s .x) b in
+      omega arith
+  last-by (stops why) (count w h) n e =
+      let a : refuses (said (Count k)) ≡ refuses (refusals.saidAt 15 n 0) = rw w at e in
+      let z : _≡_ {A = ℕ} 16 15 = number-of (said (Count k)) (refusals.saidAt 15 n 0) a in
+      absurd (omega arith)
+  last-by (stops why) (tooManyZeros w r) n e =
+      let a : refuses (said (TooManyZeros k)) ≡ refuses (refusals.saidAt 15 n 0) = rw w at e in
+      let z : _≡_ {A = ℕ} 17 15 = number-of (said (TooManyZeros k)) (refusals.saidAt 15 n 0) a in
+      absurd (omega arith)
+  last-by (stops why) (countRemaining w r) n e =
+      let a : refuses (said (CountRemaining k)) ≡ refuses (refusals.saidAt 15 n 0) = rw w at e in
+      let z : _≡_ {A = ℕ} 24 15 = number-of (said (CountRemaining k)) (refusals.saidAt 15 n 0) a in
+      absurd (omega arith)
 
 by-reading : (L : Lent) → Passed L → (preset : ℕ) → ((symbols log : List ℕ) → length log ≡ length (L .log) → call (relent L symbols log) ≡ outcomeOf (reading (relent L symbols log) preset)) → Tied L
 by-reading L passed preset e =
@@ -107,11 +109,11 @@ by-reading L passed preset e =
     let g : call L .grids ≡ G = ap (λ (o : Outcome). o .grids) (start (L .log) refl) in
     record {
       clusters = ks;
-      each = sym (ap symbolsRead a ∙ told-by (d .end) (L .symbols) (length ks) (d .dss) (d .tells));
+      each = sym (ap symbolsRead a ∙ told-by (itemsOf P (varblocks P)) (L .symbols) (length ks) (d .dss) (d .end) (d .tells));
       most = most;
-      there = there-by (d .end) (L .symbols) (length ks) (d .dss) (d .tells);
+      there = there-by (itemsOf P (varblocks P)) (L .symbols) (length ks) (d .dss) (d .end) (d .tells);
       room = room;
-      none = λ k f. last-by (d .end) (L .symbols) (length ks) (d .dss) (d .tells) k (sym a ∙ f);
+      none = λ k f. last-by (itemsOf P (varblocks P)) (L .symbols) (length ks) (d .dss) (d .end) (d .tells) k (sym a ∙ f);
       logs = λ log k. start log k ∙ rw (← a, ← g) (ap (λ (m : List ℕ). record { answer = call L .answer; log = m; grids = call L .grids }) (front log ks (omega arith)));
     }
   where

@@ -5,7 +5,7 @@ use mathlib.Core.Bool.{true}
 use mathlib.Core.List.{List, [], _∷_}
 use Prim.Native.Nat.{ℕ, _*_}
 use native.Mathlib.Omega.{arith}
-use lib.ListN.{length, replicate}
+use lib.ListN.{length, take, replicate}
 use borrow.Author.Tests.{eq-eqb}
 use Rattle.bits.specs.Bits.{Value}
 use Rattle.layout_filter.specs.declared.Filter.the-variants.{Off}
@@ -14,10 +14,13 @@ use Rattle.layout_call.specs.Call.{Inputs, inputs, layoutOf}
 use Rattle.order_store.specs.Store.{PLACES}
 use Rattle.context_call.specs.Call.{contextsOf}
 use Rattle.refusal.specs.Said.{saidAt}
-use Rattle.refusal.specs.Answer.{gives, refuses}
+use Rattle.refusal.specs.Answer.{Answer, gives, refuses}
 use Rattle.coeff_group.specs.Group.{Reading, going, readItems, zeroRows}
 use Rattle.coeff_group.specs.laws.GroupLaws.{group-items}
-use Rattle.coeff_group.specs.PassGroup.{varblocks, itemsOf}
+use Rattle.coeff_walk.specs.Sent.{nonZeros, sent}
+use Rattle.coeff_walk.specs.UsedUp.{MoreDue, StoppedAmong}
+use Rattle.coeff_group.specs.PassGroup.{varblocks, itemOf, groupItems}
+use Rattle.layout.specs.Varblocks.{varblock}
 use Rattle.coeff_call.specs.Call.{Lent, Outcome, allLengthsFit, presetBits, presetMap, reading, outcomeOf, call}
 use Rattle.lent_check.specs.GroupSides.{groupSides}
 use Rattle.lent_cut.specs.Calls.{outcome, cutOf}
@@ -28,10 +31,10 @@ use Rattle.one_to_one.specs.Filling.{wanted as wantedOf, withSymbols, Fi
 use Rattle.one_to_one.specs.laws.Demand3.{one-sequence}
 use Rattle.one_to_one.specs.laws.Wanted.{wanted-filling}
 use Rattle.one_to_one.specs.laws.Chain.{fixed-by-calls}
-use Rattle.one_to_one.specs.laws.Computes.{cut-computes, bits-compute, reading-computes, sequence-computes, wanted-computes, below, cells-below}
+use Rattle.one_to_one.specs.laws.Computes.{cut-computes, bits-compute, items-compute, reading-computes, sequence-computes, wanted-computes, below, cells-below}
 use Rattle.one_to_one.specs.Plain.{store}
 use Rattle.one_to_one.specs.laws.Plain.{store-long, order-0, store-wrote, defaults-read}
-use Rattle.one_to_one.specs.Witness.{one, wanted, zeros, remaining}
+use Rattle.one_to_one.specs.Witness.{one, wanted, zeros, remaining, tooManyZeros, twoAtTheLast}
 use Rattle.one_to_one.specs.laws.OverCall.{group-read}
 use Rattle.coeff_group.specs.Sequence.{inCell, theSequence}
 
@@ -110,27 +113,48 @@ sequence-is = rw (order-0 0 (omega arith), order-0 1 (omega arith), order-0 2 (o
 pub filled : Fills one (2 ∷ 3 ∷ 0 ∷ 4 ∷ 0 ∷ 0 ∷ []) wanted
 filled = let o = one-sequence one fixed wanted filling in o .1 (2 ∷ 3 ∷ 0 ∷ 4 ∷ 0 ∷ 0 ∷ []) (rw sequence-is at (o .0)) .1 (sym sequence-is)
 
--- A count that is not used up is refused.
+-- Symbols that are refused while they are read.
+module _ (symbols : List ℕ) where
+  abbrev L : Lent
+  L = withSymbols one symbols
 
--- reading the group's items, whatever the preset's part
-module _ (presetMap : List ℕ) where
-  abbrev end : Reading
-  end = readItems 0 15 presetMap (itemsOf (one .passGroup) (varblocks (one .passGroup))) (going remaining 0 (one .log) (one .grids) zeroRows)
+  -- reading the group's items, whatever the preset's part
+  abbrev end : List ℕ → Reading
+  end presetMap = readItems 0 15 presetMap (groupItems (one .passGroup)) (going symbols 0 (one .log) (one .grids) zeroRows)
 
-  end-is : outcomeOf end .answer ≡ refuses (saidAt 24 64 0)
-  unfolding reading-computes
-  end-is = rw (order-0 1 (omega arith))
+  by-items : reading L 0 ≡ end (presetMap L 0)
+  unfolding reading contextsOf
+  by-items = group-items 0 15 (presetMap L 0) (one .passGroup) (varblocks (one .passGroup)) (going symbols 0 (one .log) (one .grids) zeroRows)
 
-abbrev L : Lent
-L = withSymbols one remaining
+  answer-by : (a : Answer ℕ) → ((presetMap : List ℕ) → outcomeOf (end presetMap) .answer ≡ a) → call (withSymbols one symbols) .answer ≡ a
+  answer-by a h =
+      let e : Value (fixed .rest .preset) (fixed .rest .bitsRead) ≡ Value 0 0 = sym (fixed .rest .readWhole) ∙ no-bits in
+      let z : fixed .rest .preset ≡ 0 = cc in
+      ap (λ (o : Outcome). o .answer) (group-read one fixed symbols) ∙ ap (λ (n : ℕ). outcomeOf (reading L n) .answer) z ∙ ap (λ (r : Reading). outcomeOf r .answer) by-items ∙ h (presetMap L 0)
 
-by-items : reading L 0 ≡ end (presetMap L 0)
-unfolding reading contextsOf
-by-items = group-items 0 15 (presetMap L 0) (one .passGroup) (varblocks (one .passGroup)) (going remaining 0 (one .log) (one .grids) zeroRows)
-
--- behind the last place's symbol
+-- 24 behind the last place's symbol
 pub remaining-refused : call (withSymbols one remaining) .answer ≡ refuses (saidAt 24 64 0)
-remaining-refused =
-    let e : Value (fixed .rest .preset) (fixed .rest .bitsRead) ≡ Value 0 0 = sym (fixed .rest .readWhole) ∙ no-bits in
-    let z : fixed .rest .preset ≡ 0 = cc in
-    ap (λ (o : Outcome). o .answer) (group-read one fixed remaining) ∙ ap (λ (n : ℕ). outcomeOf (reading L n) .answer) z ∙ ap (λ (r : Reading). outcomeOf r .answer) by-items ∙ end-is (presetMap L 0)
+remaining-refused = answer-by remaining _ (λ p. unfold reading-computes in rw (order-0 1 (omega arith)))
+
+-- 17 behind 31 zeros, where 33 are due at 32 places (document 01, Refused)
+pub zeros-refused : call (withSymbols one tooManyZeros) .answer ≡ refuses (saidAt 17 32 0)
+zeros-refused = answer-by tooManyZeros _ (λ p. unfold reading-computes in rw (order-0 1 (omega arith)))
+
+-- The converse of `more-due` fails: behind 62 zeros two are due at the one place that remains, and 17 is not told; that place's symbol is read, and then
+-- 24 is told.
+pub two-due : StoppedAmong MoreDue (groupItems (one .passGroup)) (take 63 twoAtTheLast)
+unfolding items-compute nonZeros sent
+two-due = record {
+  before = [];
+  it = itemOf (one .passGroup) (varblock 0 0 0 1) 0 1;
+  behind = itemOf (one .passGroup) (varblock 0 0 0 1) 1 0 ∷ itemOf (one .passGroup) (varblock 0 0 0 1) 2 2 ∷ [];
+  parts = refl;
+  earlier = [];
+  last = 2 ∷ replicate 62 0;
+  used = record { dss = []; long = tt; are = refl };
+  holds = record { count = 2; most = omega arith; ds = replicate 62 0; due = 2; still = refl; remaining = 1; places = rw (order-0 1 (omega arith)); some = omega arith; more = omega arith; are = refl };
+  are = refl;
+}
+
+pub two-not-17 : call (withSymbols one twoAtTheLast) .answer ≡ refuses (saidAt 24 64 0)
+two-not-17 = answer-by twoAtTheLast _ (λ p. unfold reading-computes in rw (order-0 1 (omega arith)))

@@ -8,10 +8,10 @@ use Rattle.replay.proofs.names.text.Reads as text-reads
 use Rattle.replay.proofs.walk.replay_call.Reads as replay-call-reads
 
 abbrev Inv-loop : tie.InvT-loop
-Inv-loop file words records₀ call₀ t6 records call = call ≤ 9
+Inv-loop file words records₀ call₀ t6 records call = call ≤ 10
 
 abbrev μ-loop : tie.MeasureT-loop
-μ-loop file words records₀ call₀ t6 records call = 9 - call
+μ-loop file words records₀ call₀ t6 records call = 10 - call
 
 pub replay-all-spec : {M : Type 1} → statement M
 replay-all-spec =

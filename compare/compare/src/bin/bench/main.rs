@@ -4,6 +4,8 @@
 //! options.
 
 #[cfg(live)]
+mod census;
+#[cfg(live)]
 mod children;
 #[cfg(live)]
 mod coefficients;

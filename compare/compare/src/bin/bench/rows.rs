@@ -1,5 +1,5 @@
 use crate::measure::Sides;
-use crate::{coefficients, contexts, layouts, lf_group, orders, records};
+use crate::{census, coefficients, contexts, layouts, lf_group, orders, records};
 
 /// A row of the table: its name, and how its sides are made ready.
 pub struct Bench {
@@ -24,6 +24,7 @@ pub fn all(growth: bool) -> Vec<Bench> {
             records::growth(),
             contexts::growth(),
             coefficients::growth(),
+            census::growth(),
         ]
     } else {
         vec![
@@ -32,6 +33,7 @@ pub fn all(growth: bool) -> Vec<Bench> {
             contexts::benches(),
             orders::benches(),
             coefficients::benches(),
+            census::benches(),
             lf_group::benches(),
         ]
     };

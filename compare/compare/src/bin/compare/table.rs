@@ -4,8 +4,8 @@ use std::time::Instant;
 
 use calls::Outcome;
 use compare::cases::{
-    AlikeCase, Case, CoefficientsCase, ColumnCountCase, ContextsCase, CutCase, LayoutCase,
-    OrderCase, OrdersCase, PlacesCase, ReaderCase, SignedCase, TransformCase,
+    AlikeCase, Case, CensusCase, CoefficientsCase, ColumnCountCase, ContextsCase, CutCase,
+    LayoutCase, OrderCase, OrdersCase, PlacesCase, ReaderCase, SignedCase, TransformCase,
 };
 use compare::driver::{Comparison, Report, Run, Watch};
 use compare::progress::Progress;
@@ -15,7 +15,7 @@ use crate::options::Options;
 
 type Make = fn(&Options) -> Box<dyn Comparison>;
 
-const CALLS: [(&str, Make); 12] = [
+const CALLS: [(&str, Make); 13] = [
     (ColumnCountCase::NAME, |options| {
         comparison(options, ColumnCountCase, ours::column_count)
     }),
@@ -55,6 +55,9 @@ const CALLS: [(&str, Make); 12] = [
         comparison(options, CoefficientsCase::new(options.seed), |input| {
             ours::coefficients(&input.call)
         })
+    }),
+    (CensusCase::NAME, |options| {
+        comparison(options, CensusCase::default(), ours::census)
     }),
 ];
 

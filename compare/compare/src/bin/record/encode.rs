@@ -4,7 +4,7 @@
 use calls::{
     list_length, list_start, AlikeCall, CoefficientBuffers, ColumnCount, ColumnCountCall, Contexts,
     ContextsCall, CutCall, GroupBuffers, Layout, LayoutBuffers, LayoutCall, OrdersCall, Outcome,
-    Store, Transform, ORDER_COUNT, STORE_LENGTH,
+    Situation, Store, Transform, ORDER_COUNT, STORE_LENGTH,
 };
 use compare::cases::CoefficientsInput;
 
@@ -144,6 +144,13 @@ pub fn coefficients(
     let left = &outcome.buffers;
     left.grids.iter().for_each(|grid| body.digest(grid));
     body.digest(&left.log);
+}
+
+pub fn census(body: &mut Body, situation: &Situation, outcome: &Outcome<u32, ()>) {
+    body.numbers([situation.blocks, situation.count]);
+    body.numbers([situation.place, situation.prev]);
+    body.answer(&outcome.answer);
+    body.number(outcome.answer.unwrap_or(0));
 }
 
 /// A list of a fixed length without the zeros at its end.

@@ -4,8 +4,8 @@ use std::collections::BTreeMap;
 
 use calls::{CutCall, Layout, LayoutCall, OrdersCall, Outcome, STORE_LENGTH};
 use compare::cases::{
-    AlikeCase, Case, CoefficientsCase, CoefficientsInput, ColumnCountCase, ContextsCase, CutCase,
-    LayoutCase, OrdersCase, TransformCase, MAP_MOST,
+    AlikeCase, Case, CensusCase, CoefficientsCase, CoefficientsInput, ColumnCountCase,
+    ContextsCase, CutCase, LayoutCase, OrdersCase, TransformCase, MAP_MOST,
 };
 use compare::make::{OrdersAndStore, USED_BYTE, USED_WORD};
 use compare::rng::Rng;
@@ -52,6 +52,8 @@ pub fn file() -> Vec<u8> {
     let passes = Quota::new(8000, &[1, 2, 3, 11, 12, 13, 14, 15, 16, 17, 18, 24]).of(28, 4, 700);
     let case = CoefficientsCase::over(orders());
     file.sample(8, &case, encode::coefficients, passes, plain_coefficients);
+    let census = CensusCase::default();
+    file.sample(9, &census, encode::census, each(&[11]), |_| true);
     file.bytes()
 }
 

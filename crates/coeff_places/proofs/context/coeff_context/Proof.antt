@@ -1,4 +1,4 @@
-use Rattle.coeff_walk.specs.Walk.{coeffContext}
+use Rattle.coeff_context.specs.Context.{coeffContext}
 use borrow.Author.Needs.{needs}
 use Rattle.coeff_places.proofs.context.coeff_context.Statement.{statement}
 use Rattle.coeff_places.proofs.context.coeff_context.Tie as tie

@@ -5,7 +5,8 @@ use native.Mathlib.Omega.{arith}
 use mir.Syntax.{w64}
 use mir.Val.{Fits}
 use lib.ListN.{length, drop, getD}
-use Rattle.coeff_walk.specs.Walk.{NUM-NONZERO, walk}
+use Rattle.coeff_context.specs.Context.{NUM-NONZERO}
+use Rattle.coeff_walk.specs.Walk.{walk}
 use Rattle.coeff_walk.specs.laws.Outcome.{spotCells}
 use Rattle.coeff_walk.specs.laws.Sparse.{Sparse, Turn, sparse-start, sparse-used, sparse-24, sparse-15, turn, zeros-ready, zero-again, more-again}
 use Rattle.coeff_places.proofs.walk.walk_sparse.Statement.{statement}
