@@ -80,8 +80,8 @@ extern "C" {
 
 /* The version of this header. */
 #define NETBUFF_VERSION_MAJOR 0
-#define NETBUFF_VERSION_MINOR 3
-#define NETBUFF_VERSION_PATCH 1
+#define NETBUFF_VERSION_MINOR 4
+#define NETBUFF_VERSION_PATCH 0
 
 /* A version as one number. */
 #define NETBUFF_VERSION_NUMBER(major, minor, patch) ((major)*1000000 + (minor)*1000 + (patch))
@@ -535,7 +535,8 @@ bool netbuff_places_fit(const uint16_t *store, size_t store_length);
  *
  * Refused: 2, 11, 12, 1, 18, 13 (a stored place), 3, 14: grids and log stay as they were. Then 15,
  * 16, 17, 24: what was added and logged before stays, the refused count of 16 logged too. Log bytes
- * behind the symbols read keep their contents.
+ * behind the symbols read keep their contents. 17 is met only where more coefficients of a channel
+ * are due than places remain: more than 32 * blocks at place 31 * blocks or later.
  */
 uint32_t netbuff_coefficients(size_t bw, size_t bh, const uint8_t *kinds, size_t kinds_length,
                               const int32_t *hf_mul, size_t hf_mul_length,
@@ -568,7 +569,7 @@ uint32_t netbuff_coefficients(size_t bw, size_t bh, const uint8_t *kinds, size_t
  * docs/CENSUS.md of the sources lists them all.
  *
  * Refused: 11 where blocks is no such power of two, count is 0, count + place, which does not wrap,
- * is above 63 * blocks, or prev is above 1.
+ * is above 63 * blocks, or prev is above 1. (17 is a refusal of netbuff_coefficients alone.)
  */
 uint32_t netbuff_coefficient_context(uint32_t blocks, uint32_t count, uint32_t place, uint32_t prev,
                                      uint32_t *context, size_t *x, size_t *y);

@@ -202,7 +202,8 @@ struct netbuff_situation {
     uint32_t blocks; /* of the varblock: a power of two up to 1,024 */
     uint32_t count;  /* coefficients that are not 0 still due, this place's included */
     uint32_t place;  /* from 0, behind the low-frequency ones */
-    uint32_t prev;   /* 1 where the symbol before was not 0, else 0 */
+    uint32_t prev;   /* 1 where the symbol before was not 0, else 0; at the first place of a
+                        reading 1 where the count is at most 4 * blocks, else 0 */
 };
 
 /* ---- Lengths ---- */
@@ -484,8 +485,8 @@ netbuff_read_coefficients(const struct netbuff_coefficients_input *input,
     return no;
 }
 
-static inline struct netbuff_refusal netbuff_find_context(const struct netbuff_situation *situation,
-                                                          uint32_t *context)
+static inline struct netbuff_refusal
+netbuff_situation_context(const struct netbuff_situation *situation, uint32_t *context)
 {
     struct netbuff_refusal no = {0, 0, 0};
     no.number = netbuff_coefficient_context(situation->blocks, situation->count, situation->place,

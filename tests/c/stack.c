@@ -157,7 +157,7 @@ static void call_coefficient_context(void)
 {
     struct netbuff_situation situation = {(uint32_t)(1024 - cut_short), 64512, 0, 1};
     uint32_t context;
-    answer = netbuff_find_context(&situation, &context);
+    answer = netbuff_situation_context(&situation, &context);
 }
 
 /* ---- The measure ---- */

@@ -534,7 +534,7 @@ static void try_coefficient_context(void)
     struct netbuff_refusal no = {0, 0, 0};
     no.number = netbuff_coefficient_context(situation.blocks, situation.count, situation.place,
                                             situation.prev, &b, &no.x, &no.y);
-    hold_answer(COEFFICIENT_CONTEXT, netbuff_find_context(&situation, &a), no);
+    hold_answer(COEFFICIENT_CONTEXT, netbuff_situation_context(&situation, &a), no);
     hold(COEFFICIENT_CONTEXT, a == b, "results");
 }
 
@@ -553,7 +553,7 @@ static void try_numbers(void)
                 uint32_t f = j <= 14 ? j : j <= 30 ? (j + 15) / 2 : (j + 61) / 4;
                 struct netbuff_situation situation = {1, k + 1, j, prev};
                 uint32_t found = 999, due = 2 * (by_count[row].n + f) + prev;
-                hold(COEFFICIENT_CONTEXT, netbuff_find_context(&situation, &found).number == 0,
+                hold(COEFFICIENT_CONTEXT, netbuff_situation_context(&situation, &found).number == 0,
                      "situations");
                 hold(COEFFICIENT_CONTEXT, found == due && due < 458, "numbers");
                 numbers += !occurs[due];
@@ -648,7 +648,7 @@ static void try_zeros(void)
     hold(ORDERS, netbuff_read_orders(&bytes, &symbols, &store, &read).number == 1, "zeros");
     hold(ORDERS, netbuff_find_order(&store, 0, 0).places == 0 && !netbuff_store_fits(&store),
          "zeros");
-    hold(COEFFICIENT_CONTEXT, netbuff_find_context(&situation, &context).number == 11, "zeros");
+    hold(COEFFICIENT_CONTEXT, netbuff_situation_context(&situation, &context).number == 11, "zeros");
 }
 
 /* Each call has to have been answered in each of these ways. */

@@ -107,7 +107,8 @@ pub enum Refusal {
         /// Symbols read, the count included.
         symbols_read: usize,
     },
-    /// 17: a coefficient's context is 458 or more.
+    /// 17: a coefficient's context is 458 or more; met only where more coefficients of a channel are
+    /// due than places remain.
     CoefficientContext {
         /// Symbols read.
         symbols_read: usize,

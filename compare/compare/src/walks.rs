@@ -14,7 +14,8 @@ const CONTEXTS: Contexts = Contexts {
     count: 1,
     ..Contexts::ZERO
 };
-const FILLED: u32 = 1;
+/// A coefficient that is not 0.
+pub const FILLED: u32 = 1;
 
 /// Walks of the Rust over the places of one varblock.
 pub struct Walks {

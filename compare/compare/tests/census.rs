@@ -8,12 +8,11 @@ use calls::{Outcome, Refusal, Situation};
 use compare::cases::CensusCase;
 use compare::driver::{run, Effort};
 use compare::rng::Rng;
-use compare::walks::{is_walked_to, Walked, Walks};
+use compare::walks::{is_walked_to, Walked, Walks, FILLED};
 use paper::{COEFFICIENT_ENTRIES, PLACES, TRANSFORM_COUNT};
 
 const DCT8: u8 = 0;
 const ONE_BLOCK: usize = PLACES as usize;
-const FILLED: u32 = 1;
 
 /// Walks over so many places that use up their count: all are filled, some of the first, of the last,
 /// at equal distances, or at random. A walk is its count and its coefficients up to the last that is

@@ -1,6 +1,7 @@
 //! A plain model of what the papers add to the Rust: the checks before work, the cut, the likeness
 //! test, the layout call on lists with a type that is not 0 to 255, the coefficient call where places
-//! end with count remaining, and the context census; everywhere else the Rust answers.
+//! end with count remaining, and contexts of situations to which no walk comes; everywhere else the
+//! Rust answers.
 //!
 //! Written from the papers and not from the Rattle code. Where the papers say that a thing is the
 //! Rust's, it is taken from there: the transforms' sides, orders and turns (`transforms`), and the

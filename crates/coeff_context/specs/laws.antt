@@ -2,3 +2,4 @@
 pub mod Contexts
 pub mod Situations
 pub mod Census
+pub mod TooLarge

@@ -37,10 +37,10 @@ pub record MoreDue (it : Item) (s : List ℕ) : Type 0 where
   pub ds : List ℕ
   pub due : ℕ
   pub still : count ≡ nonZeros ds + due
-  pub remaining : ℕ
-  pub places : length (it .cells) ≡ length ds + remaining
-  pub some : 1 ≤ remaining
-  pub more : remaining < due
+  pub placesLeft : ℕ
+  pub places : length (it .cells) ≡ length ds + placesLeft
+  pub some : 1 ≤ placesLeft
+  pub more : placesLeft < due
   pub are : s ≡ count ∷ ds
 
 -- the symbols s of items in turn: earlier ones that have used their counts up, then one of whose symbols Q holds; none of those behind

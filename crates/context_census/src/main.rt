@@ -137,7 +137,7 @@ fn put_rows() {
 fn put_head() {
     put(b"# The context census\n\n");
     put(
-        b"Each coefficient that is read has a context, a number from 0 to 457, and the cluster map gives each context its cluster. This page lists all of them (document 02, No. 9). Crate context_census makes it from the call `coefficient_context`, and the gate holds it to what that program prints.\n\n",
+        b"Each coefficient that is read has a context, a number from 0 to 457, and the cluster map gives each context its cluster. This page lists the numbers and the situations that have them, where no more coefficients are due than places remain (document 02, No. 9); a reading that comes to another situation is never accepted. Crate context_census makes the page from the call `coefficient_context`, and the gate holds it to what that program prints.\n\n",
     );
     put(
         b"A situation is what decides a context: the varblock's number of blocks, a power of two up to 1,024; the remaining count n, how many coefficients that are not 0 are still due, at least 1; the place i, counted from 0 behind the low-frequency cells, with n + i at most 63 \xc3\x97 blocks; and the flag, 1 if the symbol before was not 0, and at place 0 if the count is at most 4 \xc3\x97 blocks.\n\n",
@@ -152,7 +152,7 @@ fn put_head() {
         b"- No number is above 457 (`below`), and each occurs, in varblocks of every number of blocks (`each-number`), where both flags count as allowed at every place.\n",
     );
     put(
-        b"- A row holds for each of its counts and places whose sum is at most 63. A larger sum is no situation.\n\n",
+        b"- A row holds for each of its counts and places as far as n + i is at most 63 \xc3\x97 blocks; then the sum of the two quotients is at most 63.\n\n",
     );
     put(
         b"| Flag 0 | Flag 1 | Non-zero entry | n / blocks, rounded up | Frequency entry | i / blocks, rounded down |\n",

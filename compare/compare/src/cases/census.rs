@@ -101,10 +101,10 @@ pub fn situation(rng: &mut Rng, blocks: u32) -> Situation {
 /// A situation where the places end or around the steps of both tables; it may lie just outside.
 fn border(rng: &mut Rng, blocks: u32) -> Situation {
     let inside = situation(rng, blocks);
-    let (behind, step) = (inside.count / blocks, inside.place / blocks);
+    let (counts, places) = (inside.count / blocks, inside.place / blocks);
     let (count, place) = match rng.below(3) {
         0 => (inside.count, PLACES * blocks - inside.count),
-        _ => (blocks * behind + rng.below(2) as u32, blocks * step),
+        _ => (blocks * counts + rng.below(2) as u32, blocks * places),
     };
     Situation {
         count: around(rng, count),

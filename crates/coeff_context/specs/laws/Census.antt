@@ -40,7 +40,7 @@ module _ (s t : Situation) (i : InCensus s) (j : InCensus t) where
       let p : s .prev ≡ t .prev = omega (arith, e, i .flag, j .flag) in
       let q : nonZeroEntry s + frequencyEntry s ≡ nonZeroEntry t + frequencyEntry t = omega (arith, e, p) in
       let n : nonZeroEntry s ≡ nonZeroEntry t = sym (tells s i) ∙ ap nonZeroIn q ∙ tells t j in
-      record { nonZero = n; frequency = omega (arith, n, q); flag = p }
+      record { nonZero = omega (arith, n); frequency = omega (arith, n, q); flag = omega (arith, p) }
 
   pub same-number : (contextOf s ≡ contextOf t) ↔ SameEntries s t
   unfolding coeffContext

@@ -2,7 +2,7 @@
 use mathlib.Core.Path.{_≡_, refl, ap, sym, _∙_}
 use mathlib.Core.Bool.{Bool, true, false, false≢true, _||_}
 use mathlib.Core.List.{List, [], _∷_}
-use Prim.Native.Nat.{ℕ, suc, _+_, _*_, _^_, _<_, _≤_}
+use Prim.Native.Nat.{ℕ, zero, suc, _+_, _^_, _<_, _≤_}
 use native.Mathlib.Omega.{arith}
 use native.Mathlib.Nat.{pow-le-pow-right}
 use borrow.Author.Tests.{le-leb, leb-true, eqb-true}
@@ -14,8 +14,13 @@ use Rattle.laws.specs.laws.Tables.{each-at}
 use Rattle.laws.specs.laws.Cases.{and-true}
 use Rattle.coeff_context.specs.Census.{Situation, PowerOfTwo, InCensus, isPower, speaksOf}
 
+-- the powers of two from 2 ^ e on, n of them
+abbrev powersFrom : ℕ → ℕ → List ℕ
+powersFrom zero e = []
+powersFrom (suc n) e = 2 ^ e ∷ powersFrom n (e + 1)
+
 abbrev POWERS : List ℕ
-POWERS = 1 ∷ 2 ∷ 4 ∷ 8 ∷ 16 ∷ 32 ∷ 64 ∷ 128 ∷ 256 ∷ 512 ∷ 1024 ∷ []
+POWERS = powersFrom 11 0
 
 -- b, or one of a list
 abbrev oneOf : Bool → List ℕ → ℕ → Bool

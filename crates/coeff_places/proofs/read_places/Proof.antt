@@ -57,6 +57,6 @@ read-places-spec =
     returns-2
     (λ c κs. search needs)
     walk-places-requires
-    (λ c. search needs)
-    (λ c. search needs)
+    (λ c. c .before .before .before .log .given)
+    (λ c. c .before .grid .given)
     returns-3)

@@ -146,7 +146,7 @@ read-channels-spec =
     (λ c. let k = c .channel-walked .ensures .0 in search needs)
     (λ c. c .channel-walked .ensures .0)
     (λ c κs. tt)
-    (λ c. search needs)
+    (λ c. omega (arith, to-in-loop (c .before .before .before .before .before .before .before .before .before) .loop-test .taken))
     loop-less
     loop-again
     (λ c. c .before .loop .inv .0)

@@ -53,8 +53,8 @@ read-planned-spec =
     (λ c κs. search needs)
     returns
     read-channels-requires
-    (λ c. search needs)
-    (λ c. search needs)
-    (λ c. search needs)
-    (λ c. search needs)
+    (λ c. c .before .before .before .before .before .before .before .log .given)
+    (λ c. c .before .before .before .before .before .g0 .given)
+    (λ c. c .before .before .before .g1 .given)
+    (λ c. c .before .g2 .given)
     returns-2)

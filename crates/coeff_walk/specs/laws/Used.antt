@@ -60,7 +60,7 @@ module _ (it : Item) (n : ℕ) (most : n ≤ 63 * it .blocks) where
         ds = ds;
         due = n - nonZeros ds;
         still = omega (arith, q .0, q .1, long);
-        remaining = length (it .cells) - length ds;
+        placesLeft = length (it .cells) - length ds;
         places = omega (arith, q .0);
         some = omega (arith, q .0);
         more = omega (arith, q .0, q .1, long);

@@ -21,31 +21,32 @@ returns : tie.Need-returns Inv-loop μ-loop
 returns c =
     let a = c .before .before .before .before .before .before .args in
     let l = c .before .before .loop in
-    record { count = sym (l .inv .5 ∙ count-cut (a .job .now) (l .n) (omega arith) (omega arith)); typesAre = l .inv .3; mulsAre = l .inv .4 }
+    record { count = sym (l .inv .5 ∙ count-cut (a .job .now) (l .n) (omega (arith, c .before .loop-test .taken)) (c .if1 .taken)); typesAre = l .inv .3; mulsAre = l .inv .4 }
 
 returns-2 : tie.Need-returns-2 Inv-loop μ-loop
 returns-2 c =
     let a = c .before .before .before .before .before .before .before .before .args in
     let l = c .before .before .before .before .loop in
-    record { count = sym (l .inv .5 ∙ count-other (a .job .now) (l .n) (omega arith) (omega arith) (c .if2 .taken)); typesAre = l .inv .3; mulsAre = l .inv .4 }
+    record { count = sym (l .inv .5 ∙ count-other (a .job .now) (l .n) (omega (arith, c .before .before .before .loop-test .taken)) (c .before .before .if1 .left) (c .if2 .taken)); typesAre = l .inv .3; mulsAre = l .inv .4 }
 
 loop-again : tie.Need-loop-again Inv-loop μ-loop
 loop-again c =
-    let a = c .before .before .before .before .before .before .before .before .before .before .args in
-    let l = c .before .before .before .before .before .before .loop in (
-      omega arith,
-      simp length-set (omega arith),
-      simp length-set (omega arith),
-      ap (λ (z : List ℕ). set z (l .n) (c .before .number32 .result)) (l .inv .3) ∙ prefixed-more (typeAt (a .job .now)) (l .n) (c .before .number32 .result) (a .types .now) (omega arith) (c .before .number32 .ensures),
-      ap (λ (z : List ℕ). set z (l .n) (c .number322 .result)) (l .inv .4) ∙ prefixed-more (mulAt (a .job .now)) (l .n) (c .number322 .result) (a .muls .now) (omega arith) (c .number322 .ensures),
-      l .inv .5 ∙ count-next (a .job .now) (l .n) (omega arith) (omega arith) (c .before .before .if2 .left),
+    let s = c .before .before .before .before .before .before .before .before .before .before in
+    let l = c .before .before .before .before .before .before .loop in
+    let t = c .before .before .before .before .before .loop-test .taken in (
+      omega (arith, t),
+      length-set (l .types) (l .n) _ ∙ l .inv .1,
+      length-set (l .muls) (l .n) _ ∙ l .inv .2,
+      ap (λ (z : List ℕ). set z (l .n) (c .before .number32 .result)) (l .inv .3) ∙ prefixed-more (typeAt (s .args .job .now)) (l .n) (c .before .number32 .result) (s .args .types .now) (omega (arith, t, s .pre .0)) (c .before .number32 .ensures),
+      ap (λ (z : List ℕ). set z (l .n) (c .number322 .result)) (l .inv .4) ∙ prefixed-more (mulAt (s .args .job .now)) (l .n) (c .number322 .result) (s .args .muls .now) (omega (arith, t, s .pre .1)) (c .number322 .ensures),
+      l .inv .5 ∙ count-next (s .args .job .now) (l .n) (omega (arith, t)) (c .before .before .before .before .if1 .left) (c .before .before .if2 .left),
     )
 
 returns-3 : tie.Need-returns-3 Inv-loop μ-loop
 returns-3 c =
     let a = c .before .before .before .before .before .args in
     let l = c .before .loop in
-    record { count = sym (l .inv .5 ∙ count-full (a .job .now) (l .n) (omega arith)); typesAre = l .inv .3; mulsAre = l .inv .4 }
+    record { count = sym (l .inv .5 ∙ count-full (a .job .now) (l .n) (omega (arith, c .loop-test .left))); typesAre = l .inv .3; mulsAre = l .inv .4 }
 
 pub read-into-spec : {M : Type 1} → statement M
 read-into-spec =
@@ -70,10 +71,10 @@ read-into-spec =
     (λ c. search needs)
     (λ c. search needs)
     (λ c κs. search needs)
-    (λ c. search needs)
-    (λ c. search needs)
-    (λ c. search needs)
-    (λ c. search needs)
+    (λ c. omega (arith, c .before .before .before .before .before .loop-test .taken))
+    (λ c. omega (arith, c .before .before .before .before .before .loop-test .taken, c .before .before .before .before .before .before .loop .inv .2))
+    (λ c. omega (arith, c .before .before .before .before .before .loop-test .taken))
+    (λ c. omega (arith, c .before .before .before .before .before .loop-test .taken))
     loop-again
     (λ c. search needs)
     (λ c. search needs)

@@ -30,8 +30,8 @@ use Rattle.coeff_group.specs.laws.Used.{group-uses}
 use Rattle.coeff_group.specs.laws.Reads.{Sized, End, ends, stops, Tells}
 use Rattle.coeff_call.specs.Call.{Lent, Outcome, Passed, presetMap, reading, outcomeOf, call}
 use Rattle.coeff_call.specs.laws.CallLaws.{lengths-fit}
-use Rattle.one_to_one.specs.Filling.{tellsRead, ChannelOf}
-use Rattle.one_to_one.specs.laws.Items.{each-item}
+use Rattle.one_to_one.specs.Filling.{tellsRead, StoppedAt}
+use Rattle.one_to_one.specs.laws.Items.{each-item, of-varblock}
 use Rattle.one_to_one.specs.laws.Ways.{Way, before, work, way, same-said, no-answer, did, answerBy, outcome-by}
 
 module _ (L : Lent) where
@@ -88,6 +88,11 @@ module _ (L : Lent) where
       go k dss (ends us rows) t b = absurd (no-answer s k (sym b))
       go k dss (stops why) t b = record { checks = passed; at = k; why = why; tells = same-said (said (why k)) s b; stop = t }
 
+  pub at-channel : {Q : Item → List ℕ → Type 0} (s : List ℕ) → StoppedAmong Q (groupItems P) s → StoppedAt Q P s
+  at-channel s m =
+      let r = of-varblock P (varblocks P) (m .it) (subst (In (m .it)) (sym (m .parts)) (Memᴰ·append-right (m .before) (here refl))) in
+      record { among = m; at = record { of = r .0; there = r .1; channel = r .2 } }
+
   -- the symbols that were read are the first k of those lent
   first-read : {Q : List ℕ → Type 0} (at k : ℕ) → at ≡ k → ReadOf Q (L .symbols) at → Q (take k (L .symbols))
   first-read {Q} at k e r = subst Q (sym (ap (take k) (r .are) ∙ take-at (r .s) (r .vs) k (omega (arith, r .long, e)))) (r .told)
@@ -110,15 +115,9 @@ module _ (L : Lent) where
     due-at at why e z (countRemaining w h) = absurd (omega (arith, number-is CountRemaining why at _ w e))
 
     -- 24 with k symbols read: earlier channels of the group have used their counts up, then the last place of one was passed with count remaining
-    pub count-remains : call L .answer ≡ refuses (saidAt 24 k 0) → StoppedAmong CountRemains (groupItems (L .passGroup)) (take k (L .symbols))
-    count-remains a = let r = stopped-by (way L) _ refl a in remains-at (r .at) (r .why) (r .tells) (r .stop)
+    pub count-remains : call L .answer ≡ refuses (saidAt 24 k 0) → StoppedAt CountRemains (L .passGroup) (take k (L .symbols))
+    count-remains a = let r = stopped-by (way L) _ refl a in at-channel (take k (L .symbols)) (remains-at (r .at) (r .why) (r .tells) (r .stop))
 
     -- 17 with k symbols read: earlier channels have used their counts up, then more coefficients of one are due than places remain
-    pub more-due : call L .answer ≡ refuses (saidAt 17 k 0) → StoppedAmong MoreDue (groupItems (L .passGroup)) (take k (L .symbols))
-    more-due a = let r = stopped-by (way L) _ refl a in due-at (r .at) (r .why) (r .tells) (sized (r .checks)) (r .stop)
-
--- the channel is one of a varblock of the group
-pub at-varblock : {Q : Item → List ℕ → Type 0} (P : PassGroup) (s : List ℕ) → (m : StoppedAmong Q (groupItems P) s) → ChannelOf P (m .it)
-at-varblock P s m =
-    each-item P (ChannelOf P) (varblocks P) (λ v i n c hn hc. record { of = v; there = i; n = n; c = c; is = refl }) (m .it)
-    (subst (In (m .it)) (sym (m .parts)) (Memᴰ·append-right (m .before) (here refl)))
+    pub more-due : call L .answer ≡ refuses (saidAt 17 k 0) → StoppedAt MoreDue (L .passGroup) (take k (L .symbols))
+    more-due a = let r = stopped-by (way L) _ refl a in at-channel (take k (L .symbols)) (due-at (r .at) (r .why) (r .tells) (sized (r .checks)) (r .stop))

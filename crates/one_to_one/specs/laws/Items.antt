@@ -27,7 +27,7 @@ use Rattle.order_call.specs.laws.Wrote.{listOf, wrote-order, wrote-stretch}
 use Rattle.coeff_walk.specs.laws.PlaceLaws.{length-places}
 use Rattle.coeff_walk.specs.Item.{Item}
 use Rattle.coeff_group.specs.Group.{PerChannel}
-use Rattle.coeff_group.specs.PassGroup.{PassGroup, varblocks, blocksOf, cellsIn, itemOf, itemsOf}
+use Rattle.coeff_group.specs.PassGroup.{PassGroup, varblocks, blocksOf, cellsIn, itemOf, channelItems, itemsOf}
 use Rattle.dct_select.specs.laws.Sides.{order-lt}
 use Rattle.one_to_one.specs.Filling.{gridLength, ReadAt, LaidOut, Sized, Low, LowKept}
 use Rattle.coeff_group.specs.laws.Cells.{Distinct, distinct-both, distinct-map, Fit, In}
@@ -74,6 +74,16 @@ module _ (P : PassGroup) where
   each-item Q (v ∷ vs) f it (there (here e)) = subst Q (sym e) (f v (first refl) 1 0 (omega arith) (omega arith))
   each-item Q (v ∷ vs) f it (there (there (here e))) = subst Q (sym e) (f v (first refl) 2 2 (omega arith) (omega arith))
   each-item Q (v ∷ vs) f it (there (there (there i))) = each-item Q vs (λ u j. f u (later j)) it i
+
+  -- the varblock that an item is a channel of
+  pub of-varblock : (vs : List Varblock) (it : Item) → In it (itemsOf P vs) → (v : Varblock) × Among v vs × In it (channelItems P v)
+  unfolding itemsOf
+  of-varblock [] it h = absurd (elim h [ ])
+  of-varblock (v ∷ vs) it h = go (List·Memᴰ·append-cases (channelItems P v) h) (of-varblock vs it)
+    where
+      go : In it (channelItems P v) ⊎ In it (itemsOf P vs) → (In it (itemsOf P vs) → (u : Varblock) × Among u vs × In it (channelItems P u)) → (u : Varblock) × Among u (v ∷ vs) × In it (channelItems P u)
+      go (inl i) f = (v, first refl, i)
+      go (inr i) f = let r = f i in (r .0, later (r .1), r .2)
 
   -- the varblock in which a cell is read
   pub held : (vs : List Varblock) (c p : ℕ) → In (c, p) (readCells (itemsOf P vs)) → (v : Varblock) × Among v vs × (c < 3) × In p (cellsIn P v c)

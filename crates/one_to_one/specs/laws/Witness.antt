@@ -27,15 +27,16 @@ use Rattle.lent_cut.specs.Calls.{outcome, cutOf}
 use Rattle.lent_cut.specs.laws.CutSteps.{cut-done}
 use Rattle.layout_accepted.specs.Outcome.{bwOf, bhOf}
 use Rattle.layout_accepted.specs.laws.Marked.{layout-computes}
-use Rattle.one_to_one.specs.Filling.{wanted as wantedOf, withSymbols, Fixed, Filling, Fills, Given}
+use Rattle.one_to_one.specs.Filling.{wanted as wantedOf, withSymbols, StoppedAt, Fixed, Filling, Fills, Given}
 use Rattle.one_to_one.specs.laws.Demand3.{one-sequence}
 use Rattle.one_to_one.specs.laws.Wanted.{wanted-filling}
 use Rattle.one_to_one.specs.laws.Chain.{fixed-by-calls}
 use Rattle.one_to_one.specs.laws.Computes.{cut-computes, bits-compute, items-compute, reading-computes, sequence-computes, wanted-computes, below, cells-below}
 use Rattle.one_to_one.specs.Plain.{store}
 use Rattle.one_to_one.specs.laws.Plain.{store-long, order-0, store-wrote, defaults-read}
-use Rattle.one_to_one.specs.Witness.{one, wanted, zeros, remaining, tooManyZeros, twoAtTheLast}
+use Rattle.one_to_one.specs.Witness.{one, wanted, zeros, remaining, thirtyThree, twoAtTheLast}
 use Rattle.one_to_one.specs.laws.OverCall.{group-read}
+use Rattle.one_to_one.specs.laws.CountsUsed.{at-channel}
 use Rattle.coeff_group.specs.Sequence.{inCell, theSequence}
 
 -- 8 × 8 pixels, modes 0, one column (0,0), filter off
@@ -137,14 +138,14 @@ pub remaining-refused : call (withSymbols one remaining) .answer ≡ refuses (sa
 remaining-refused = answer-by remaining _ (λ p. unfold reading-computes in rw (order-0 1 (omega arith)))
 
 -- 17 behind 31 zeros, where 33 are due at 32 places (document 01, Refused)
-pub zeros-refused : call (withSymbols one tooManyZeros) .answer ≡ refuses (saidAt 17 32 0)
-zeros-refused = answer-by tooManyZeros _ (λ p. unfold reading-computes in rw (order-0 1 (omega arith)))
+pub zeros-refused : call (withSymbols one thirtyThree) .answer ≡ refuses (saidAt 17 32 0)
+zeros-refused = answer-by thirtyThree _ (λ p. unfold reading-computes in rw (order-0 1 (omega arith)))
 
 -- The converse of `more-due` fails: behind 62 zeros two are due at the one place that remains, and 17 is not told; that place's symbol is read, and then
 -- 24 is told.
-pub two-due : StoppedAmong MoreDue (groupItems (one .passGroup)) (take 63 twoAtTheLast)
+two-among : StoppedAmong MoreDue (groupItems (one .passGroup)) (take 63 twoAtTheLast)
 unfolding items-compute nonZeros sent
-two-due = record {
+two-among = record {
   before = [];
   it = itemOf (one .passGroup) (varblock 0 0 0 1) 0 1;
   behind = itemOf (one .passGroup) (varblock 0 0 0 1) 1 0 ∷ itemOf (one .passGroup) (varblock 0 0 0 1) 2 2 ∷ [];
@@ -152,9 +153,12 @@ two-due = record {
   earlier = [];
   last = 2 ∷ replicate 62 0;
   used = record { dss = []; long = tt; are = refl };
-  holds = record { count = 2; most = omega arith; ds = replicate 62 0; due = 2; still = refl; remaining = 1; places = rw (order-0 1 (omega arith)); some = omega arith; more = omega arith; are = refl };
+  holds = record { count = 2; most = omega arith; ds = replicate 62 0; due = 2; still = refl; placesLeft = 1; places = rw (order-0 1 (omega arith)); some = omega arith; more = omega arith; are = refl };
   are = refl;
 }
+
+pub two-due : StoppedAt MoreDue (one .passGroup) (take 63 twoAtTheLast)
+two-due = at-channel one (take 63 twoAtTheLast) two-among
 
 pub two-not-17 : call (withSymbols one twoAtTheLast) .answer ≡ refuses (saidAt 24 64 0)
 two-not-17 = answer-by twoAtTheLast _ (λ p. unfold reading-computes in rw (order-0 1 (omega arith)))

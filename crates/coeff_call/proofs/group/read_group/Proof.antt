@@ -253,7 +253,7 @@ read-group-spec =
     mul-i
     add-i
     shared-slice-read-kind
-    (λ c. search needs)
+    (λ c. omega (arith, c .before .before .loop2-test .taken, to-start (to-shared-slice-known7 (c .before .before .before .before .before .before)) .pre .narrow))
     loop2-less
     loop2-again
     mul-plan-of
@@ -270,7 +270,7 @@ read-group-spec =
     add-x-2
     loop2-less-2
     loop2-again-2
-    (λ c. search needs)
+    (λ c. omega (arith, c .before .before .loop-test .taken, to-start (to-shared-slice-known7 (c .before .before .before .before)) .pre .below))
     loop-less
     loop-again
     (λ c. c .before .loop .inv .0)

@@ -42,40 +42,40 @@ returns c =
     ends _ _ _ (walk-24 (a .shift) (2 ^ (a .spot .exponent)) (a .coeff-map .now) (spotCells (a .spot) (a .list .now)) (a .symbols .now) (l .k) (l .prev) (l .left) (l .at) (l .log) (l .grid) (omega (arith, c .if1 .taken, l .inv .5)) (omega (arith, c .before .loop-test .taken))) (l .inv .6)
 
 coeff-context-requires : tie.Need-coeff-context-requires Inv-loop μ-loop
-coeff-context-requires c κs = (to-start (c .before) .pre .0, to-start (c .before) .pre .1, to-start (c .before) .pre .2 .exponent, omega (arith, c .if1 .left, c .before .before .loop .inv .1), omega (arith, c .before .loop-test .taken, to-start (c .before) .pre .2 .fits), c .before .before .loop .inv .2)
+coeff-context-requires c κs = (to-start (c .before) .pre .0, to-start (c .before) .pre .1, to-start (c .before) .pre .2 .exponent, omega (arith, c .before .loop-test .taken, c .before .before .loop .inv .1), omega (arith, c .if1 .left, to-start (c .before) .pre .2 .fits), c .before .before .loop .inv .2)
 
 returns-2 : tie.Need-returns-2 Inv-loop μ-loop
 returns-2 c =
     let l = c .before .before .before .before .loop in
     let a = to-start (c .before .before .before) .args in
-    ends _ _ _ (walk-17 (a .shift) (2 ^ (a .spot .exponent)) (a .coeff-map .now) (spotCells (a .spot) (a .list .now)) (a .symbols .now) (l .k) (l .prev) (l .left) (l .at) (l .log) (l .grid) (place (c .before .before)) (omega (arith, c .before .before .if1 .left)) (omega (arith, c .if2 .taken, c .before .coeff-context .ensures))) (l .inv .6)
+    ends _ _ _ (walk-17 (a .shift) (2 ^ (a .spot .exponent)) (a .coeff-map .now) (spotCells (a .spot) (a .list .now)) (a .symbols .now) (l .k) (l .prev) (l .left) (l .at) (l .log) (l .grid) (place (c .before .before)) (omega (arith, c .before .before .before .loop-test .taken)) (omega (arith, c .if2 .taken, c .before .coeff-context .ensures))) (l .inv .6)
 
 returns-3 : tie.Need-returns-3 Inv-loop μ-loop
 returns-3 c =
     let l = c .before .before .before .before .before .loop in
     let a = to-start (c .before .before .before .before) .args in
-    ends _ _ _ (walk-15 (a .shift) (2 ^ (a .spot .exponent)) (a .coeff-map .now) (spotCells (a .spot) (a .list .now)) (a .symbols .now) (l .k) (l .prev) (l .left) (l .at) (l .log) (l .grid) (place (c .before .before .before)) (omega (arith, c .before .before .before .if1 .left)) (omega (arith, c .before .if2 .left, c .before .before .coeff-context .ensures)) (c .if3 .taken)) (l .inv .6)
+    ends _ _ _ (walk-15 (a .shift) (2 ^ (a .spot .exponent)) (a .coeff-map .now) (spotCells (a .spot) (a .list .now)) (a .symbols .now) (l .k) (l .prev) (l .left) (l .at) (l .log) (l .grid) (place (c .before .before .before)) (omega (arith, c .before .before .before .before .loop-test .taken)) (omega (arith, c .before .if2 .left, c .before .before .coeff-context .ensures)) (c .if3 .taken)) (l .inv .6)
 
 shared-slice-read-log : tie.Need-shared-slice-read-log Inv-loop μ-loop
 shared-slice-read-log c = omega (arith, c .before .before .before .if2 .left, to-start (c .before .before .before .before .before .before) .pre .2 .entries)
 
 slice-write-log : tie.Need-slice-write-log Inv-loop μ-loop
-slice-write-log c = omega (arith, c .before .before .before .before .before .before .before .loop .inv .0, c .before .before .before .before .before .before .before .loop .inv .3, c .before .before .before .before .before .before .loop-test .taken, to-start (c .before .before .before .before .before .before) .pre .2 .room)
+slice-write-log c = omega (arith, c .before .before .before .before .before .before .before .loop .inv .0, c .before .before .before .before .before .before .before .loop .inv .3, c .before .before .before .before .before .if1 .left, to-start (c .before .before .before .before .before .before) .pre .2 .room)
 
 gain-at-requires : tie.Need-gain-at-requires Inv-loop μ-loop
 gain-at-requires c κs = let r = to-start (c .before .before .before .before .before .before .before) .pre .2 in (c .before .before .before .before .before .before .if1 .left, r .width, r .inX, r .inY, r .shifts)
 
 sub-left : tie.Need-sub-left Inv-loop μ-loop
-sub-left c = omega (arith, c .flag-of .ensures .1, c .before .before .before .before .before .before .before .before .before .before .if1 .left)
+sub-left c = omega (arith, c .flag-of .ensures .1, c .before .before .before .before .before .before .before .before .before .before .before .loop-test .taken)
 
 loop-less : tie.Need-loop-less Inv-loop μ-loop
-loop-less c = omega (arith, c .before .before .before .before .before .before .before .before .before .before .before .loop-test .taken)
+loop-less c = omega (arith, c .before .before .before .before .before .before .before .before .before .before .if1 .left)
 
 loop-again : tie.Need-loop-again Inv-loop μ-loop
 loop-again c =
     let l = c .before .before .before .before .before .before .before .before .before .before .before .before .loop in
     let a = to-start (c .before .before .before .before .before .before .before .before .before .before .before) .args in
-    let n : 0 < l .left = omega (arith, c .before .before .before .before .before .before .before .before .before .before .if1 .left) in (
+    let n : 0 < l .left = omega (arith, c .before .before .before .before .before .before .before .before .before .before .before .loop-test .taken) in (
       omega (arith, l .inv .0),
       omega (arith, l .inv .1),
       c .flag-of .ensures .1,
@@ -102,7 +102,7 @@ walk-dense-spec =
     (λ c. c .before .before .loop .inv .3)
     (λ c. c .before .before .loop .inv .4)
     returns
-    (λ c. omega (arith, c .if1 .left))
+    (λ c. omega (arith, c .before .loop-test .taken))
     coeff-context-requires
     (λ c. c .before .before .before .before .loop .inv .3)
     (λ c. c .before .before .before .before .loop .inv .4)
@@ -117,8 +117,8 @@ walk-dense-spec =
     gain-at-requires
     (λ c κs. tt)
     sub-left
-    (λ c. search needs)
-    (λ c. search needs)
+    (λ c. omega (arith, c .before .before .before .before .before .before .before .if3 .left, to-start (c .before .before .before .before .before .before .before .before .before .before .before) .good .1 .1 .1 .1 .0 .0))
+    (λ c. omega (arith, c .before .before .before .before .before .before .before .before .before .before .if1 .left, to-start (c .before .before .before .before .before .before .before .before .before .before .before) .good .1 .1 .0 .0))
     loop-less
     loop-again
     (λ c. c .before .loop .inv .3)

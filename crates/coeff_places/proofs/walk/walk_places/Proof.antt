@@ -1,5 +1,5 @@
 use Prim.Native.Nat.{_^_}
-use borrow.Author.Needs.{needs}
+use native.Mathlib.Omega.{arith}
 use Rattle.coeff_walk.specs.laws.Outcome.{spotCells}
 use Rattle.coeff_walk.specs.laws.Used.{walk-uses}
 use Rattle.coeff_places.proofs.walk.walk_places.Statement.{statement}
@@ -18,6 +18,9 @@ returns c =
     let a = to-start-from-dense d .args in
     (d .walk-dense .ensures, walk-uses (a .shift) (2 ^ (a .spot .exponent)) (a .coeff-map .now) (spotCells (a .spot) (a .list .now)) 0 (a .first-prev) (a .count) (a .symbols .now) (a .at) (a .log .now) (a .grid .now) (d .walk-dense .result) (d .walk-dense .ensures .answer))
 
+walk-sparse-requires : tie.Need-walk-sparse-requires
+walk-sparse-requires c κs = let h = c .before .before .before .before .before .before .before .before .pre in (h .0, h .1, h .2, omega (arith, c .before .before .if1 .left, h .2 .fits))
+
 returns-2 : tie.Need-returns-2
 returns-2 c =
     let d = c .before .before .before .before in
@@ -28,11 +31,11 @@ pub walk-places-spec : {M : Type 1} → statement M
 walk-places-spec =
     tie.close
     (tie.spec
-    (λ c κs. search needs)
-    (λ c. search needs)
-    (λ c. search needs)
+    (λ c κs. c .before .before .before .before .before .before .before .before .pre)
+    (λ c. c .before .before .before .log .given)
+    (λ c. c .before .grid .given)
     returns
-    (λ c κs. search needs)
-    (λ c. search needs)
-    (λ c. search needs)
+    walk-sparse-requires
+    (λ c. c .before .before .before .log2 .given)
+    (λ c. c .before .grid2 .given)
     returns-2)

@@ -94,5 +94,5 @@ read-counted-spec =
     (λ c. search needs)
     (λ c κs. tt)
     (λ c. simp length-set at (c .before .before .before .log .given))
-    (λ c. search needs)
+    (λ c. c .before .grid .given)
     returns-3)

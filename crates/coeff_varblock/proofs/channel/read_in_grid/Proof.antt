@@ -1,7 +1,6 @@
 use Rattle.coeff_group.specs.laws.Steps.{in-first, in-second, in-third}
 use Rattle.coeff_walk.specs.Item.{counted}
 use Rattle.coeff_walk.specs.laws.Items.{itemAt}
-use borrow.Author.Needs.{needs}
 use native.Mathlib.Omega.{arith}
 use lib.ListN.{drop}
 use Rattle.coeff_varblock.proofs.channel.read_in_grid.Statement.{statement}
@@ -33,15 +32,15 @@ pub read-in-grid-spec : {M : Type 1} → statement M
 read-in-grid-spec =
     tie.close
     (tie.spec
-    (λ c κs. search needs)
-    (λ c. search needs)
-    (λ c. search needs)
+    (λ c κs. to-start-from-then1 (c .before .before) .pre .1)
+    (λ c. c .before .before .before .log .given)
+    (λ c. c .before .g0 .given)
     returns
-    (λ c κs. search needs)
-    (λ c. search needs)
-    (λ c. search needs)
+    (λ c κs. to-start-from-else1 (c .before .before .before) .pre .1)
+    (λ c. c .before .before .before .log2 .given)
+    (λ c. c .before .g1 .given)
     returns-2
-    (λ c κs. search needs)
-    (λ c. search needs)
-    (λ c. search needs)
+    (λ c κs. to-start-from-else1 (c .before .before .before) .pre .1)
+    (λ c. c .before .before .before .log3 .given)
+    (λ c. c .before .g2 .given)
     returns-3)

@@ -47,7 +47,16 @@ visit-requires : tie.Need-visit-requires Inv-loop2 μ-loop2 Inv-loop μ-loop
 visit-requires c κs =
     let l = c .before .before .before .before .loop2 in
     let h = to-start (to-row (c .before .before .before .before)) .pre in
-    (l .inv .1, l .inv .2, l .inv .3, h .3, h .4, h .5, h .6, omega arith, omega arith, h .7)
+    (l .inv .1, l .inv .2, l .inv .3, h .3, h .4, h .5, h .6, c .before .before .before .loop2-test .taken, c .before .before .before .before .before .loop-test .taken, h .7)
+
+same-length : tie.Need-same-length Inv-loop2 μ-loop2 Inv-loop μ-loop
+same-length c = let b = to-block (to-visit (c .before .before)) in c .before .before .before .before .before .before .before .kinds .given ∙ b .loop2 .inv .1 ∙ sym (to-start (to-row b) .pre .0)
+
+same-length-2 : tie.Need-same-length-2 Inv-loop2 μ-loop2 Inv-loop μ-loop
+same-length-2 c = let b = to-block (to-visit (c .before .before)) in c .before .before .before .before .before .hf-mul .given ∙ b .loop2 .inv .2 ∙ sym (to-start (to-row b) .pre .1)
+
+same-length-3 : tie.Need-same-length-3 Inv-loop2 μ-loop2 Inv-loop μ-loop
+same-length-3 c = let b = to-block (to-visit (c .before .before)) in c .before .before .before .sigma .given ∙ b .loop2 .inv .3 ∙ sym (to-start (to-row b) .pre .2)
 
 returns : tie.Need-returns Inv-loop2 μ-loop2 Inv-loop μ-loop
 returns c =
@@ -56,7 +65,10 @@ returns c =
     let o = to-row (to-block s) .loop in
     let l = to-block s .loop2 in
     let v = s .visit in
-    sym (loop-start (visit (jobWith (a .bw) (a .bh) (a .types .now) (a .muls .now) (a .sharpness .now) (a .filter) (a .lookups .now))) (a .bw) (a .bh) (Going (stateOf 0 (a .kinds .now) (a .hf-mul .now) (a .sigma .now))) ∙ o .inv .4 ∙ loop-enter (visit (jobWith (a .bw) (a .bh) (a .types .now) (a .muls .now) (a .sharpness .now) (a .filter) (a .lookups .now))) (a .bw) (a .bh) (o .y) (Going (stateOf (o .used) (o .kinds) (o .hf-mul) (o .sigma))) (omega arith) ∙ l .inv .4 ∙ loop-stop (visit (jobWith (a .bw) (a .bh) (a .types .now) (a .muls .now) (a .sharpness .now) (a .filter) (a .lookups .now))) (a .bw) (a .bh) (o .y) (l .x) (Going (stateOf (l .used) (l .kinds) (l .hf-mul) (l .sigma))) (stepped (v .result) (v .last .0) (v .last .1 .0) (v .last .1 .1 .0)) (stop-stays (jobWith (a .bw) (a .bh) (a .types .now) (a .muls .now) (a .sharpness .now) (a .filter) (a .lookups .now)) (v .result) _ _ (v .last .0) (v .last .1 .0) (v .last .1 .1 .0) (c .enum-told .given .1)) (omega arith) (v .ensures))
+    sym (loop-start (visit (jobWith (a .bw) (a .bh) (a .types .now) (a .muls .now) (a .sharpness .now) (a .filter) (a .lookups .now))) (a .bw) (a .bh) (Going (stateOf 0 (a .kinds .now) (a .hf-mul .now) (a .sigma .now))) ∙ o .inv .4 ∙ loop-enter (visit (jobWith (a .bw) (a .bh) (a .types .now) (a .muls .now) (a .sharpness .now) (a .filter) (a .lookups .now))) (a .bw) (a .bh) (o .y) (Going (stateOf (o .used) (o .kinds) (o .hf-mul) (o .sigma))) (to-block s .before .loop-test .taken) ∙ l .inv .4 ∙ loop-stop (visit (jobWith (a .bw) (a .bh) (a .types .now) (a .muls .now) (a .sharpness .now) (a .filter) (a .lookups .now))) (a .bw) (a .bh) (o .y) (l .x) (Going (stateOf (l .used) (l .kinds) (l .hf-mul) (l .sigma))) (stepped (v .result) (v .last .0) (v .last .1 .0) (v .last .1 .1 .0)) (stop-stays (jobWith (a .bw) (a .bh) (a .types .now) (a .muls .now) (a .sharpness .now) (a .filter) (a .lookups .now)) (v .result) _ _ (v .last .0) (v .last .1 .0) (v .last .1 .1 .0) (c .enum-told .given .1)) (s .before .before .before .before .loop2-test .taken) (v .ensures))
+
+add-x : tie.Need-add-x Inv-loop2 μ-loop2 Inv-loop μ-loop
+add-x c = let s = to-visit (c .before .before .before) in omega (arith, s .before .before .before .before .loop2-test .taken, to-start (to-row (to-block s)) .pre .5)
 
 loop2-again : tie.Need-loop2-again Inv-loop2 μ-loop2 Inv-loop μ-loop
 loop2-again c =
@@ -67,25 +79,25 @@ loop2-again c =
     let l = to-block s .loop2 in
     let v = s .visit in
     let n = sym (ap (λ (z : Step). stepped z (v .last .0) (v .last .1 .0) (v .last .1 .1 .0)) (c .before .step .given .1)) ∙ v .ensures in
-    (omega arith, e .before .before .before .before .before .kinds .given ∙ l .inv .1, e .before .before .before .hf-mul .given ∙ l .inv .2, e .before .sigma .given ∙ l .inv .3, l .inv .4 ∙ loop-next (visit (jobWith (a .bw) (a .bh) (a .types .now) (a .muls .now) (a .sharpness .now) (a .filter) (a .lookups .now))) (a .bw) (a .bh) (o .y) (l .x) (Going (stateOf (l .used) (l .kinds) (l .hf-mul) (l .sigma))) _ (omega arith) n)
+    (omega (arith, s .before .before .before .before .loop2-test .taken), e .before .before .before .before .before .kinds .given ∙ l .inv .1, e .before .before .before .hf-mul .given ∙ l .inv .2, e .before .sigma .given ∙ l .inv .3, l .inv .4 ∙ loop-next (visit (jobWith (a .bw) (a .bh) (a .types .now) (a .muls .now) (a .sharpness .now) (a .filter) (a .lookups .now))) (a .bw) (a .bh) (o .y) (l .x) (Going (stateOf (l .used) (l .kinds) (l .hf-mul) (l .sigma))) _ (s .before .before .before .before .loop2-test .taken) n)
 
 loop-again : tie.Need-loop-again Inv-loop2 μ-loop2 Inv-loop μ-loop
 loop-again c =
     let a = to-start (to-row (c .before)) .args in
     let o = to-row (c .before) .loop in
     let l = c .before .loop2 in
-    (omega arith, l .inv .1, l .inv .2, l .inv .3, o .inv .4 ∙ loop-enter (visit (jobWith (a .bw) (a .bh) (a .types .now) (a .muls .now) (a .sharpness .now) (a .filter) (a .lookups .now))) (a .bw) (a .bh) (o .y) (Going (stateOf (o .used) (o .kinds) (o .hf-mul) (o .sigma))) (omega arith) ∙ l .inv .4 ∙ loop-leave (visit (jobWith (a .bw) (a .bh) (a .types .now) (a .muls .now) (a .sharpness .now) (a .filter) (a .lookups .now))) (a .bw) (a .bh) (o .y) (l .x) (Going (stateOf (l .used) (l .kinds) (l .hf-mul) (l .sigma))) (omega arith))
+    (omega (arith, c .before .before .loop-test .taken), l .inv .1, l .inv .2, l .inv .3, o .inv .4 ∙ loop-enter (visit (jobWith (a .bw) (a .bh) (a .types .now) (a .muls .now) (a .sharpness .now) (a .filter) (a .lookups .now))) (a .bw) (a .bh) (o .y) (Going (stateOf (o .used) (o .kinds) (o .hf-mul) (o .sigma))) (c .before .before .loop-test .taken) ∙ l .inv .4 ∙ loop-leave (visit (jobWith (a .bw) (a .bh) (a .types .now) (a .muls .now) (a .sharpness .now) (a .filter) (a .lookups .now))) (a .bw) (a .bh) (o .y) (l .x) (Going (stateOf (l .used) (l .kinds) (l .hf-mul) (l .sigma))) (c .loop2-test .left))
 
 returns-2 : tie.Need-returns-2 Inv-loop2 μ-loop2 Inv-loop μ-loop
 returns-2 c =
     let a = to-start (c .before) .args in
     let o = c .before .loop in
-    sym (loop-start (visit (jobWith (a .bw) (a .bh) (a .types .now) (a .muls .now) (a .sharpness .now) (a .filter) (a .lookups .now))) (a .bw) (a .bh) (Going (stateOf 0 (a .kinds .now) (a .hf-mul .now) (a .sigma .now))) ∙ o .inv .4 ∙ loop-finish (visit (jobWith (a .bw) (a .bh) (a .types .now) (a .muls .now) (a .sharpness .now) (a .filter) (a .lookups .now))) (a .bw) (a .bh) (o .y) (Going (stateOf (o .used) (o .kinds) (o .hf-mul) (o .sigma))) (omega arith))
+    sym (loop-start (visit (jobWith (a .bw) (a .bh) (a .types .now) (a .muls .now) (a .sharpness .now) (a .filter) (a .lookups .now))) (a .bw) (a .bh) (Going (stateOf 0 (a .kinds .now) (a .hf-mul .now) (a .sigma .now))) ∙ o .inv .4 ∙ loop-finish (visit (jobWith (a .bw) (a .bh) (a .types .now) (a .muls .now) (a .sharpness .now) (a .filter) (a .lookups .now))) (a .bw) (a .bh) (o .y) (Going (stateOf (o .used) (o .kinds) (o .hf-mul) (o .sigma))) (c .loop-test .left))
 
 pub read-blocks-spec : {M : Type 1} → statement M
 read-blocks-spec =
     tie.close (tie.spec Inv-loop2 μ-loop2 Inv-loop μ-loop
     (λ c. let h = c .before .before .before .before .before .before .pre in (omega arith, h .0, h .1, h .2, refl)) loop2-holds visit-requires (λ c. search needs)
-    (λ c. search needs) (λ c. search needs) (λ c. search needs) (λ c. search needs) returns (λ c. search needs)
-    (λ c. search needs) loop2-again (λ c. search needs) (λ c. search needs) loop-again (λ c. search needs)
+    (λ c. search needs) same-length same-length-2 same-length-3 returns add-x
+    (λ c. omega (arith, c .before .before .before .before .before .before .before .before .before .before .before .before .before .loop2-test .taken)) loop2-again (λ c. search needs) (λ c. omega (arith, c .before .before .loop-test .taken)) loop-again (λ c. search needs)
     (λ c. search needs) (λ c. search needs) returns-2)

@@ -29,6 +29,6 @@ returns-2 c =
 
 pub read-cleared-spec : {M : Type 1} → statement M
 read-cleared-spec =
-    tie.close (tie.spec (λ c κs. search needs) (λ c. search needs) (λ c. search needs) (λ c. search needs)
-    (λ c. search needs) (λ c. search needs) returns (λ c κs. search needs) (λ c κs. search needs)
-    (λ c κs. search needs) (λ c. search needs) (λ c. search needs) (λ c. search needs) returns-2)
+    tie.close (tie.spec (λ c κs. search needs) (λ c. search needs) (λ c. search needs) (λ c. c .before .before .before .before .before .before .before .kinds .given)
+    (λ c. c .before .before .before .before .before .hf-mul .given) (λ c. c .before .before .before .sigma .given) returns (λ c κs. tt) (λ c κs. tt)
+    (λ c κs. tt) (λ c. c .before .before .before .before .before .before .before .before .before .kinds2 .given ∙ to-step (c .before .before .before .before .before .before) .before .before .before .before .before .before .before .kinds .given) (λ c. c .before .before .before .before .before .hf-mul2 .given ∙ to-step (c .before .before .before .before .before .before) .before .before .before .before .before .hf-mul .given) (λ c. c .before .sigma2 .given ∙ to-step (c .before .before .before .before .before .before) .before .before .before .sigma .given) returns-2)

@@ -27,5 +27,5 @@ returns c =
 
 pub read-from-zeros-spec : {M : Type 1} → statement M
 read-from-zeros-spec =
-    tie.close (tie.spec (λ c κs. search needs) (λ c κs. search needs) (λ c κs. search needs) read-blocks-requires
-    (λ c. search needs) (λ c. search needs) (λ c. search needs) returns)
+    tie.close (tie.spec (λ c κs. tt) (λ c κs. tt) (λ c κs. tt) read-blocks-requires
+    (λ c. c .before .before .before .before .before .kinds2 .given ∙ to-clear-u32 (c .before .before .before .before .before .before) .before .before .before .kinds .given) (λ c. c .before .before .before .hf-mul2 .given ∙ c .before .before .before .before .before .before .before .before .before .before .before .before .before .before .before .hf-mul .given) (λ c. c .before .sigma2 .given ∙ c .before .before .before .before .before .before .before .before .before .before .before .sigma .given) returns)
