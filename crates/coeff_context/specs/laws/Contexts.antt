@@ -4,7 +4,7 @@ use mathlib.Core.Bool.{Bool, cond, _&&_}
 use mathlib.Core.List.{List, [], _∷_}
 use Prim.Native.Nat.{ℕ, suc, _+_, _*_, _-_, _/_, _<_, _≤_}
 use native.Mathlib.Omega.{arith}
-use native.Mathlib.Nat.{div-mul-le-self, lt-of-mul-lt-mul-right, add-mul}
+use native.Mathlib.Nat.{div-mul-le-self, div-lt-iff-lt-mul, lt-of-mul-lt-mul-right, add-mul}
 use lib.Dec.{T, leb, eqb, leb→le, eqb→eq}
 use lib.Ieee.Fits.{and-l, and-r}
 use lib.ListN.{getD}
@@ -56,3 +56,24 @@ unfolding coeffContext
 context-below blocks n i prev h f =
     let q : entries (n / blocks) (i / blocks) ≤ 228 = entries-most (n / blocks) (i / blocks) (quotients blocks n i (omega arith)) in
     omega arith
+
+-- places and counts have an entry each
+pub below-63 : (blocks n : ℕ) → n < 63 * blocks → n / blocks < 63
+below-63 blocks n h = div-lt-iff-lt-mul {k = blocks} {x = n} {y = 63} (omega (arith, h)) .1 h
+
+-- the largest entries: of the table by counts below 32 for each block, and of the table by places
+pub entry-at : (blocks n : ℕ) → n < 32 * blocks → getD NUM-NONZERO (n / blocks) 0 ≤ 180
+unfolding NUM-NONZERO
+entry-at blocks n h =
+    leb→le (getD NUM-NONZERO (n / blocks) 0) 180
+    (each-at (λ (k : ℕ). leb (getD NUM-NONZERO k 0) 180) 32 0 tt (n / blocks) (omega arith) (div-lt-iff-lt-mul {k = blocks} {x = n} {y = 32} (omega (arith, h)) .1 h))
+
+pub freq-at : (blocks i : ℕ) → i < 63 * blocks → getD FREQ (i / blocks) 0 ≤ 30
+unfolding FREQ
+freq-at blocks i h =
+    leb→le (getD FREQ (i / blocks) 0) 30 (each-at (λ (k : ℕ). leb (getD FREQ k 0) 30) 63 0 tt (i / blocks) (omega arith) (below-63 blocks i h))
+
+-- no context is too large for a count of at most 32 × blocks
+pub context-fits : (blocks n i prev : ℕ) → n < 32 * blocks → i < 63 * blocks → prev ≤ 1 → coeffContext blocks n i prev < 458
+unfolding coeffContext
+context-fits blocks n i prev h g f = omega (arith, entry-at blocks n h, freq-at blocks i g, f)

@@ -3,7 +3,7 @@ use mathlib.Core.Bool.{Bool, cond, _&&_}
 use mathlib.Core.Logic.{_⊎_, inl, inr, _↔_}
 use Prim.Native.Nat.{ℕ, _*_, _-_, _/_, _<_, _≤_}
 use native.Mathlib.Omega.{arith}
-use native.Mathlib.Nat.{le-div-iff-mul-le, div-lt-iff-lt-mul}
+use native.Mathlib.Nat.{le-div-iff-mul-le}
 use borrow.Author.Tests.{le-leb, lt-leb}
 use lib.Dec.{T, leb, leb→le}
 use Rattle.laws.specs.Tables.{each}
@@ -11,7 +11,7 @@ use Rattle.laws.specs.laws.Tables.{each-at}
 use Rattle.laws.specs.laws.Cases.{le-or-lt}
 use Rattle.coeff_context.specs.Context.{coeffContext, NUM-NONZERO, FREQ}
 use Rattle.coeff_context.specs.Census.{Situation, contextOf}
-use Rattle.coeff_context.specs.laws.Contexts.{entries}
+use Rattle.coeff_context.specs.laws.Contexts.{entries, below-63}
 
 -- One test over the 3,969 pairs of entries.
 abbrev parted : ℕ → ℕ → Bool
@@ -50,10 +50,10 @@ too-large s some most there flag = (to, from)
     positive = omega (arith, there)
 
     h : a < 63
-    h = div-lt-iff-lt-mul {k = s .blocks} {x = s .count - 1} {y = 63} positive .1 (omega (arith, some, most))
+    h = below-63 (s .blocks) (s .count - 1) (omega (arith, some, most))
 
     g : c < 63
-    g = div-lt-iff-lt-mul {k = s .blocks} {x = s .place} {y = 63} positive .1 there
+    g = below-63 (s .blocks) (s .place) there
 
     manyDue : (32 ≤ a) ↔ (32 * s .blocks ≤ s .count - 1)
     manyDue = le-div-iff-mul-le {k = s .blocks} {x = 32} {y = s .count - 1} positive

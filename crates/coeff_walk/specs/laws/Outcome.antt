@@ -5,8 +5,6 @@ use mathlib.Core.List.{List, [], _∷_}
 use Prim.Native.Nat.{ℕ, zero, suc, _+_, _*_, _-_, _/_, _%_, _^_, _<_, _≤_}
 use native.Mathlib.Omega.{arith}
 use native.Mathlib.Numerals.{add-one}
-use native.Mathlib.Nat.{div-lt-iff-lt-mul}
-use lib.Pow.{pow-pos}
 use borrow.Author.Tests.{lt-ltb, le-ltb}
 use lib.ListN.{length, getD, set, take, drop, drop-of-length-le}
 use lib.Seq.{drop-cons, set-out}
@@ -199,7 +197,3 @@ gain-more shift g p (suc u) n = refl
 pub gain-out : (shift : ℕ) (g : List ℕ) (p u : ℕ) → length g ≤ p → gain shift g p u ≡ g
 gain-out shift g p zero h = refl
 gain-out shift g p (suc u) h = set-out g p ((getD g p 0 + unpackSigned (suc u) * 2 ^ shift % 2 ^ 32) % 2 ^ 32) h
-
--- blocks as a power of two
-pub below-63 : (exponent n : ℕ) → n < 63 * 2 ^ exponent → n / 2 ^ exponent < 63
-below-63 exponent n l = div-lt-iff-lt-mul {k = 2 ^ exponent} {x = n} {y = 63} (pow-pos exponent) .1 l

@@ -1,38 +1,16 @@
--- Runs of zeros within the walk, and counts for which no context is too large.
+-- Runs of zeros within the walk.
 use mathlib.Core.Path.{_≡_, refl, sym, _∙_}
 use mathlib.Core.List.{List}
 use Prim.Native.Nat.{ℕ, zero, suc, _+_, _*_, _-_, _/_, _%_, _^_, _<_, _≤_}
 use native.Mathlib.Omega.{arith}
-use native.Mathlib.Nat.{div-lt-iff-lt-mul}
-use lib.Pow.{pow-pos}
-use lib.Dec.{leb, leb→le}
 use lib.ListN.{length, getD, set, take, drop, length-set, length-drop}
 use lib.Seq.{set-getD, getD-drop}
 use Rattle.laws.specs.laws.Lists.{tail-all}
-use Rattle.laws.specs.laws.Tables.{at-each, each-at}
 use Rattle.coded_numbers.specs.Signed.{unpackSigned}
 use Rattle.coeff_context.specs.Context.{coeffContext, FREQ, NUM-NONZERO}
+use Rattle.coeff_context.specs.laws.Contexts.{entry-at, context-fits}
 use Rattle.coeff_walk.specs.Walk.{walk, gain}
-use Rattle.coeff_walk.specs.laws.Outcome.{walk-zero, below-63}
-
--- the largest entries: of the table by counts below 32 for each block, and of the table by places
-entry-most : (k : ℕ) → k < 32 → getD NUM-NONZERO k 0 ≤ 180
-unfolding NUM-NONZERO
-entry-most k h = leb→le (getD NUM-NONZERO k 0) 180 (each-at (λ (n : ℕ). leb (getD NUM-NONZERO n 0) 180) 32 0 tt k (omega arith) (omega arith))
-
-freq-most : (k : ℕ) → k < 63 → getD FREQ k 0 ≤ 30
-unfolding FREQ
-freq-most k h = leb→le (getD FREQ k 0) 30 (at-each (λ (n : ℕ). leb n 30) FREQ tt 0 k h)
-
-pub entry-at : (exponent n : ℕ) → n < 32 * 2 ^ exponent → getD NUM-NONZERO (n / 2 ^ exponent) 0 ≤ 180
-entry-at exponent n h = entry-most (n / 2 ^ exponent) (div-lt-iff-lt-mul {k = 2 ^ exponent} {x = n} {y = 32} (pow-pos exponent) .1 h)
-
-pub freq-at : (exponent i : ℕ) → i < 63 * 2 ^ exponent → getD FREQ (i / 2 ^ exponent) 0 ≤ 30
-freq-at exponent i h = freq-most (i / 2 ^ exponent) (below-63 exponent i h)
-
-pub context-fits : (exponent n i prev : ℕ) → n < 32 * 2 ^ exponent → i < 63 * 2 ^ exponent → prev ≤ 1 → coeffContext (2 ^ exponent) n i prev < 458
-unfolding coeffContext
-context-fits exponent n i prev h g f = omega (arith, entry-at exponent n h, freq-at exponent i g)
+use Rattle.coeff_walk.specs.laws.Outcome.{walk-zero}
 
 -- the clusters of coefficients from the entry of a count on of which `left` are left
 abbrev pub entriesFor : ℕ → List ℕ → ℕ → List ℕ
@@ -44,7 +22,7 @@ module _ (exponent : ℕ) (coeffMap : List ℕ) (left x : ℕ) (e : x ≡ 2 * ge
   entries-lent = tail-all coeffMap x ∙ rw e
 
   pub entries-room : left - 1 < 32 * 2 ^ exponent → length coeffMap ≡ 458 → 60 < length (take (length coeffMap - x) (drop x coeffMap))
-  entries-room h l = rw (tail-all coeffMap x, length-drop x coeffMap) (omega (arith, entry-at exponent (left - 1) h))
+  entries-room h l = rw (tail-all coeffMap x, length-drop x coeffMap) (omega (arith, entry-at (2 ^ exponent) (left - 1) h))
 
 -- what a run of zeros below place `stop` requires
 pub record ZerosReady (exponent symbols at from stop entries log : ℕ) : Type 0 where
@@ -82,7 +60,7 @@ module _ (exponent : ℕ) (entries symbols : List ℕ) (at from stop : ℕ) (log
             let c : coeffContext (2 ^ exponent) (left - 1) k 0 ≡ 2 * x + y * 2 = unfold coeffContext in omega arith in
             let d : getD entries (y * 2) 0 ≡ getD coeffMap (coeffContext (2 ^ exponent) (left - 1) k 0) 0 = rw (e, c) (getD-drop (2 * x) coeffMap (y * 2) 0) in
             let a : at + (k + 1) ≡ at + k + 1 = omega arith in
-            rw (d, a) (sym (walk-zero shift (2 ^ exponent) coeffMap places symbols k 0 left (at + k) log g (omega arith) l (context-fits exponent (left - 1) k 0 (omega arith) (omega arith) (omega arith)) (omega arith) u) ∙ z .skipped shift coeffMap places left g l m e s);
+            rw (d, a) (sym (walk-zero shift (2 ^ exponent) coeffMap places symbols k 0 left (at + k) log g (omega arith) l (context-fits (2 ^ exponent) (left - 1) k 0 (omega arith) (omega arith) (omega arith)) (omega arith) u) ∙ z .skipped shift coeffMap places left g l m e s);
       }
 
 -- a sum in the cell, also for a symbol 0

@@ -5,6 +5,7 @@ use Prim.Native.Nat.{ℕ, _+_, _*_, _-_, _/_, _^_, _<_, _≤_}
 use native.Mathlib.Omega.{arith}
 use lib.ListN.{length, getD, set, take, drop, length-set}
 use Rattle.coeff_context.specs.Context.{coeffContext, NUM-NONZERO}
+use Rattle.coeff_context.specs.laws.Contexts.{entry-at, context-fits}
 use Rattle.coeff_walk.specs.Walk.{Walked, walk, gain}
 use Rattle.coeff_walk.specs.declared.WalkEnd.the-variants.{Done, Stopped}
 use Rattle.refusal.specs.declared.Refusal.the-variants.{SymbolsEnd, CountRemaining}
@@ -12,7 +13,7 @@ use Rattle.coeff_walk.specs.declared.spot.Spot.{Spot}
 use Rattle.coeff_walk.specs.laws.Outcome.{spotCells, WalkReady, WalkShown, walk-used, walk-24, walk-15, walk-zero, walk-more, ends}
 use Rattle.coeff_walk.specs.laws.Kept.{length-gain}
 use Rattle.coeff_walk.specs.laws.PlaceLaws.{places-count}
-use Rattle.coeff_walk.specs.laws.Runs.{Zeros, ZerosReady, entry-at, entries-lent, entries-room, context-fits}
+use Rattle.coeff_walk.specs.laws.Runs.{Zeros, ZerosReady, entries-lent, entries-room}
 
 -- the walk stands at place k, below `stop`, up to which there are places and symbols; what is left to do gives the whole
 pub record Sparse (spot : Spot) (list symbols : List ℕ) (at : ℕ) (coeffMap : List ℕ) (shift : ℕ) (log₀ grid₀ : List ℕ) (whole : Walked) (stop : ℕ) (log grid : List ℕ) (left prev k : ℕ) : Type 0 where
@@ -62,7 +63,7 @@ module _ {spot : Spot} {list symbols : List ℕ} {at : ℕ} {coeffMap : List ℕ
           let d = s .due in
           let f = r .fits in
           let l = s .last (omega (arith, h, b)) in
-          ends _ _ _ (walk-15 shift (2 ^ (spot .exponent)) coeffMap (spotCells spot list) symbols k prev left (at + k) log grid (omega (arith, h, places-count (spot .turn) (spot .width) (spot .x) (spot .y) list)) (omega (arith, n)) (context-fits (spot .exponent) (left - 1) k prev (omega (arith, d, n)) (omega (arith, h, f)) (s .flagged)) (omega (arith, l, e))) (s .same)
+          ends _ _ _ (walk-15 shift (2 ^ (spot .exponent)) coeffMap (spotCells spot list) symbols k prev left (at + k) log grid (omega (arith, h, places-count (spot .turn) (spot .width) (spot .x) (spot .y) list)) (omega (arith, n)) (context-fits (2 ^ (spot .exponent)) (left - 1) k prev (omega (arith, d, n)) (omega (arith, h, f)) (s .flagged)) (omega (arith, l, e))) (s .same)
 
       pub turn : k < stop → (left ≡ 0 → ⊥) → Turn spot list symbols at (length coeffMap) (length log) left prev k
       turn h n =
@@ -81,8 +82,8 @@ module _ {spot : Spot} {list symbols : List ℕ} {at : ℕ} {coeffMap : List ℕ
             few = g;
             symbol = omega (arith, h, q);
             room = omega (arith, h, p, r .room, s .logLong);
-            context = context-fits (spot .exponent) (left - 1) k prev b g (s .flagged);
-            entry = omega (arith, entry-at (spot .exponent) (left - 1) b, r .entries);
+            context = context-fits (2 ^ (spot .exponent)) (left - 1) k prev b g (s .flagged);
+            entry = omega (arith, entry-at (2 ^ (spot .exponent)) (left - 1) b, r .entries);
           }
 
       module _ (t : Turn spot list symbols at (length coeffMap) (length log) left prev k) {context : ℕ} (e : context ≡ coeffContext (2 ^ (spot .exponent)) (left - 1) k prev) where

@@ -68,5 +68,5 @@ pub list-buffers-spec : {M : Type 1} → statement M
 list-buffers-spec =
     tie.close (tie.spec (λ c κs. search needs) mul-n slice-aggregate-list-layout slice-relend-prefix-list-layout
     slice-aggregate-list-layout-2 slice-relend-prefix-list-layout-2 slice-aggregate-list-layout-3
-    slice-relend-prefix-list-layout-3 slice-aggregate-list-layout-4 list-layout-requires (λ c. search needs)
+    slice-relend-prefix-list-layout-3 slice-aggregate-list-layout-4 list-layout-requires (λ c. c .before .before .before .before .before .before .before .out .given)
     (λ c. search needs) (λ c. search needs) (λ c. search needs) (λ c. search needs))

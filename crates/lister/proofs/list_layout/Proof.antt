@@ -58,6 +58,6 @@ returns-2 c =
 pub list-layout-spec : {M : Type 1} → statement M
 list-layout-spec =
     tie.close (tie.spec (λ c κs. search needs) (λ c. search needs) put-accepted-requires (λ c. search needs)
-    (λ c κs. search needs) (λ c κs. search needs) (λ c. search needs) (λ c. search needs) (λ c. search needs)
-    (λ c. search needs) returns (λ c. search needs) (λ c. search needs) (λ c. search needs) (λ c. search needs)
+    (λ c κs. search needs) (λ c κs. search needs) (λ c. c .before .out .given) (λ c. c .before .before .before .before .before .before .before .before .before .before .before .before .before .kinds .given) (λ c. c .before .before .before .before .before .before .before .before .before .before .before .hf-mul .given) (λ c. c .before .before .before .before .before .before .before .before .before .sigma .given)
+    returns (λ c. c .before .out2 .given) (λ c. c .before .before .before .before .before .before .before .before .before .before .before .before .before .kinds .given) (λ c. c .before .before .before .before .before .before .before .before .before .before .before .hf-mul .given) (λ c. c .before .before .before .before .before .before .before .before .before .sigma .given)
     returns-2)

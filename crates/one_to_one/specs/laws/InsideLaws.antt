@@ -4,13 +4,14 @@ use mathlib.Core.Bool.{Bool, true, false, cond}
 use mathlib.Core.List.{List, [], _∷_, List·Memᴰ·head as here, List·Memᴰ·tail as there}
 use Prim.Native.Nat.{ℕ, zero, suc, _+_, _*_, _-_, _/_, _<_, _≤_}
 use native.Mathlib.Omega.{arith}
-use native.Mathlib.Nat.{le-refl, div-lt-iff-lt-mul, mul-le-mul}
+use native.Mathlib.Nat.{le-refl, mul-le-mul}
 use lib.Dec.{leb}
 use lib.ListN.{length, getD, set, drop, length-set, length-drop}
 use lib.Seq.{sets, length-sets, length-take-le}
 use borrow.Author.Tests.{leb-true, leb-false}
 use Rattle.refusal.specs.declared.Refusal.the-variants.{Count}
 use Rattle.coeff_context.specs.Context.{FREQ, NUM-NONZERO, coeffContext}
+use Rattle.coeff_context.specs.laws.Contexts.{below-63}
 use Rattle.coeff_walk.specs.Walk.{Walked, stopped, walk, flag, less, gain}
 use Rattle.coeff_walk.specs.laws.Kept.{length-gain}
 use Rattle.coeff_walk.specs.laws.Counts.{count-over}
@@ -24,17 +25,14 @@ use Rattle.one_to_one.specs.Inside.{WalkInside, CountInside, ItemInside,
 
 -- Coefficients of one channel.
 
-below-63 : (blocks n : ℕ) → 0 < blocks → n < 63 * blocks → n / blocks < 63
-below-63 blocks n pos h = div-lt-iff-lt-mul {k = blocks} {x = n} {y = 63} pos .1 h
-
 less-most : (u n m : ℕ) → suc n ≤ m → less u n ≤ m
 less-most zero n m h = h
 less-most (suc u) n m h = omega arith
 
-module _ (shift blocks : ℕ) (coeffMap : List ℕ) (pos : 0 < blocks) (long : length coeffMap ≡ 458) where
+module _ (shift blocks : ℕ) (coeffMap : List ℕ) (long : length coeffMap ≡ 458) where
   tables : (n i : ℕ) → n < 63 * blocks → i < 63 * blocks → (n / blocks < length NUM-NONZERO) × (i / blocks < length FREQ)
   unfolding NUM-NONZERO FREQ
-  tables n i a b = (below-63 blocks n pos a, below-63 blocks i pos b)
+  tables n i a b = (below-63 blocks n a, below-63 blocks i b)
 
   walk-inside : (ps : List ℕ) (i prev n : ℕ) (us : List ℕ) (at : ℕ) (log g : List ℕ)
       → i + length ps ≤ 63 * blocks → n ≤ 63 * blocks → at + length ps ≤ length log → ((p : ℕ) → In p ps → p < length g)
@@ -133,7 +131,7 @@ module _ (shift clusters : ℕ) (presetMap : List ℕ) (whole : length presetMap
       omega (arith, entry-most row m),
       omega (arith, part-inside),
       omega arith,
-      λ h. walk-inside shift (it .blocks) (coeffMapOf clusters presetMap it) (s .blocks) part-long (it .cells) 0 (cond (leb n (4 * it .blocks)) 1 0) n us (at + 1)
+      λ h. walk-inside shift (it .blocks) (coeffMapOf clusters presetMap it) part-long (it .cells) 0 (cond (leb n (4 * it .blocks)) 1 0) n us (at + 1)
           (set log at (countCluster clusters presetMap it row)) g (omega (arith, s .size)) h
           (rw (length-set log at (countCluster clusters presetMap it row)) (omega arith)) (λ (p : ℕ). λ (i : In p (it .cells)). rw e (s .places p i)),
     )

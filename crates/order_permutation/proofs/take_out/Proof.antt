@@ -65,6 +65,9 @@ close-requires c κs =
     let g = spot-closed (a .span) (a .count .now) (a .rest .now) (a .d) (c .before .before .before .before .before .before .before .before .before .before .pre .0) (c .before .before .before .before .before .before .before .before .before .before .pre .3) (s .block) (a .d - s .before) (f .0) (omega (arith, f .2, f .3)) (omega (arith, f .1, f .2)) (n .result) (m .result) (n .ensures) (m .ensures) (n .result - 1 - (a .d - s .before) + (m .result - s .block * a .span - n .result)) (omega arith) (omega arith) in
     omega (arith, tail-length (a .rest .now) (s .block * a .span), g .2)
 
+sub-count : tie.Need-sub-count
+sub-count c = let f = c .before .before .before .before .before .before .before .before .find .ensures in omega (arith, f .2, f .3, c .before .before .before .before .before .before .short-to-usize .ensures)
+
 cast-count : tie.Need-cast-count
 cast-count c = let q = room (c .before .before .before .before .before .before .before .before) in omega (arith, c .before .before .before .before .before .before .short-to-usize .ensures, q .1, q .2)
 
@@ -86,5 +89,5 @@ take-out-spec =
     tie.close (tie.spec (λ c κs. search needs) (λ c κs. search needs) (λ c. search needs) (λ c. search needs)
     (λ c. search needs) (λ c κs. search needs) (λ c. search needs) (λ c. search needs) mul-start add-value mul-value
     slice-read-value add-at-most (λ c κs. search needs) mul-close sub-close part-close-start (λ c. search needs)
-    sub-close-2 sub-close-3 close-requires (λ c. search needs) cast-count (λ c. search needs) (λ c. search needs)
+    sub-close-2 sub-close-3 close-requires sub-count cast-count (λ c. omega (arith, c .before .before .before .before .before .before .before .before .find .ensures .0)) (λ c. c .before .before .before .before .before .before .before .before .find .ensures .0)
     (λ c. search needs) returns)

@@ -1,7 +1,8 @@
 use borrow.Author.Needs.{needs}
-use Rattle.coeff_walk.specs.laws.Runs.{Zeros, zeros-start, zeros-turn, freq-at}
+use Rattle.coeff_walk.specs.laws.Runs.{Zeros, zeros-start, zeros-turn}
+use Rattle.coeff_context.specs.laws.Contexts.{freq-at}
 use native.Mathlib.Omega.{arith}
-use Prim.Native.Nat.{_-_}
+use Prim.Native.Nat.{_-_, _^_}
 use Rattle.coeff_places.proofs.walk.skip_zeros.Statement.{statement}
 use Rattle.coeff_places.proofs.walk.skip_zeros.Tie as tie
 
@@ -18,7 +19,7 @@ frequency-at-requires : tie.Need-frequency-at-requires Inv-loop μ-loop
 frequency-at-requires c κs = (c .before .before .before .before .before .before .before .pre .0, c .before .before .before .before .before .before .before .pre .1 .small, omega (arith, c .before .before .before .before .before .before .before .pre .1 .places))
 
 shared-slice-read-log : tie.Need-shared-slice-read-log Inv-loop μ-loop
-shared-slice-read-log c = omega (arith, c .before .frequency-at .ensures .0, c .before .before .before .before .before .before .before .before .before .pre .1 .enough, freq-at (c .before .before .before .before .before .before .before .before .before .args .exponent) (c .before .before .before .before .before .loop .k) (omega (arith, c .before .before .before .before .before .before .before .before .before .pre .1 .places)))
+shared-slice-read-log c = omega (arith, c .before .frequency-at .ensures .0, c .before .before .before .before .before .before .before .before .before .pre .1 .enough, freq-at (2 ^ (c .before .before .before .before .before .before .before .before .before .args .exponent)) (c .before .before .before .before .before .loop .k) (omega (arith, c .before .before .before .before .before .before .before .before .before .pre .1 .places)))
 
 loop-again : tie.Need-loop-again Inv-loop μ-loop
 loop-again c =
