@@ -1,6 +1,6 @@
 use Rattle.refusal.specs.Said.{said}
 use Rattle.refusal.specs.Answer.{gives, refuses}
-use Rattle.coeff_context.specs.Census.{answered, situation, censusOf}
+use Rattle.coeff_context.specs.Census.{answered, censusOf}
 use borrow.Author.Needs.{needs}
 use mathlib.Core.Path.{_≡_, _∙_, ap, sym}
 use Rattle.c_census.proofs.netbuff_coefficient_context.Statement.{statement}

@@ -2,8 +2,8 @@
 -- count remaining (document 02, No. 8), and where 17 is told, more coefficients of a channel are due than places remain (document 02, No. 9).
 use mathlib.Core.Path.{_≡_, refl, ap, sym, subst, _∙_}
 use mathlib.Core.Bool.{true, true≢false}
-use mathlib.Core.List.{List, _∷_, _++_, List·Memᴰ·head as here, Memᴰ·append-right}
-use Prim.Native.Nat.{ℕ, _*_, _-_, _<_}
+use mathlib.Core.List.{List, List·Memᴰ·head as here, Memᴰ·append-right}
+use Prim.Native.Nat.{ℕ, _*_, _-_}
 use native.Mathlib.Omega.{arith}
 use lib.ListN.{length, take}
 use lib.Seq.{take-at}
@@ -12,8 +12,6 @@ use Rattle.refusal.specs.declared.Refusal.the-variants.{SymbolsEnd, Count, TooM
 use Rattle.refusal.specs.declared.Said.{Said}
 use Rattle.refusal.specs.Said.{saidAt, said}
 use Rattle.refusal.specs.Answer.{gives, refuses}
-use Rattle.layout.specs.Varblocks.{Varblock}
-use Rattle.layout.specs.Listed.{Among}
 use Rattle.layout.specs.laws.Rectangles.{known}
 use Rattle.layout.specs.laws.Theorems.{layout-iff}
 use Rattle.coeff_walk.specs.declared.WalkEnd.the-variants.{Done}

@@ -2,10 +2,6 @@ use borrow.Author.Needs.{needs}
 use Prim.Native.Nat.{_≤_, _-_}
 use Rattle.replay.proofs.replay_all.Statement.{statement}
 use Rattle.replay.proofs.replay_all.Tie as tie
-use Rattle.replay.proofs.is_list.Reads as is-list-reads
-use Rattle.replay.proofs.names.number.Reads as number-reads
-use Rattle.replay.proofs.names.text.Reads as text-reads
-use Rattle.replay.proofs.walk.replay_call.Reads as replay-call-reads
 
 abbrev Inv-loop : tie.InvT-loop
 Inv-loop file words records₀ call₀ t6 records call = call ≤ 10

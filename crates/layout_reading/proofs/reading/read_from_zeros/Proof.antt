@@ -1,7 +1,6 @@
 use mathlib.Core.Path.{_∙_}
 use Rattle.layout_placing.specs.Reading.{jobWith}
 use Rattle.layout_reading.specs.laws.Lengths.{read-all, cleared}
-use borrow.Author.Needs.{needs}
 use Rattle.layout_reading.proofs.reading.read_from_zeros.Statement.{statement}
 use Rattle.layout_reading.proofs.reading.read_from_zeros.Tie as tie
 
