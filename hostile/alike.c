@@ -83,10 +83,23 @@ static void exchange(struct input *in, struct grid *grid, size_t cell)
         grid->kinds[corner] = kind;
 }
 
+/* Beside a layout without blocks: mostly another one without, else one with some. */
+static void take_other_of_empty(struct input *in, struct filtered_grid *other)
+{
+    struct sides sides = take_sides(in);
+    if (!take_once_in(in, 3))
+        take_blocks_away(in, &sides);
+    fill_filtered(in, other, sides);
+}
+
 /* A second layout: the first, changed in one place or not at all, or another. */
 static void take_other(struct input *in, struct filtered_grid *one, struct filtered_grid *other)
 {
     size_t cells = one->grid.sides.wide * one->grid.sides.high;
+    if (cells == 0) {
+        take_other_of_empty(in, other);
+        return;
+    }
     uint32_t cell = take_below(in, (uint32_t)cells);
     other->grid.sides = one->grid.sides;
     memcpy(other->grid.kinds, one->grid.kinds, cells);
@@ -129,11 +142,14 @@ static void put_not_finite(struct input *in, struct filtered_layout *lent, size_
     memcpy(&lent->sigma[from + take_below(in, length - from)], &bits, sizeof bits);
 }
 
-/* A sigma is looked at to its end: a vast one is lent only where a side is refused before. */
+/* A sigma is looked at to its end: a vast one is lent only where a side is refused before. Where there
+ * are no blocks, there often are some numbers all the same. */
 static struct filtered_layout lend_filtered(struct input *in, const struct filtered_grid *filled)
 {
-    size_t cells = filled->grid.sides.wide * filled->grid.sides.high;
-    struct filtered_layout lent = {lend_layout(in, &filled->grid), NULL, take_length(in, cells)};
+    size_t cells = filled->grid.sides.wide * filled->grid.sides.high, wanted = cells;
+    if (cells == 0 && take_once_in(in, 4))
+        wanted = take_between(in, 1, 3);
+    struct filtered_layout lent = {lend_layout(in, &filled->grid), NULL, take_length(in, wanted)};
     if (lent.sigma_length >= VAST && sides_in_limits(lent.layout.sides))
         lent.sigma_length = cells + 1;
     lent.sigma = lend_copy(in, "sigma", filled->sigma, cells, lent.sigma_length, 4);
@@ -172,11 +188,19 @@ static uint32_t alike_due(const struct filtered_layout *one, const struct filter
     return holds_layout(one) && holds_layout(other) ? 0 : 18;
 }
 
-/* Of two layouts that nothing is refused of. */
+static bool has_blocks(const struct lent_layout *layout)
+{
+    return layout->sides.wide > 0 && layout->sides.high > 0;
+}
+
+/* Of two layouts that nothing is refused of. Two without blocks have the same varblocks and the same
+ * sigma, none, whatever their sides. */
 static bool is_alike(const struct filtered_layout *one, const struct filtered_layout *other)
 {
     const struct lent_layout *left = &one->layout, *right = &other->layout;
     struct sides sides = left->sides;
+    if (!has_blocks(left) || !has_blocks(right))
+        return has_blocks(left) == has_blocks(right);
     if (sides.wide != right->sides.wide || sides.high != right->sides.high)
         return false;
     return same_varblocks(sides, left->kinds, left->hf_mul, right->kinds, right->hf_mul) &&

@@ -5,12 +5,23 @@
 
 enum { SYMBOLS_MOST = 200000 };
 
+/* Sides of a group without blocks: one is 0, the other any, or by times the largest, or one more. */
+static struct sides take_no_blocks(struct input *in)
+{
+    size_t side = take_below(in, GROUP_SIDE + 1);
+    if (take_once_in(in, 6))
+        side = GROUP_SIDE + take_below(in, 2);
+    return take_below(in, 2) == 0 ? (struct sides){0, side} : (struct sides){side, 0};
+}
+
 static void take_group(struct input *in, struct group_call *call, struct grid *grid)
 {
     uint8_t class = take_byte(in);
     uint32_t most = class >= 252 ? GROUP_SIDE : 5;
     if (class < 64)
         fill_single(in, grid, take_below(in, TRANSFORMS));
+    else if (class < 112)
+        fill_grid(in, grid, take_no_blocks(in));
     else
         fill_grid(in, grid, (struct sides){take_between(in, 1, most), take_between(in, 1, most)});
     if (take_once_in(in, 16))
@@ -65,10 +76,10 @@ static void damage_record(struct input *in, struct record *record)
     }
 }
 
-static void take_record(struct input *in, struct group_call *call, struct record *record)
+static void take_record(struct input *in, struct group_call *call, struct record *record, size_t blocks)
 {
     write_record(in, record);
-    if (take_once_in(in, 16))
+    if (take_once_in(in, blocks == 0 ? 6 : 16))
         damage_record(in, record);
     call->record = record;
     call->lengths = lend_copy(in, "lengths", record->lengths, 4, 4, 4);
@@ -93,13 +104,13 @@ static void take_lf(struct input *in, struct group_call *call, size_t blocks)
 }
 
 /* Mostly one of the kept stores; else one with a number changed, or of another length. */
-static void take_store(struct input *in, struct group_call *call)
+static void take_store(struct input *in, struct group_call *call, size_t blocks)
 {
     const uint16_t *kept = take_below(in, 2) == 0 ? natural_store : permuted_store;
     size_t wanted = NETBUFF_STORE_LENGTH;
     call->store = kept;
     call->store_length = take_length(in, wanted);
-    bool change = take_once_in(in, 64);
+    bool change = take_once_in(in, blocks == 0 ? 4 : 64);
     if (call->store_length == wanted && !change)
         return;
     uint16_t *store = lend_copy(in, "store", kept, wanted, call->store_length, sizeof *store);
@@ -108,21 +119,22 @@ static void take_store(struct input *in, struct group_call *call)
         store[take_below(in, (uint32_t)call->store_length)] = (uint16_t)take_any(in);
 }
 
-/* Bytes whose first bits mostly are the number of a preset. */
-static const uint8_t *take_preset(struct input *in, uint32_t presets, size_t *length)
+/* Bytes whose first bits mostly are the number of a preset; by times there are none. */
+static const uint8_t *take_preset(struct input *in, uint32_t presets, size_t blocks, size_t *length)
 {
     if (take_once_in(in, 4))
         return lend_bytes(in, length);
-    *length = 1 + take_below(in, 3);
+    *length = take_once_in(in, blocks == 0 ? 3 : 16) ? 0 : 1 + take_below(in, 3);
     uint8_t *bytes = lend_spread(in, "bytes", *length, 1, READ);
-    bytes[0] = (uint8_t)take_below(in, presets > 0 && presets <= PRESETS_MOST ? presets : 1);
+    if (*length > 0)
+        bytes[0] = (uint8_t)take_below(in, presets > 0 && presets <= PRESETS_MOST ? presets : 1);
     return bytes;
 }
 
-static void take_presets(struct input *in, struct group_call *call)
+static void take_presets(struct input *in, struct group_call *call, size_t blocks)
 {
     uint8_t class = take_byte(in);
-    call->presets = take_between(in, 1, 5);
+    call->presets = class >= (blocks == 0 ? 224 : 244) ? 0 : take_between(in, 1, 5);
     if (class >= 248)
         call->presets = class >= 252 ? take_any(in) : take_below(in, PRESETS_MOST + 2);
     call->shift = take_once_in(in, 32) ? take_any(in) : take_below(in, SHIFT_MOST + 1);
@@ -131,7 +143,7 @@ static void take_presets(struct input *in, struct group_call *call)
     size_t wanted = fits ? (size_t)ENTRIES_PER_CLUSTER * count * call->presets : ENTRIES_PER_CLUSTER;
     call->cluster_map_length = take_length(in, wanted);
     call->cluster_map = lend_spread(in, "cluster_map", call->cluster_map_length, 1, READ);
-    call->bytes = take_preset(in, call->presets, &call->bytes_length);
+    call->bytes = take_preset(in, call->presets, blocks, &call->bytes_length);
 }
 
 /* How symbols are made: how often a coefficient is other than 0, how large counts are for each block,
@@ -212,6 +224,10 @@ static void take_symbols(struct input *in, struct group_call *call, const struct
     uint32_t fault = take_below(in, 10);
     if (fault == 9 && count > 0)
         symbols[take_below(in, (uint32_t)count)] = take_any(in);
+    if (count == 0) { /* without blocks none of these is read */
+        count = take_below(in, 4);
+        spread_bytes(in, symbols, count * sizeof symbols[0]);
+    }
     call->symbols_length = count;
     if (fault == 8)
         call->symbols_length = take_below(in, (uint32_t)count + 1);
@@ -229,7 +245,7 @@ static void take_buffers(struct input *in, struct group_call *call, size_t block
         call->grid_length[channel] = take_length(in, 64 * blocks);
         call->grids[channel] = lend_spread(in, names[channel], call->grid_length[channel], 4, WRITE);
     }
-    call->log_length = take_length(in, 192 * blocks);
+    call->log_length = take_length(in, blocks == 0 ? take_below(in, 4) : 192 * blocks);
     if (call->log_length >= VAST)
         call->log_length = 192 * blocks + take_byte(in);
     call->log = lend_spread(in, "log", call->log_length, 1, WRITE);
@@ -238,6 +254,7 @@ static void take_buffers(struct input *in, struct group_call *call, size_t block
     call->y = lend_size(in, "y");
 }
 
+/* A group without blocks reads nothing but its preset, so what it is refused for is lent more often. */
 void host_coefficients(struct input *in)
 {
     static struct grid grid;
@@ -245,10 +262,10 @@ void host_coefficients(struct input *in)
     struct group_call call;
     take_group(in, &call, &grid);
     size_t blocks = grid.sides.wide * grid.sides.high;
-    take_record(in, &call, &record);
+    take_record(in, &call, &record, blocks);
     take_lf(in, &call, blocks);
-    take_store(in, &call);
-    take_presets(in, &call);
+    take_store(in, &call, blocks);
+    take_presets(in, &call, blocks);
     take_symbols(in, &call, &grid);
     take_buffers(in, &call, blocks);
     lend_note();

@@ -28,7 +28,7 @@ static struct answer due_before(const struct group_call *call, uint32_t *preset)
 {
     struct sides sides = call->sides;
     uint64_t place = 0;
-    if (sides.wide < 1 || sides.wide > GROUP_SIDE || sides.high < 1 || sides.high > GROUP_SIDE)
+    if (sides.wide > GROUP_SIDE || sides.high > GROUP_SIDE)
         return (struct answer){2, 0, 0};
     if (call->presets > PRESETS_MOST || call->shift > SHIFT_MOST)
         return (struct answer){11, 0, 0};

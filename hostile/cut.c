@@ -10,7 +10,7 @@ static size_t least(size_t one, size_t other)
     return one < other ? one : other;
 }
 
-/* What is lent to a cut beside the layout, and the group's place in it. */
+/* What is lent to a cut beside the layout, and the group's place in it, if it has one. */
 struct cut_call {
     struct lent_layout layout;
     size_t index, x0, y0;
@@ -18,26 +18,36 @@ struct cut_call {
     uint8_t *kinds;
     int32_t *hf_mul;
     size_t kinds_length, hf_mul_length;
-    bool inside;
 };
+
+static size_t groups_along(size_t side)
+{
+    return (side + GROUP_SIDE - 1) / GROUP_SIDE;
+}
+
+/* Where the group is in a grid that has it. */
+static void place_group(struct cut_call *call, struct sides grid)
+{
+    size_t wide = groups_along(grid.wide);
+    call->x0 = call->index % wide * GROUP_SIDE;
+    call->y0 = call->index / wide * GROUP_SIDE;
+    call->sides = (struct sides){least(GROUP_SIDE, grid.wide - call->x0),
+                                 least(GROUP_SIDE, grid.high - call->y0)};
+}
 
 static void take_cut(struct input *in, struct cut_call *call)
 {
     static struct grid grid;
     fill_grid(in, &grid, take_sides(in));
-    size_t groups_wide = (grid.sides.wide + GROUP_SIDE - 1) / GROUP_SIDE;
-    size_t groups = groups_wide * ((grid.sides.high + GROUP_SIDE - 1) / GROUP_SIDE);
+    size_t groups = groups_along(grid.sides.wide) * groups_along(grid.sides.high);
     if (take_once_in(in, 3))
         damage_grid(in, &grid);
-    call->index = take_below(in, (uint32_t)groups);
+    call->index = take_below(in, groups > 0 ? (uint32_t)groups : 2);
     if (take_once_in(in, 16))
         call->index = take_below(in, 2) == 0 ? groups : SIZE_MAX - take_byte(in);
-    call->inside = call->index < groups;
-    size_t index = call->inside ? call->index : 0;
-    call->x0 = index % groups_wide * GROUP_SIDE;
-    call->y0 = index / groups_wide * GROUP_SIDE;
-    call->sides = (struct sides){least(GROUP_SIDE, grid.sides.wide - call->x0),
-                                 least(GROUP_SIDE, grid.sides.high - call->y0)};
+    call->sides = (struct sides){take_below(in, 3), 1};
+    if (call->index < groups)
+        place_group(call, grid.sides);
     call->layout = lend_layout(in, &grid);
     size_t cells = call->sides.wide * call->sides.high;
     call->kinds_length = take_length(in, cells);
@@ -46,11 +56,13 @@ static void take_cut(struct input *in, struct cut_call *call)
     call->hf_mul = lend_spread(in, "out_hf_mul", call->hf_mul_length, 4, WRITE);
 }
 
-/* The group's sides are those of the sides that are said: where these are wrong, 2 comes first. */
+/* Sides, then the index among the groups of the sides that are said: none without blocks. Where
+ * another side was said than the grid has, one of the two refuses. */
 static uint32_t cut_due(const struct cut_call *call)
 {
     const struct lent_layout *layout = &call->layout;
-    if (!sides_in_limits(layout->sides) || !call->inside)
+    struct sides said = layout->sides;
+    if (!sides_in_limits(said) || call->index >= groups_along(said.wide) * groups_along(said.high))
         return 2;
     size_t cells = call->sides.wide * call->sides.high;
     if (!lengths_fit(layout) || call->kinds_length != cells || call->hf_mul_length != cells)

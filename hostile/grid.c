@@ -80,6 +80,8 @@ void damage_grid(struct input *in, struct grid *grid)
     static const uint8_t kinds[] = {0, 1, 2, 4, 6, 8, 9, 26, 28, 29, 255};
     static const int32_t muls[] = {0, 1, -1, INT32_MIN, INT32_MAX, 2};
     uint32_t cells = (uint32_t)(grid->sides.wide * grid->sides.high);
+    if (cells == 0)
+        return;
     for (uint32_t times = take_between(in, 1, 2); times > 0; times--) {
         uint32_t cell = take_below(in, cells);
         if (take_once_in(in, 3))

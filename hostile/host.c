@@ -26,6 +26,7 @@ static const enum call turns[] = {
     READ_U32,
     UNPACK_SIGNED,
     COLUMN_COUNT,
+    COLUMN_COUNT,
     LAYOUT,
     LAYOUT,
     LAYOUT,

@@ -62,7 +62,7 @@ void fill_grid(struct input *in, struct grid *grid, struct sides sides);
 /* A grid that is one varblock. */
 void fill_single(struct input *in, struct grid *grid, uint32_t transform);
 
-/* Changes single cells, so that most grids are no layout any more. */
+/* Changes single cells, if there are any, so that most grids are no layout any more. */
 void damage_grid(struct input *in, struct grid *grid);
 
 /* Stores as order calls write them: the natural one, and one with permuted lists. */

@@ -7,19 +7,31 @@
 
 enum { SCALE_MOST = 73728 };
 
+static const uint32_t edge_pixels[8] = {0, 2049, 2048, UINT32_MAX, 2041, 257, 256, 1};
+
 static uint32_t take_pixels(struct input *in)
 {
-    static const uint32_t edges[8] = {0, 2049, 2048, UINT32_MAX, 2041, 257, 256, 1};
     uint8_t class = take_byte(in);
     if (class >= 248)
-        return edges[class % 8];
+        return edge_pixels[class % 8];
     return class >= 232 ? take_between(in, 1, 300) : take_between(in, 1, 64);
 }
 
-/* Mostly small and within limits. */
+/* Without blocks: one side is 0, the other as it was, or any, outside the limits too. */
+static void empty_group(struct input *in, struct lf_group *group)
+{
+    uint32_t *sides[2] = {&group->width, &group->height}, which = take_below(in, 2);
+    *sides[which] = 0;
+    if (take_once_in(in, 2))
+        *sides[1 - which] = edge_pixels[take_below(in, 8)];
+}
+
+/* Mostly small and within limits; once in 8 times without blocks. */
 static struct lf_group take_group(struct input *in)
 {
     struct lf_group group = {take_pixels(in), take_pixels(in), {0, 0, 0}};
+    if (take_once_in(in, 8))
+        empty_group(in, &group);
     if (take_once_in(in, 3))
         for (int channel = 0; channel < 3; channel++)
             group.modes[channel] = take_once_in(in, 16) ? take_any(in) : take_below(in, 4);
@@ -87,6 +99,16 @@ static struct sides sides_for(struct lf_group group)
     if (refused_before(group) != 0)
         return (struct sides){1 + group.width % 8, 1 + group.height % 8};
     return lf_group_sides(group.width, group.height, group.modes);
+}
+
+/* Columns of a group without blocks: all of them are surplus, and hold anything. */
+static void take_surplus(struct input *in, struct layout_call *call)
+{
+    size_t wanted = take_below(in, 4);
+    call->types_length = take_length(in, wanted);
+    call->muls_length = take_length(in, wanted);
+    call->types = lend_spread(in, "types", call->types_length, 4, READ);
+    call->muls = lend_spread(in, "muls", call->muls_length, 4, READ);
 }
 
 static void take_columns(struct input *in, struct layout_call *call, const struct grid *grid)
@@ -178,7 +200,10 @@ static void take_layout(struct input *in, struct layout_call *call)
     call->undamaged = true;
     fill_grid(in, &grid, call->sides);
     size_t blocks = call->sides.wide * call->sides.high;
-    take_columns(in, call, &grid);
+    if (blocks == 0)
+        take_surplus(in, call);
+    else
+        take_columns(in, call, &grid);
     call->sharpness_length = take_length(in, blocks);
     call->sharpness = lend_spread(in, "sharpness", call->sharpness_length, 4, READ);
     for (size_t block = 0; block < call->sharpness_length && block < blocks; block++)

@@ -12,10 +12,14 @@ struct lent_layout {
     size_t kinds_length, hf_mul_length;
 };
 
-/* Sides of a layout, mostly small. */
+/* Sides of a layout, mostly small; once in 8 times it has no blocks. */
 struct sides take_sides(struct input *in);
 
-/* Lends a grid as a layout; once in 16 times it is said to have a side outside the limits. */
+/* Makes one side 0; the other is as it was, or the largest, or one more, which 2 refuses still. */
+void take_blocks_away(struct input *in, struct sides *sides);
+
+/* Lends a grid as a layout; once in 16 times it is said to have another side, 0 or outside the
+ * limits. */
 struct lent_layout lend_layout(struct input *in, const struct grid *grid);
 
 /* What 2 asks of the sides, and 1 of the lengths of kinds and hf_mul. */

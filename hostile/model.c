@@ -27,7 +27,7 @@ bool transform_turns(uint32_t transform)
 
 bool pixels_fit(uint32_t width, uint32_t height)
 {
-    return width >= 1 && width <= PIXELS_MOST && height >= 1 && height <= PIXELS_MOST;
+    return width <= PIXELS_MOST && height <= PIXELS_MOST;
 }
 
 bool modes_fit(const uint32_t modes[3])

@@ -19,7 +19,7 @@ enum {
     STORE_NUMBERS = 787968
 };
 
-/* Sides in blocks, or in cells. */
+/* Sides in blocks, or in cells; in blocks either may be 0, and then there are none. */
 struct sides {
     size_t wide, high;
 };

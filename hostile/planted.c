@@ -65,6 +65,33 @@ enum plant {
     FLAG_NOT_SEEN,
     COUNT_NOT_LESS_ONE,
     OTHER_ENTRY,
+    /* Groups and layouts without blocks, call by call: refused, not judged, or something done. */
+    EMPTY_COUNT_REFUSED,
+    EMPTY_COUNT_BESIDE_2049,
+    EMPTY_COUNT_READS_BITS,
+    EMPTY_COUNT_NONE,
+    EMPTY_LAYOUT_REFUSED,
+    EMPTY_LAYOUT_BESIDE_2049,
+    EMPTY_FLOATS_NOT_SEEN,
+    EMPTY_LENGTHS_NOT_SEEN,
+    EMPTY_COLUMN_USED,
+    EMPTY_COLUMN_WANTED,
+    EMPTY_INDEX_INSIDE,
+    EMPTY_LENGTHS_FIRST,
+    EMPTY_ALIKE_REFUSED,
+    EMPTY_ALIKE_BESIDE_257,
+    EMPTY_SIGMA_NOT_SEEN,
+    EMPTY_SIDES_COMPARED,
+    EMPTY_LIKE_ALL,
+    EMPTY_GROUP_REFUSED,
+    EMPTY_GROUP_BESIDE_33,
+    EMPTY_RECORD_NOT_SEEN,
+    EMPTY_GRIDS_NOT_SEEN,
+    EMPTY_PLACES_NOT_SEEN,
+    EMPTY_BITS_NOT_READ,
+    EMPTY_PRESET_NOT_SEEN,
+    EMPTY_SYMBOL_READ,
+    EMPTY_SYMBOL_LOGGED,
     /* Beside a refusal a result is set to 0, call by call. */
     WIDTH_ZERO,
     VALUE_ZERO,
@@ -105,6 +132,19 @@ static enum plant planted(void)
             give_up("HOSTILE_PLANT is no number");
     }
     return (enum plant)number;
+}
+
+/* Whether a group or layout has no blocks. */
+static bool no_blocks(size_t wide, size_t high)
+{
+    return wide == 0 || high == 0;
+}
+
+/* A refusal before all others. */
+static uint32_t refuse_size(size_t *x, size_t *y)
+{
+    *x = *y = 0;
+    return 2;
 }
 
 uint32_t __wrap_netbuff_transform(uint32_t number, size_t *wide, size_t *high, size_t *order, bool *turn,
@@ -151,8 +191,19 @@ uint32_t __wrap_netbuff_column_count(const uint8_t *bytes, size_t length, uint32
                                      uint32_t height, uint32_t mode0, uint32_t mode1, uint32_t mode2,
                                      uint32_t *count, size_t *bits, size_t *x, size_t *y)
 {
+    bool empty = no_blocks(width, height), fits = width <= 2048 && height <= 2048;
+    if (planted() == EMPTY_COUNT_REFUSED && empty)
+        return refuse_size(x, y);
+    if (planted() == EMPTY_COUNT_BESIDE_2049 && empty)
+        width = height = 0;
+    if (planted() == EMPTY_COUNT_READS_BITS && empty && fits) { /* as of two blocks, or four */
+        width = 16;
+        height = 8;
+    }
     uint32_t refused = __real_netbuff_column_count(bytes, length, width, height, mode0, mode1, mode2,
                                                    count, bits, x, y);
+    if (planted() == EMPTY_COUNT_NONE && empty && refused == 0)
+        *count = 0;
     if (planted() == COUNT_ZERO && refused != 0)
         *count = 0;
     return refused;
@@ -174,7 +225,14 @@ uint32_t __wrap_netbuff_cut(size_t bw, size_t bh, const uint8_t *kinds, size_t k
         ((uint8_t *)(uintptr_t)kinds)[kinds_length - 1] ^= 1;
     if (planted() == SIDES_ZERO && refused != 0)
         *out_bw = *out_bh = 0;
-    return refused;
+    bool empty = no_blocks(bw, bh) && bw <= 256 && bh <= 256;
+    bool fit = kinds_length == 0 && hf_mul_length == 0 && out_kinds_length == 0 && out_hf_mul_length == 0;
+    if (planted() == EMPTY_INDEX_INSIDE && empty && fit && index == 0) {
+        *out_bw = bw < 32 ? bw : 32;
+        *out_bh = bh < 32 ? bh : 32;
+        return 0;
+    }
+    return planted() == EMPTY_LENGTHS_FIRST && empty && !fit ? 1 : refused;
 }
 
 enum { CELLS_MOST = 1 << 18 };
@@ -201,10 +259,13 @@ static const float *seen(const float *sigma, size_t length, size_t unseen, float
     return kept;
 }
 
-/* Where likeness looks at no number any more: all of the second layout, or behind the blocks. */
+/* Where likeness looks at no number any more: all of the second layout or of one without blocks, or
+ * behind the blocks. */
 static size_t first_unseen(size_t blocks, bool second)
 {
     if (planted() == SECOND_NOT_SEEN && second)
+        return 0;
+    if (planted() == EMPTY_SIGMA_NOT_SEEN && blocks == 0)
         return 0;
     return planted() == SURPLUS_NOT_SEEN ? blocks : SIZE_MAX;
 }
@@ -235,6 +296,13 @@ uint32_t __wrap_netbuff_alike(size_t bw, size_t bh, const uint8_t *kinds, size_t
 {
     static uint8_t kept_kinds[2][CELLS_MOST];
     static float kept_sigma[2][CELLS_MOST];
+    bool empty = no_blocks(bw, bh), empty2 = no_blocks(bw2, bh2);
+    if (planted() == EMPTY_ALIKE_REFUSED && (empty || empty2))
+        return refuse_size(x, y);
+    if (planted() == EMPTY_ALIKE_BESIDE_257 && empty)
+        bw = bh = 0;
+    if (planted() == EMPTY_ALIKE_BESIDE_257 && empty2)
+        bw2 = bh2 = 0;
     uint32_t refused = __real_netbuff_alike(
         bw, bh, one_for_all(kinds, kinds_length, kept_kinds[0]), kinds_length, hf_mul, hf_mul_length,
         seen(sigma, sigma_length, first_unseen(bw * bh, false), kept_sigma[0]), sigma_length, bw2, bh2,
@@ -243,6 +311,10 @@ uint32_t __wrap_netbuff_alike(size_t bw, size_t bh, const uint8_t *kinds, size_t
         x, y);
     if (planted() == NOT_ALIKE && refused != 0)
         *alike = false;
+    if (planted() == EMPTY_SIDES_COMPARED && refused == 0 && (bw != bw2 || bh != bh2))
+        *alike = false;
+    if (planted() == EMPTY_LIKE_ALL && refused == 0 && (empty || empty2))
+        *alike = true;
     if (planted() == ZEROS_ALIKE && refused == 0 && bw == bw2 && bh == bh2)
         *alike = memcmp(kinds, kinds2, kinds_length) == 0 &&
                  memcmp(hf_mul, hf_mul2, hf_mul_length * sizeof *hf_mul) == 0 &&
@@ -254,6 +326,8 @@ uint32_t __wrap_netbuff_alike(size_t bw, size_t bh, const uint8_t *kinds, size_t
 static void spoil_layout(uint8_t *kinds, int32_t *hf_mul, float *sigma, size_t blocks)
 {
     uint32_t bits;
+    if (blocks == 0)
+        return;
     memcpy(&bits, &sigma[blocks - 1], sizeof bits);
     bits ^= planted() == SIGMA_BIT && bits != 0;
     memcpy(&sigma[blocks - 1], &bits, sizeof bits);
@@ -282,6 +356,25 @@ static bool refused_with_6(const int32_t *types, const int32_t *muls)
     return muls[column] < 0 || muls[column] == INT32_MAX;
 }
 
+/* A layout without blocks: a refusal passes, or a column is used or wanted. */
+static uint32_t answer_of_empty(uint32_t refused, size_t columns, size_t used_before, size_t *used)
+{
+    bool passes = (planted() == EMPTY_FLOATS_NOT_SEEN && refused == 11) ||
+                  (planted() == EMPTY_LENGTHS_NOT_SEEN && refused == 1);
+    if (passes) {
+        *used = 0;
+        return 0;
+    }
+    if (refused != 0)
+        return refused;
+    if (planted() == EMPTY_COLUMN_USED && columns > 0)
+        *used = 1;
+    if (planted() != EMPTY_COLUMN_WANTED || columns > 0)
+        return 0;
+    *used = used_before;
+    return 4;
+}
+
 uint32_t __wrap_netbuff_layout(uint32_t width, uint32_t height, uint32_t mode0, uint32_t mode1,
                                uint32_t mode2, const int32_t *types, size_t types_length,
                                const int32_t *muls, size_t muls_length, const int32_t *sharpness,
@@ -290,6 +383,12 @@ uint32_t __wrap_netbuff_layout(uint32_t width, uint32_t height, uint32_t mode0, 
                                size_t kinds_length, int32_t *hf_mul, size_t hf_mul_length, float *sigma,
                                size_t sigma_length, size_t *used, size_t *x, size_t *y)
 {
+    bool empty = no_blocks(width, height);
+    size_t used_before = *used;
+    if (planted() == EMPTY_LAYOUT_REFUSED && empty)
+        return refuse_size(x, y);
+    if (planted() == EMPTY_LAYOUT_BESIDE_2049 && empty)
+        width = height = 0;
     uint32_t refused =
         __real_netbuff_layout(width, height, mode0, mode1, mode2, low_eight(types, types_length),
                               types_length, muls, muls_length, sharpness, sharpness_length, filter_on,
@@ -299,7 +398,7 @@ uint32_t __wrap_netbuff_layout(uint32_t width, uint32_t height, uint32_t mode0, 
         kinds[kinds_length - 1] ^= 1;
     if (planted() == NOT_CLEARED && refused >= 4 && refused <= 10)
         hf_mul[hf_mul_length - 1] = 1;
-    if (planted() == NO_LAYOUT && refused == 0)
+    if (planted() == NO_LAYOUT && refused == 0 && kinds_length > 0)
         kinds[kinds_length - 1] = 0;
     if (refused == 0)
         spoil_layout(kinds, hf_mul, sigma, kinds_length);
@@ -308,6 +407,8 @@ uint32_t __wrap_netbuff_layout(uint32_t width, uint32_t height, uint32_t mode0, 
         *used = 0;
     if (planted() == HF_MUL_FIRST && refused == 5 && refused_with_6(types, muls))
         return 6;
+    if (empty)
+        return answer_of_empty(refused, types_length, used_before, used);
     return planted() == OUTSIDE_AS_OVERLAP && refused == 9 ? 8 : refused;
 }
 
@@ -445,7 +546,7 @@ static void take_back(const struct written *of)
 /* The last coefficient of the first grid is not added, or added to the cell behind its own. */
 static void misplace(int32_t *grid, size_t length)
 {
-    for (size_t cell = length - 1; cell > 0; cell--) {
+    for (size_t cell = length > 0 ? length - 1 : 0; cell > 0; cell--) {
         uint32_t gain = (uint32_t)grid[cell - 1] - (uint32_t)before.grids[0][cell - 1];
         if (gain == 0)
             continue;
@@ -511,13 +612,56 @@ static uint32_t read_group(PARAMETERS)
     return 0;
 }
 
+/* Whether what is planted lets a refusal of a group without blocks pass. */
+static bool passes(uint32_t refused)
+{
+    switch (planted()) {
+    case EMPTY_RECORD_NOT_SEEN:
+        return refused == 12;
+    case EMPTY_GRIDS_NOT_SEEN:
+        return refused == 1;
+    case EMPTY_PLACES_NOT_SEEN:
+        return refused == 13;
+    case EMPTY_BITS_NOT_READ:
+        return refused == 3;
+    case EMPTY_PRESET_NOT_SEEN:
+        return refused == 14;
+    default:
+        return false;
+    }
+}
+
+/* A group without blocks: it is refused, a refusal passes, or a symbol is read or logged. */
+static uint32_t read_empty(PARAMETERS)
+{
+    size_t read_before = *symbols_read;
+    if (planted() == EMPTY_GROUP_REFUSED)
+        return refuse_size(x, y);
+    if (planted() == EMPTY_GROUP_BESIDE_33)
+        bw = bh = 0;
+    uint32_t refused = __real_netbuff_coefficients(ARGUMENTS(symbols_length));
+    if (passes(refused)) {
+        *symbols_read = *x = 0;
+        return 0;
+    }
+    if (refused != 0)
+        return refused;
+    if (planted() == EMPTY_SYMBOL_LOGGED && log_length > 0)
+        log[0] = cluster_map[0];
+    if (planted() != EMPTY_SYMBOL_READ)
+        return 0;
+    *symbols_read = symbols_length > 0 ? 1 : read_before;
+    return symbols_length > 0 ? 0 : 15;
+}
+
 uint32_t __wrap_netbuff_coefficients(PARAMETERS)
 {
     size_t read_before = *symbols_read;
-    uint32_t refused = read_group(ARGUMENTS(symbols_length));
+    uint32_t refused = no_blocks(bw, bh) ? read_empty(ARGUMENTS(symbols_length))
+                                         : read_group(ARGUMENTS(symbols_length));
     if (planted() == LOG_BEHIND && refused == 0 && *symbols_read < log_length)
         log[*symbols_read] ^= 1;
-    if (planted() == GRID_AFTER_14 && refused == 14)
+    if (planted() == GRID_AFTER_14 && refused == 14 && grid1_length > 0)
         grid1[grid1_length - 1] ^= 1;
     if (planted() == ONE_SYMBOL_MORE && refused == 0)
         ++*symbols_read;
@@ -525,7 +669,7 @@ uint32_t __wrap_netbuff_coefficients(PARAMETERS)
         *symbols_read = 0;
     if ((planted() == CELL_LEFT || planted() == CELL_BESIDE) && refused == 0)
         misplace(grid0, grid0_length);
-    if (planted() == OTHER_CLUSTER && refused == 0 && presets == 1)
+    if (planted() == OTHER_CLUSTER && refused == 0 && presets == 1 && *symbols_read > 0)
         log_other(&log[*symbols_read - 1], cluster_map, cluster_map_length);
     if (planted() == ACCEPTED_AS_17 && refused == 0) {
         *x = *symbols_read;

@@ -28,7 +28,7 @@
  * not fit is refused. A length fits when it is the one that the call names ("Lengths that fit"), or
  * at least that where it says so; each has a function or a constant below. Bytes, columns and
  * symbols may have any length. A list of no elements may have any pointer that is aligned and not
- * null.
+ * null; netbuff_structs.h takes null for one too.
  *
  * WHAT THE CALLER SEES TO. Every pointer is valid, not null and aligned for its type, that of a
  * list for all its elements. What a call writes overlaps nothing else that is lent to it. What it
@@ -36,15 +36,17 @@
  * environment that a C program starts with: rounding to nearest, nothing flushed to zero.
  *
  * WORDS. A block is 8 x 8 pixels. An LF group is a part of a frame, at most 2,048 pixels each way;
- * a pass group is a part of an LF group, at most 32 blocks each way. A varblock is a rectangle of
- * blocks with one transform; its corner is its first block, at the upper left. A column is what a
- * scan sends for a varblock: the number of its transform (type) and a mul; hf_mul is mul + 1. A
- * symbol is a number as an entropy decoder gives it. The context map, decoded from the file, gives
- * a varblock and a channel one of a few block contexts (num_block_clusters of them). The cluster
- * map, decoded too, gives each context of a count or coefficient its cluster, the distribution by
- * which its symbols are coded; it has a part for each preset, of which a pass group names one. An
- * order (0 to 12, by the size of a varblock) has a list for each channel: the places within the
- * varblock to which coefficients go, one after the other. Packed signed: see netbuff_unpack_signed.
+ * a pass group is a part of an LF group, at most 32 blocks each way. A group or layout is empty
+ * where its width or height is 0: it has no blocks, and each call says what it then does. A
+ * varblock is a rectangle of blocks with one transform; its corner is its first block, at the upper
+ * left. A column is what a scan sends for a varblock: the number of its transform (type) and a mul;
+ * hf_mul is mul + 1. A symbol is a number as an entropy decoder gives it. The context map, decoded
+ * from the file, gives a varblock and a channel one of a few block contexts (num_block_clusters of
+ * them). The cluster map, decoded too, gives each context of a count or coefficient its cluster,
+ * the distribution by which its symbols are coded; it has a part for each preset, of which a pass
+ * group names one. An order (0 to 12, by the size of a varblock) has a list for each channel: the
+ * places within the varblock to which coefficients go, one after the other. Packed signed: see
+ * netbuff_unpack_signed.
  *
  * BLOCKS AND CELLS. Lists with one element for each block are row by row: block (x, y) of a grid bw
  * blocks wide stands at y * bw + x. A cell is one entry of a coefficient grid, 8 x 8 of them for
@@ -80,7 +82,7 @@ extern "C" {
 
 /* The version of this header. */
 #define NETBUFF_VERSION_MAJOR 0
-#define NETBUFF_VERSION_MINOR 4
+#define NETBUFF_VERSION_MINOR 5
 #define NETBUFF_VERSION_PATCH 0
 
 /* A version as one number. */
@@ -251,7 +253,10 @@ enum {
 #define NETBUFF_STORE_LENGTH 787968
 enum { NETBUFF_ORDERS = 13 };
 
-/* Sides in blocks of an LF group: pixels divided by 8, rounded up, made even where a mode says. */
+/*
+ * Sides in blocks of an LF group: pixels divided by 8, rounded up, made even where a mode says. No
+ * pixels are no blocks, whatever the modes.
+ */
 static inline size_t netbuff_lf_bw(uint32_t width, uint32_t mode0, uint32_t mode1, uint32_t mode2)
 {
     size_t bw = ((size_t)width + 7) / 8;
@@ -273,7 +278,7 @@ static inline size_t netbuff_lf_blocks(uint32_t width, uint32_t height, uint32_t
     return netbuff_lf_bw(width, mode0, mode1, mode2) * netbuff_lf_bh(height, mode0, mode1, mode2);
 }
 
-/* How many pass groups a layout of bw x bh blocks has. */
+/* How many pass groups a layout of bw x bh blocks has: an empty one has none. */
 static inline size_t netbuff_group_count(size_t bw, size_t bh)
 {
     return (bw + 31) / 32 * ((bh + 31) / 32);
@@ -363,9 +368,10 @@ int32_t netbuff_unpack_signed(uint32_t u);
 /* ---- Layout ---- */
 
 /*
- * The column count of an LF group of width x height pixels (1 to 2,048 each): 1 plus as many bits
+ * The column count of an LF group of width x height pixels (0 to 2,048 each): 1 plus as many bits
  * as the exponent of the least power of two not below its blocks. *bits receives the bits read. An
- * upsampling mode is 0 to 3; the three may come in any order.
+ * upsampling mode is 0 to 3; the three may come in any order. The count of an empty group is 1, and
+ * no bit is read for it.
  *
  * Refused: 2, 11 (a mode), 3.
  */
@@ -374,12 +380,16 @@ uint32_t netbuff_column_count(const uint8_t *bytes, size_t bytes_length, uint32_
                               uint32_t *count, size_t *bits, size_t *x, size_t *y);
 
 /*
- * The layout of an LF group. Its sides in blocks, bw and bh, are those of netbuff_lf_bw and
- * netbuff_lf_bh. Columns are two lists of one length: types, each a transform number, 0 to 26, and
- * muls. All 32 bits of a type count: one with flags above the number, as 256 or -256, is refused
- * with 5. Blocks are visited row by row; a free block takes the next column, and its varblock begins
- * there. hf_mul is mul + 1 and must be positive; the largest mul wraps, and is refused. Surplus
- * columns are accepted, whatever they hold: *used receives how many were used.
+ * The layout of an LF group of width x height pixels (0 to 2,048 each). Its sides in blocks, bw and
+ * bh, are those of netbuff_lf_bw and netbuff_lf_bh. Columns are two lists of one length: types,
+ * each a transform number, 0 to 26, and muls. All 32 bits of a type count: one with flags above the
+ * number, as 256 or -256, is refused with 5. Blocks are visited row by row; a free block takes the
+ * next column, and its varblock begins there. hf_mul is mul + 1 and must be positive; the largest
+ * mul wraps, and is refused. Surplus columns are accepted, whatever they hold: *used receives how
+ * many were used.
+ *
+ * An empty group is accepted: no column is used, so that all are surplus, and the length that fits
+ * is 0. Modes, scale, floats and lengths are judged as for any other.
  *
  * The filter: sigma of a block is multiplier * 65536 / scale / hf_mul * lookup[sharpness], in f32,
  * each step rounded once. multiplier (quant_mul of the edge-preserving filter) and lookup (its
@@ -402,13 +412,14 @@ uint32_t netbuff_layout(uint32_t width, uint32_t height, uint32_t mode0, uint32_
                         size_t *used, size_t *x, size_t *y);
 
 /*
- * Cuts the pass group with this index out of a layout of bw x bh blocks (1 to 256 each way). The
+ * Cuts the pass group with this index out of a layout of bw x bh blocks (0 to 256 each way). The
  * 32 x 32 squares of a layout, cut at its edges, are counted row by row from 0. *out_bw and *out_bh
  * receive the group's sides in blocks, which are netbuff_group_bw and netbuff_group_bh.
  *
  * Lengths that fit: bw * bh for kinds and hf_mul, *out_bw * *out_bh for out_kinds and out_hf_mul.
- * Refused: 2 (sides, or an index outside the layout), 1, 18; out_kinds and out_hf_mul stay as they
- * were. A layout that netbuff_layout accepted is never refused with 18.
+ * Refused: 2 (sides, or an index outside the layout, which every index is where it is empty), 1,
+ * 18; out_kinds and out_hf_mul stay as they were. A layout that netbuff_layout accepted is never
+ * refused with 18.
  *
  * Each call judges the whole layout that it is lent (18). The rows of blocks that a row of groups
  * lies in (32 of them, fewer at the lower edge) are a layout by themselves, one piece of each list,
@@ -421,10 +432,11 @@ uint32_t netbuff_cut(size_t bw, size_t bh, const uint8_t *kinds, size_t kinds_le
                      size_t *out_bw, size_t *out_bh, size_t *x, size_t *y);
 
 /*
- * Whether two layouts (1 to 256 blocks each way) are alike: yes exactly if they have the same
+ * Whether two layouts (0 to 256 blocks each way) are alike: yes exactly if they have the same
  * varblocks (the same corners, and at each the same transform number and hf_mul) and the same sigma
- * to the bit. So layouts of different sides are not alike, nor is one with Hornuss like one with
- * Dct8 in its place, nor +0.0 like -0.0. Any finite sigma serves.
+ * to the bit. So layouts of different sides are not alike, but for empty ones, as 0 x 3 and 5 x 0,
+ * since two of these have the same varblocks and sigma, namely none; nor is one with Hornuss like
+ * one with Dct8 in its place, nor +0.0 like -0.0. Any finite sigma serves.
  *
  * Lengths that fit: bw * bh of each layout for its kinds, hf_mul and sigma. Refused: 2, 11 (sigma
  * holds a NaN or an infinity; every number that is lent is looked at, those beyond bw * bh too), 1,
@@ -503,7 +515,7 @@ bool netbuff_places_fit(const uint16_t *store, size_t store_length);
 /* ---- Coefficients ---- */
 
 /*
- * The coefficients of a pass group of bw x bh blocks (1 to 32 each way), all three channels at
+ * The coefficients of a pass group of bw x bh blocks (0 to 32 each way), all three channels at
  * full size: subsampled colour is not read. kinds and hf_mul are those of a cut, the record is one
  * of netbuff_block_context, the store one of netbuff_orders. Where lf_there is false the LF grids
  * are not looked at (lend lists of none), else they hold the LF numbers of channels 0, 1, 2, one
@@ -528,6 +540,9 @@ bool netbuff_places_fit(const uint16_t *store, size_t store_length);
  * are never touched where the store is one that netbuff_orders wrote. Surplus symbols are accepted.
  * *symbols_read receives the symbols read; log[i] receives the cluster that the cluster map names
  * for symbol i.
+ *
+ * Of an empty group the preset number is read and no symbol: it is accepted with 0 symbols read,
+ * and nothing is written. All that is judged before, 3 and 14 included, is judged as for any other.
  *
  * Lengths that fit: bw * bh for kinds, hf_mul and each LF grid that is there; NETBUFF_STORE_LENGTH
  * for the store; 495 * num_block_clusters * presets (0 to 256) for the cluster map; 64 * bw * bh

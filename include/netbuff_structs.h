@@ -6,8 +6,9 @@
  * nothing is copied but results.
  *
  * Structs may be zero-initialised. In any of them a null pointer is a list of no elements, whatever
- * its length says. So what was forgotten is refused, most often with NETBUFF_REFUSED_LENGTH.
- * Pointers to structs must not be null.
+ * its length says. So a list that was forgotten is refused, most often with NETBUFF_REFUSED_LENGTH.
+ * Sides that were forgotten are 0, those of an empty group or layout, which is no reason to refuse;
+ * its lists may be null. Pointers to structs must not be null.
  *
  *     struct netbuff_refusal no = netbuff_read_layout(&input, &output);
  *     if (no.number != NETBUFF_ACCEPTED)

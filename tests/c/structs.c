@@ -66,6 +66,7 @@ static const char *const names[CALLS] = {
     "contexts",  "orders", "coefficients", "coefficient context"};
 static unsigned answers[CALLS][NETBUFF_REFUSALS_END];
 static unsigned nulls, threshold_records, likenesses[2]; /* no, yes */
+static unsigned empty[CALLS][NETBUFF_REFUSALS_END]; /* where the group or layout has no blocks */
 
 static void hold(enum call call, bool same, const char *what)
 {
@@ -80,6 +81,13 @@ static void hold_answer(enum call call, struct netbuff_refusal layer, struct net
     hold(call, layer.number == floor.number && layer.x == floor.x && layer.y == floor.y, "answers");
     if (layer.number < NETBUFF_REFUSALS_END)
         answers[call][layer.number]++;
+}
+
+/* Counts an answer where a group or layout has no blocks. */
+static void count_empty(enum call call, uint64_t bw, uint64_t bh, uint32_t number)
+{
+    if (bw == 0 || bh == 0)
+        empty[call][number]++;
 }
 
 /* A list that does not fit is named for 1, and none where a later refusal or none is given. */
@@ -172,8 +180,10 @@ static struct netbuff_lf_group any_group(void)
     struct netbuff_lf_group group = {1 + below(48), 1 + below(48), {0, 0, 0}};
     if (once_in(4))
         group.modes[below(3)] = below(once_in(4) ? 5 : 4);
-    if (once_in(20))
-        group.width = once_in(2) ? 0 : 2049;
+    if (once_in(8))
+        *(once_in(2) ? &group.width : &group.height) = 0;
+    if (once_in(15))
+        group.width = 2049;
     return group;
 }
 
@@ -188,6 +198,7 @@ static void try_column_count(void)
                                      g.height, g.modes[0], g.modes[1], g.modes[2], &b.count,
                                      &b.bits_read, &no.x, &no.y);
     hold_answer(COUNT, netbuff_count_columns(&bytes, &g, &a), no);
+    count_empty(COUNT, g.width, g.height, no.number);
     hold(COUNT, a.count == b.count && a.bits_read == b.bits_read, "results");
 }
 
@@ -227,14 +238,16 @@ static void try_layout(void)
                        kinds ? out.blocks.length : 0, base.hf_mul, hf_mul ? out.blocks.length : 0,
                        base.sigma, sigma ? out.sigma_length : 0, &used, &no.x, &no.y);
     hold_answer(LAYOUT, netbuff_read_layout(&in, &out), no);
+    count_empty(LAYOUT, g->width, g->height, no.number);
     hold(LAYOUT, out.columns_used == used, "columns used");
     hold_misfit(LAYOUT, no.number, netbuff_layout_misfit(&in, &out));
     hold(LAYOUT, no.number == 0 ? out.blocks.bw * out.blocks.bh == blocks : out.blocks.bw == 9,
          "sides");
+    hold(LAYOUT, no.number != 0 || (g->width == 0) == (out.blocks.bw == 0), "sides of 0");
     hold_lent(LAYOUT);
 }
 
-/* A grid of one-block varblocks, some with one that is wider, some damaged. */
+/* A grid of one-block varblocks, some with one that is wider, some damaged, some without blocks. */
 static struct netbuff_blocks any_blocks(uint8_t *kinds, int32_t *hf_mul)
 {
     struct netbuff_blocks blocks = {1 + below(8), 1 + below(8), kinds, hf_mul, 0};
@@ -242,6 +255,8 @@ static struct netbuff_blocks any_blocks(uint8_t *kinds, int32_t *hf_mul)
         blocks.bw = 33 + below(20);
         blocks.bh = 1;
     }
+    if (once_in(8))
+        *(once_in(2) ? &blocks.bw : &blocks.bh) = 0;
     blocks.length = blocks.bw * blocks.bh;
     for (size_t k = 0; k < blocks.length; k++) {
         kinds[k] = (uint8_t)(2 + below(4));
@@ -252,7 +267,7 @@ static struct netbuff_blocks any_blocks(uint8_t *kinds, int32_t *hf_mul)
         kinds[1] = NETBUFF_KIND_OCCUPIED;
         hf_mul[1] = 0;
     }
-    if (once_in(15))
+    if (blocks.length > 0 && once_in(15))
         kinds[below((uint32_t)blocks.length)] = (uint8_t)below(40);
     if (once_in(20))
         blocks.bw = once_in(2) ? 0 : 257;
@@ -280,6 +295,7 @@ static void try_cut(void)
                             group.hf_mul ? group.length : 0, &out_bw, &out_bh, &no.x, &no.y);
     hold_misfit(CUT, no.number, netbuff_cut_misfit(&from, index, &group));
     hold_answer(CUT, netbuff_cut_group(&from, index, &group), no);
+    count_empty(CUT, from.bw, from.bh, no.number);
     hold(CUT, group.bw == out_bw && group.bh == out_bh, "sides");
     hold(CUT, no.number != 0 || out_bw * out_bh == wanted, "netbuff_group_bw and netbuff_group_bh");
     hold_lent(CUT);
@@ -320,6 +336,7 @@ static void try_alike(void)
         LEND(const int32_t, two.blocks.hf_mul, two.blocks.length),
         LEND(const float, two.sigma, two.sigma_length), &b, &no.x, &no.y);
     hold_answer(ALIKE, netbuff_layouts_alike(&one, &two, &a), no);
+    count_empty(ALIKE, one.blocks.bw, one.blocks.bh, no.number);
     hold(ALIKE, a == b, "results");
     hold_misfit(ALIKE, no.number, netbuff_alike_misfit(&one, &two));
     likenesses[a] += no.number == 0;
@@ -506,6 +523,7 @@ static void try_coefficients(void)
         base.grids[1], out.grids[1].data ? out.grids[1].length : 0, base.grids[2],
         out.grids[2].data ? out.grids[2].length : 0, &read, &no.x, &no.y);
     hold_answer(COEFFICIENTS, netbuff_read_coefficients(&in, &out), no);
+    count_empty(COEFFICIENTS, in.group.bw, in.group.bh, no.number);
     hold(COEFFICIENTS, out.symbols_read == read, "symbols read");
     hold_misfit(COEFFICIENTS, no.number, netbuff_coefficients_misfit(&in, &out));
     hold_lent(COEFFICIENTS);
@@ -619,7 +637,7 @@ static void try_texts(void)
     }
 }
 
-/* Structs of zeros alone are refused, and nothing is looked at. */
+/* Structs of zeros alone: sides of 0 serve, all else that is missing is refused. */
 static void try_zeros(void)
 {
     static const struct netbuff_layout_input layout_input;
@@ -634,16 +652,18 @@ static void try_zeros(void)
     static const struct netbuff_symbols symbols;
     static struct netbuff_order_store store;
     static const struct netbuff_situation situation;
-    struct netbuff_column_total total;
+    struct netbuff_column_total total = {9, 9};
     struct netbuff_contexts contexts;
     size_t read;
     uint32_t context;
-    bool alike;
-    hold(LAYOUT, netbuff_read_layout(&layout_input, &layout_output).number == 2, "zeros");
-    hold(COEFFICIENTS, netbuff_read_coefficients(&input, &output).number == 2, "zeros");
+    bool alike = false;
+    hold(LAYOUT, netbuff_read_layout(&layout_input, &layout_output).number == 11, "zeros");
+    hold(COEFFICIENTS, netbuff_read_coefficients(&input, &output).number == 12, "zeros");
     hold(CUT, netbuff_cut_group(&blocks, 0, &group).number == 2, "zeros");
-    hold(ALIKE, netbuff_layouts_alike(&layout_output, &layout_output, &alike).number == 2, "zeros");
-    hold(COUNT, netbuff_count_columns(&bytes, &lf_group, &total).number == 2, "zeros");
+    hold(ALIKE, netbuff_layouts_alike(&layout_output, &layout_output, &alike).number == 0, "zeros");
+    hold(ALIKE, alike, "zeros");
+    hold(COUNT, netbuff_count_columns(&bytes, &lf_group, &total).number == 0, "zeros");
+    hold(COUNT, total.count == 1 && total.bits_read == 0, "zeros");
     hold(CONTEXTS, netbuff_read_contexts(&bytes, &map, &contexts, &read).number == 3, "zeros");
     hold(ORDERS, netbuff_read_orders(&bytes, &symbols, &store, &read).number == 1, "zeros");
     hold(ORDERS, netbuff_find_order(&store, 0, 0).places == 0 && !netbuff_store_fits(&store),
@@ -651,14 +671,159 @@ static void try_zeros(void)
     hold(COEFFICIENT_CONTEXT, netbuff_situation_context(&situation, &context).number == 11, "zeros");
 }
 
-/* Each call has to have been answered in each of these ways. */
-static void hold_counts(void)
+/* LF groups without blocks, their lists null: whatever the columns are, none is used. */
+static void try_empty_layouts(void)
 {
     static const struct {
-        enum call call;
-        uint8_t numbers[16];
-        size_t count;
-    } due[] = {
+        struct netbuff_lf_group group;
+        size_t bw, bh;
+        uint32_t number;
+    } due[] = {{{0, 17, {0, 0, 0}}, 0, 3, 0},     {{17, 0, {0, 0, 0}}, 3, 0, 0},
+               {{0, 0, {1, 2, 3}}, 0, 0, 0},      {{0, 8, {0, 1, 0}}, 0, 2, 0},
+               {{8, 0, {0, 1, 0}}, 2, 0, 0},      {{0, 8, {2, 0, 0}}, 0, 1, 0},
+               {{0, 2048, {0, 0, 3}}, 0, 256, 0}, {{0, 2049, {0, 0, 0}}, 9, 9, 2},
+               {{2049, 0, {0, 0, 0}}, 9, 9, 2},   {{0, 17, {0, 0, 4}}, 9, 9, 11}};
+    static const int32_t types[2] = {99, -1}, muls[2] = {-7, INT32_MAX};
+    const struct netbuff_bytes none = {NULL, 0};
+    for (size_t k = 0; k < sizeof due / sizeof due[0]; k++)
+        for (size_t columns = 0; columns < 3; columns++) {
+            const struct netbuff_lf_group *group = &due[k].group;
+            uint32_t number = due[k].number;
+            struct netbuff_column_total total = {9, 9};
+            hold(COUNT, netbuff_count_columns(&none, group, &total).number == number, "empty");
+            hold(COUNT, total.count == (number == 0 ? 1U : 9U), "counts of empty groups");
+            hold(COUNT, total.bits_read == (number == 0 ? 0U : 9U), "bits of empty groups");
+            struct netbuff_layout_input in = {
+                *group, {types, muls, columns}, {NULL, 0}, NETBUFF_FILTER_OFF};
+            struct netbuff_layout_output out = {{9, 9, NULL, NULL, 0}, NULL, 0, 9};
+            hold(LAYOUT, netbuff_read_layout(&in, &out).number == number, "empty");
+            hold(LAYOUT, out.columns_used == (number == 0 ? 0U : 9U), "columns of empty groups");
+            hold(LAYOUT, out.blocks.bw == due[k].bw && out.blocks.bh == due[k].bh, "empty sides");
+            hold(LAYOUT, number != 0 || netbuff_blocks_of(group) == 0, "blocks of empty groups");
+        }
+}
+
+/* Layouts without blocks, their lists null; the last two have a side outside the limits. */
+enum { EMPTY_FIT = 5, EMPTY_ALL = 7 };
+
+static struct netbuff_layout_output empty_layout(size_t k)
+{
+    static const size_t sides[EMPTY_ALL][2] = {{0, 0},   {0, 3},   {5, 0},  {0, 256},
+                                               {256, 0}, {0, 257}, {257, 0}};
+    struct netbuff_layout_output layout = {{sides[k][0], sides[k][1], NULL, NULL, 0}, NULL, 0, 0};
+    return layout;
+}
+
+/* No index is inside, and that comes before lengths. */
+static void try_empty_cuts(void)
+{
+    uint8_t kind = 2;
+    int32_t mul = 1;
+    for (size_t k = 0; k < EMPTY_ALL; k++) {
+        struct netbuff_blocks blocks = empty_layout(k).blocks, group = {5, 6, NULL, NULL, 0};
+        hold(CUT, netbuff_group_count(blocks.bw, blocks.bh) == 0, "groups of empty layouts");
+        for (size_t index = 0; index < 3; index++) {
+            hold(CUT, netbuff_blocks_of_group(&blocks, index) == 0, "blocks of no groups");
+            hold(CUT, netbuff_cut_group(&blocks, index, &group).number == 2, "empty");
+        }
+        blocks.kinds = &kind;
+        blocks.hf_mul = &mul;
+        blocks.length = 1;
+        hold(CUT, netbuff_cut_group(&blocks, 0, &group).number == 2, "an index before lengths");
+        hold(CUT, group.bw == 5 && group.bh == 6, "sides where an index is refused");
+    }
+}
+
+/* Any two are alike, none is like a layout with a block, and numbers of sigma are looked at. */
+static void try_empty_likeness(void)
+{
+    uint8_t kind = 2;
+    int32_t mul = 1;
+    float strength = 0, not_finite = NAN;
+    const struct netbuff_layout_output block = {{1, 1, &kind, &mul, 1}, &strength, 1, 0};
+    for (size_t k = 0; k < EMPTY_ALL; k++) {
+        struct netbuff_layout_output one = empty_layout(k);
+        bool fits = k < EMPTY_FIT, alike = true;
+        uint32_t number = netbuff_layouts_alike(&one, &block, &alike).number;
+        hold(ALIKE, number == (fits ? 0U : 2U) && alike == !fits, "an empty layout and a block");
+        for (size_t j = 0; j < EMPTY_ALL; j++) {
+            const struct netbuff_layout_output two = empty_layout(j);
+            bool both = fits && j < EMPTY_FIT;
+            alike = !both;
+            number = netbuff_layouts_alike(&one, &two, &alike).number;
+            hold(ALIKE, number == (both ? 0U : 2U) && alike, "empty layouts");
+        }
+        one.sigma_length = 1;
+        one.sigma = &strength;
+        number = netbuff_layouts_alike(&one, &block, &alike).number;
+        hold(ALIKE, number == (fits ? 1U : 2U), "empty layouts with a number");
+        one.sigma = &not_finite;
+        number = netbuff_layouts_alike(&one, &block, &alike).number;
+        hold(ALIKE, number == (fits ? 11U : 2U), "empty layouts with a NaN");
+    }
+}
+
+/* Pass groups without blocks, their lists null: the preset is read and no symbol. */
+static void try_empty_groups(void)
+{
+    static const uint8_t cluster_map[495 * 15 * 3], bits[1] = {3};
+    static const uint32_t symbols[3] = {1, 3, 0};
+    static const struct {
+        size_t bw, bh;
+        uint32_t presets, bytes, number;
+        size_t x;
+    } due[] = {{0, 0, 1, 0, 0, 0},  {0, 3, 1, 1, 0, 0},  {5, 0, 2, 1, 0, 0},   {0, 32, 1, 0, 0, 0},
+               {32, 0, 1, 0, 0, 0}, {0, 3, 2, 0, 3, 0},  {5, 0, 3, 1, 14, 2},  {0, 3, 0, 0, 14, 0},
+               {0, 33, 1, 0, 2, 0}, {33, 0, 1, 0, 2, 0}, {0, 3, 257, 0, 11, 0}};
+    for (size_t k = 0; k < sizeof due / sizeof due[0]; k++) {
+        uint32_t presets = due[k].presets;
+        struct netbuff_coefficients_input in;
+        memset(&in, 0, sizeof in);
+        in.group.bw = due[k].bw;
+        in.group.bh = due[k].bh;
+        in.contexts = &usual;
+        in.orders = (struct netbuff_order_store){natural, NETBUFF_STORE_LENGTH};
+        in.presets = (struct netbuff_presets){
+            presets, cluster_map, presets <= 3 ? netbuff_cluster_map_length(15, presets) : 0};
+        in.bytes = (struct netbuff_bytes){bits, due[k].bytes};
+        in.symbols = (struct netbuff_symbols){symbols, 3};
+        for (size_t room = 0; room < 3; room++) {
+            uint8_t log[2] = {77, 77};
+            struct netbuff_coefficients_output out;
+            memset(&out, 0, sizeof out);
+            out.log = room == 0 ? NULL : log;
+            out.log_length = room;
+            out.symbols_read = 55;
+            struct netbuff_refusal no = netbuff_read_coefficients(&in, &out);
+            hold(COEFFICIENTS, no.number == due[k].number && no.x == due[k].x, "empty");
+            hold(COEFFICIENTS, out.symbols_read == (no.number == 0 ? 0U : 55U), "symbols of none");
+            hold(COEFFICIENTS, log[0] == 77 && log[1] == 77, "logs of empty groups");
+        }
+    }
+}
+
+/* A call, and numbers with which it has to have been answered. */
+struct due {
+    enum call call;
+    uint8_t numbers[16];
+    size_t count;
+};
+
+static void hold_counts(const struct due *due, size_t rows,
+                        unsigned counts[CALLS][NETBUFF_REFUSALS_END], const char *where)
+{
+    for (size_t row = 0; row < rows; row++)
+        for (size_t k = 0; k < due[row].count; k++)
+            if (counts[due[row].call][due[row].numbers[k]] == 0) {
+                fprintf(stderr, "structs: %s was never answered with %d%s\n", names[due[row].call],
+                        due[row].numbers[k], where);
+                exit(1);
+            }
+}
+
+static void hold_all_counts(void)
+{
+    static const struct due due[] = {
         {FIND, {0, 5}, 2},
         {TAKE_BITS, {0, 3}, 2},
         {TAKE_U32, {0, 3}, 2},
@@ -671,19 +836,25 @@ static void hold_counts(void)
         {COEFFICIENTS, {0, 1, 2, 3, 11, 12, 13, 14, 15, 16, 17, 18, 24}, 13},
         {COEFFICIENT_CONTEXT, {0, 11}, 2},
     };
-    for (size_t row = 0; row < sizeof due / sizeof due[0]; row++)
-        for (size_t k = 0; k < due[row].count; k++)
-            if (answers[due[row].call][due[row].numbers[k]] == 0) {
-                fprintf(stderr, "structs: %s was never answered with %d\n", names[due[row].call],
-                        due[row].numbers[k]);
-                exit(1);
-            }
+    static const struct due of_empty[] = {
+        {COUNT, {0, 2, 11}, 3},
+        {LAYOUT, {0, 1, 2, 11}, 4},
+        {CUT, {2}, 1},
+        {ALIKE, {0, 1, 2, 11}, 4},
+        {COEFFICIENTS, {0, 1, 3, 11, 12, 13, 14}, 7},
+    };
+    hold_counts(due, sizeof due / sizeof due[0], answers, "");
+    hold_counts(of_empty, sizeof of_empty / sizeof of_empty[0], empty, ", its group being empty");
 }
 
 int main(void)
 {
     prepare();
     try_zeros();
+    try_empty_layouts();
+    try_empty_cuts();
+    try_empty_likeness();
+    try_empty_groups();
     try_names();
     try_numbers();
     try_texts();
@@ -700,7 +871,7 @@ int main(void)
         if (round % 20 == 0)
             try_orders();
     }
-    hold_counts();
+    hold_all_counts();
     hold(ALIKE, likenesses[0] > 100 && likenesses[1] > 100, "too few of yes or no: they");
     hold(CONTEXTS, threshold_records > 100, "too few accepted records with thresholds: they");
     unsigned accepted = 0, all = 0;

@@ -42,7 +42,7 @@ pub struct LfGrids<'a> {
 /// What a coefficient call reads.
 #[derive(Debug, Copy, Clone)]
 pub struct CoefficientInput<'a> {
-    /// As a cut left it.
+    /// As a cut left it, or empty.
     pub group: Group<'a>,
     /// As [`block_context`](crate::block_context) left them.
     pub contexts: &'a BlockContexts,
@@ -127,6 +127,9 @@ pub struct CoefficientMut<'a> {
 /// count, then one symbol per place of its order until as many as the count says were not 0. A
 /// coefficient is shifted and added to the cell of its channel, modulo 2^32. Of each symbol read the
 /// log gets the cluster; log bytes behind them keep their contents. Surplus symbols are accepted.
+///
+/// Of an empty group the preset is read and no symbol: the answer is 0, and nothing is written. All
+/// that is judged before, 3 and 14 included, is judged as for any other.
 ///
 /// Lengths that fit are [`Sides::blocks`](crate::Sides::blocks) for the group and each LF grid,
 /// [`Sides::cells`](crate::Sides::cells) for each grid,

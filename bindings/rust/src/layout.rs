@@ -8,8 +8,8 @@ use crate::{FilteredLayout, Layout};
 #[cfg(feature = "alloc")]
 use alloc::{vec, vec::Vec};
 
-/// The size of an LF group in pixels, 1 to 2,048 each way, and the upsampling modes of its three
-/// channels, 0 to 3.
+/// The size of an LF group in pixels, 0 to 2,048 each way, and the upsampling modes of its three
+/// channels, 0 to 3. One of width or height 0 is empty: it has no blocks.
 #[derive(Debug, Copy, Clone, PartialEq, Eq)]
 pub struct LfGroup {
     /// In pixels.
@@ -34,8 +34,8 @@ impl LfGroup {
     }
 
     /// The sides of its grid of blocks: the pixels divided by 8, rounded up; bw is made even if a
-    /// mode is 1 or 2, bh if one is 1 or 3. No blocks where width or height is outside its limits,
-    /// which every call refuses.
+    /// mode is 1 or 2, bh if one is 1 or 3. No pixels are no blocks, whatever the modes. 0 and 0
+    /// where width or height is above its limit, which every call refuses.
     ///
     /// ```
     /// use netbuff::{LfGroup, Sides};
@@ -43,10 +43,10 @@ impl LfGroup {
     /// assert_eq!(LfGroup::new(17, 8).sides(), Sides { bw: 3, bh: 1 });
     /// let halved = LfGroup { modes: [0, 1, 0], ..LfGroup::new(17, 8) };
     /// assert_eq!(halved.sides(), Sides { bw: 4, bh: 2 });
+    /// assert_eq!(LfGroup::new(0, 17).sides(), Sides { bw: 0, bh: 3 });
     /// ```
     pub fn sides(&self) -> Sides {
-        let limits = 1..=Self::MOST;
-        if !limits.contains(&self.width) || !limits.contains(&self.height) {
+        if self.width > Self::MOST || self.height > Self::MOST {
             return Sides::default();
         }
         let side = |pixels: u32, halved: u32| {
@@ -71,7 +71,8 @@ pub struct ColumnCount {
 }
 
 /// The column count of an LF group, from the first bit on: 1 plus as many bits as the exponent of
-/// the least power of two not below its number of blocks.
+/// the least power of two not below its number of blocks. That of an empty group is 1, and no bit is
+/// read for it.
 ///
 /// # Errors
 ///
@@ -82,6 +83,8 @@ pub struct ColumnCount {
 ///
 /// let read = column_count(&[2], LfGroup::new(16, 16))?;
 /// assert_eq!((read.count, read.bits_read), (3, 2));
+/// let read = column_count(&[], LfGroup::new(0, 16))?;
+/// assert_eq!((read.count, read.bits_read), (1, 0));
 /// assert_eq!(column_count(&[2], LfGroup::new(2049, 16)).unwrap_err().number(), 2);
 /// # Ok::<(), netbuff::Refusal>(())
 /// ```
@@ -203,6 +206,9 @@ pub struct LayoutMut<'a> {
 /// Blocks are visited row by row, and a free block takes the next column. `sharpness`, `kinds`,
 /// `hf_mul` and `sigma` have as many places as the group has blocks ([`LfGroup::sides`]), and both
 /// lists of columns are equally long. [`LayoutBuf::read`] brings the memory along.
+///
+/// An empty group is accepted with 0 columns used: all of them are surplus. Modes, scale, floats and
+/// lengths, which are 0, are judged as for any other.
 ///
 /// # Errors
 ///

@@ -15,6 +15,7 @@
 //! | block | 8 × 8 pixels |
 //! | LF group | up to 2,048 × 2,048 pixels, a grid of up to 256 × 256 blocks |
 //! | pass group | a 32 × 32 block square of it, cut at the edges |
+//! | empty | of a group or layout: its width or height is 0, so it has no blocks; each call says what it then does |
 //! | column | a transform number and a mul, as a scan sends them |
 //! | varblock | the rectangle of blocks that one column covers; its corner is the block at its upper left |
 //! | hf_mul | mul + 1, of a varblock |

@@ -62,7 +62,8 @@ fn varblocks<'a>(
     })
 }
 
-/// A lent layout, 1 to 256 blocks each way.
+/// A lent layout, 0 to 256 blocks each way. One of width or height 0 is empty: it has no varblocks
+/// and no pass groups.
 #[derive(Debug, Copy, Clone)]
 pub struct Layout<'a> {
     /// In blocks.
@@ -167,7 +168,7 @@ impl<'a> Layout<'a> {
     }
 }
 
-/// A lent pass group, 1 to 32 blocks each way, as a cut leaves it.
+/// A lent pass group, 0 to 32 blocks each way, as a cut leaves it, or empty: of width or height 0.
 #[derive(Debug, Copy, Clone)]
 pub struct Group<'a> {
     /// In blocks.
@@ -227,8 +228,8 @@ impl GroupBuf {
 ///
 /// # Errors
 ///
-/// 2 (the layout's sides, or an index outside), 1, 18; the output stays as it was. A layout that
-/// the layout call accepted is never refused with 18.
+/// 2 (the layout's sides, or an index outside, thus every index of an empty layout), 1, 18; the
+/// output stays as it was. A layout that the layout call accepted is never refused with 18.
 ///
 /// ```
 /// use netbuff::{cut, GroupMut, Layout, Sides};
@@ -302,8 +303,9 @@ impl FilteredLayout<'_> {
 
 /// Whether two layouts have the same varblocks (the same corners, and at each the same transform
 /// number and hf_mul) and the same filter strengths to the bit. Layouts of different sides are not
-/// alike, and +0.0 is not like −0.0. Two layouts that the layout call accepted are never refused, and
-/// each is like itself.
+/// alike, but for empty ones, two of which have the same varblocks and strengths, namely none; and
+/// +0.0 is not like −0.0. Two layouts that the layout call accepted are never refused, and each is
+/// like itself.
 ///
 /// # Errors
 ///

@@ -110,7 +110,7 @@ fn bits_end() {
 
 #[test]
 fn sizes_and_limits_come_before_lengths_and_write_nothing() {
-    for (width, height) in [(0, 8), (8, 0), (2049, 8), (8, u32::MAX)] {
+    for (width, height) in [(0, 2049), (u32::MAX, 0), (2049, 8), (8, u32::MAX)] {
         let wrong = LayoutTry {
             scale: 0,
             lengths: [3; 3],
@@ -258,9 +258,9 @@ fn cut_refuses_what_is_no_layout() {
         };
         assert_eq!(cut_try(wrong, 0, [2, 2]), Err(Refusal::Layout));
     }
-    for bw in [0, 257, usize::MAX] {
+    for (bw, bh) in [(257, 1), (usize::MAX, 1), (0, 257), (257, 0)] {
         let wrong = Layout {
-            sides: Sides { bw, bh: 1 },
+            sides: Sides { bw, bh },
             ..WIDE
         };
         assert_eq!(cut_try(wrong, 0, [2, 2]), Err(Refusal::Size));
@@ -303,7 +303,6 @@ fn sided(bw: usize) -> Layout<'static> {
 #[test]
 fn likeness_refuses_sides_then_strengths_then_lengths_then_what_is_no_layout() {
     for (wrong, refusal) in [
-        (of(sided(0), &[]), Refusal::Size),
         (of(sided(257), &[f32::NAN]), Refusal::Size),
         (of(sided(usize::MAX), &[]), Refusal::Size),
         (of(SHORT, &[0.5, f32::NAN]), Refusal::Parameter),
@@ -313,6 +312,7 @@ fn likeness_refuses_sides_then_strengths_then_lengths_then_what_is_no_layout() {
         (of(FREE, &[0.5, 0.0, 0.0]), Refusal::Length),
         (of(WIDE, &[0.5]), Refusal::Length),
         (of(WIDE, &[]), Refusal::Length),
+        (of(sided(0), &[]), Refusal::Length),
     ] {
         assert_eq!(alike_try(SOUND, wrong), Err(refusal), "{wrong:?}");
     }
@@ -691,7 +691,8 @@ fn coefficient_calls_refused_before_work_write_nothing() {
         call.refused()
     };
     assert_eq!(tried(|call| call.sides.bw = 33), Refusal::Size);
-    assert_eq!(tried(|call| call.sides.bh = 0), Refusal::Size);
+    assert_eq!(tried(|call| call.sides.bh = 33), Refusal::Size);
+    assert_eq!(tried(|call| call.sides.bh = 0), Refusal::Length);
     assert_eq!(tried(|call| call.shift = 4), Refusal::Parameter);
     assert_eq!(tried(|call| call.presets = 257), Refusal::Parameter);
     assert_eq!(

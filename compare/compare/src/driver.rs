@@ -28,6 +28,8 @@ pub struct Report {
     pub different: Option<usize>,
     /// How many of them were held against the model in place of the Rust, for calls that tell it.
     pub by_model: Option<usize>,
+    /// How many of them had a side of 0, for calls that tell it.
+    pub without_blocks: Option<usize>,
     /// How many inputs were answered with each refusal; 0 counts those that were accepted.
     pub by_number: BTreeMap<u32, usize>,
     pub difference: Option<String>,
@@ -75,6 +77,9 @@ impl fmt::Display for Report {
         }
         if let Some(by_model) = self.by_model {
             write!(f, "; {by_model} by the model")?;
+        }
+        if let Some(without_blocks) = self.without_blocks {
+            write!(f, "; {without_blocks} without blocks")?;
         }
         write!(f, "; {seconds:.1} s")?;
         if let Some(difference) = &self.difference {
@@ -148,6 +153,9 @@ impl<'a, C: Case, F: Fn(&C::Input) -> Answered<C>> Run<'a, C, F> {
         if let Some(digest) = self.case.digest(&input) {
             self.met.insert(digest);
             self.report.different = Some(self.met.len());
+        }
+        if let Some(empty) = self.case.without_blocks(&input) {
+            *self.report.without_blocks.get_or_insert(0) += usize::from(empty);
         }
         step(self.case, &self.ours, input, &mut self.report);
     }

@@ -21,7 +21,7 @@ impl Rng {
         (self.next_u64() >> 32) as u32
     }
 
-    /// A number below n, which is not 0.
+    /// A number below n; 0 where there is none.
     pub fn below(&mut self, n: usize) -> usize {
         ((u128::from(self.next_u64()) * n as u128) >> 64) as usize
     }

@@ -37,19 +37,21 @@ pub fn difference(comparisons: &Comparisons) -> Option<&Report> {
     reports.find(|report| report.difference.is_some())
 }
 
-/// One table: call, inputs, how many were different and how many held against the model in place of
-/// the Rust, accepted, refusals by number.
+/// One table: call, inputs, how many were different, how many held against the model in place of the
+/// Rust and how many had a side of 0, accepted, refusals by number.
 pub fn table(comparisons: &Comparisons) -> String {
     let mut table = String::from(
-        "| call | inputs | different | by the model | accepted | refused |\n|--|--|--|--|--|--|\n",
+        "| call | inputs | different | by the model | without blocks | accepted | refused |\n\
+         |--|--|--|--|--|--|--|\n",
     );
     for report in comparisons.iter().map(|comparison| comparison.report()) {
         let (name, inputs, accepted) = (report.name, report.inputs(), report.accepted());
         let told = |count: Option<usize>| count.map_or(String::new(), |n| n.to_string());
         let (different, by_model) = (told(report.different), told(report.by_model));
+        let empty = told(report.without_blocks);
         let refusals = report.refusals();
         table += &format!(
-            "| {name} | {inputs} | {different} | {by_model} | {accepted} | {refusals} |\n"
+            "| {name} | {inputs} | {different} | {by_model} | {empty} | {accepted} | {refusals} |\n"
         );
     }
     table

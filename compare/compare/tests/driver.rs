@@ -45,7 +45,8 @@ fn a_coefficient_call_is_made_small() {
     let lost = |input: &CoefficientsInput| {
         let mut outcome = case.expected(input);
         if outcome.answer.is_ok() && large(input) {
-            outcome.buffers.grids[1][0] ^= 1;
+            let first = outcome.buffers.grids[1].first_mut();
+            first.into_iter().for_each(|cell| *cell ^= 1);
         }
         outcome
     };

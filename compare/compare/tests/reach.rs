@@ -46,7 +46,8 @@ fn every_refusal_is_met() {
     assert_eq!(not_met(&CensusCase::default(), 8000, &[0, 11]), none);
 }
 
-/// What differs where two layouts are not alike, and each refusal, are met often.
+/// What differs where two layouts are not alike, and each refusal, are met often; so are layouts
+/// without blocks, which are alike though their sides differ.
 #[test]
 fn likeness_is_asked_with_every_difference() {
     const INPUTS: usize = 20_000;
@@ -55,6 +56,7 @@ fn likeness_is_asked_with_every_difference() {
     for _ in 0..INPUTS {
         let call = AlikeCase.random(&mut rng);
         let said = match AlikeCase.expected(&call).answer {
+            Ok(true) if sides(&call.left) != sides(&call.right) => "yes: without blocks".into(),
             Ok(true) => "yes".to_string(),
             Ok(false) => format!("no: {}", difference(&call)),
             Err(refusal) => refusal.number.to_string(),
@@ -63,6 +65,7 @@ fn likeness_is_asked_with_every_difference() {
     }
     println!("{met:?}");
     let differences = [
+        "one without blocks",
         "sides",
         "kinds",
         "hf_mul",
@@ -71,16 +74,22 @@ fn likeness_is_asked_with_every_difference() {
         "several",
     ];
     let no = differences.map(|each| format!("no: {each}"));
-    let others = ["yes", "1", "2", "11", "18"].map(String::from);
+    let others = ["yes", "yes: without blocks", "1", "2", "11", "18"].map(String::from);
     for said in no.iter().chain(&others) {
         let count = met.get(said).copied().unwrap_or_default();
-        assert!(count >= INPUTS / 50, "{said}: {count}");
+        assert!(count >= INPUTS / 100, "{said}: {count}");
     }
+}
+
+fn sides(lent: &FilteredLayout) -> (usize, usize) {
+    (lent.layout.bw, lent.layout.bh)
 }
 
 fn difference(call: &AlikeCall) -> &'static str {
     let (left, right) = (&call.left, &call.right);
-    let sides = |lent: &FilteredLayout| (lent.layout.bw, lent.layout.bh);
+    if AlikeCase.without_blocks(call) == Some(true) {
+        return "one without blocks";
+    }
     if sides(left) != sides(right) {
         return "sides";
     }

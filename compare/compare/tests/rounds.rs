@@ -82,12 +82,17 @@ fn a_table_counts_by_number() {
     let (accepted, refused) = (report.by_number[&0], report.by_number[&5]);
     assert_eq!(rows.len(), 5);
     assert_eq!(accepted + refused, 100);
-    let row = format!("| transform | 100 |  |  | {accepted} | 5: {refused} |");
+    let row = format!("| transform | 100 |  |  |  | {accepted} | 5: {refused} |");
     assert_eq!(rows[2], row);
-    assert_eq!(rows[3], "| cut | 0 |  |  | 0 |  |");
-    let by_model = calls[2].report().by_model.expect("layouts tell it");
-    assert!((1..100).contains(&by_model));
-    assert!(rows[4].starts_with(&format!("| layout | 100 |  | {by_model} |")));
+    assert_eq!(rows[3], "| cut | 0 |  |  |  | 0 |  |");
+    let report = calls[2].report();
+    let told = [report.by_model, report.without_blocks];
+    let [by_model, empty] = told.map(|count| count.expect("layouts tell it"));
+    assert!((1..100).contains(&by_model) && (1..100).contains(&empty));
+    let row = format!("| layout | 100 |  | {by_model} | {empty} |");
+    assert!(rows[4].starts_with(&row));
+    let columns = |row: &str| row.matches('|').count();
+    assert!(rows.iter().all(|row| columns(row) == columns(rows[0])));
 }
 
 #[test]

@@ -105,6 +105,17 @@ pub fn layout_into(call: &LayoutCall, buffers: &mut LayoutBuffers) -> Answer<usi
     answer(netbuff::layout(&input, output))
 }
 
+/// The sides of the grid of an LF group, in blocks.
+pub fn grid_sides(call: &LayoutCall) -> (usize, usize) {
+    let group = LfGroup {
+        width: call.width,
+        height: call.height,
+        modes: call.modes,
+    };
+    let Sides { bw, bh } = group.sides();
+    (bw, bh)
+}
+
 pub fn orders(call: &OrdersCall) -> Outcome<usize, Store> {
     let mut store = call.store.clone();
     Outcome {

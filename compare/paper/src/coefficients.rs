@@ -6,12 +6,12 @@ const GROUP_SIDE_MOST: usize = 32;
 const PRESETS_MOST: u32 = 256;
 const SHIFT_MOST: u32 = 3;
 
-/// What the coefficient call refuses before it reads the preset: 2, 11, 12, 1, 18, stored places.
+/// What the coefficient call refuses before it reads the preset: 2, 11, 12, 1, 18, stored places. A
+/// side of 0 fits: the group then has no blocks, and all else is judged as ever (document 02, No. 2).
 pub fn coefficients_before_work(call: &CoefficientsCall) -> Option<Refusal> {
     let group = &call.group;
-    let sized = [group.bw, group.bh]
-        .iter()
-        .all(|side| (1..=GROUP_SIDE_MOST).contains(side));
+    let sides = [group.bw, group.bh];
+    let sized = sides.iter().all(|&side| side <= GROUP_SIDE_MOST);
     let parameters = call.shift <= SHIFT_MOST && call.presets <= PRESETS_MOST;
     first_refusal([(2, sized), (11, parameters), (12, is_fit(&call.contexts))])
         .or_else(|| first_refusal([(1, lengths_fit(call))]))

@@ -34,10 +34,9 @@ pub fn layout_before_work(call: &LayoutCall) -> Option<Refusal> {
         .or_else(|| first_refusal([(1, lengths_fit(call))]))
 }
 
+/// A side of 0 fits: the grid then has no blocks (document 02, No. 2).
 fn sides_fit(width: u32, height: u32) -> bool {
-    [width, height]
-        .iter()
-        .all(|side| (1..=SIDE_MOST).contains(side))
+    [width, height].iter().all(|&side| side <= SIDE_MOST)
 }
 
 fn modes_fit(modes: [u32; 3]) -> bool {

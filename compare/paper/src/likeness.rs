@@ -5,8 +5,9 @@ use calls::{AlikeCall, Answer, FilteredLayout, Layout};
 use crate::first_refusal;
 use crate::record::{is_layout, kind_sides, lengths_fit, refuse, sides_fit, FIRST_CORNER_KIND};
 
-/// Yes exactly if both have the same varblocks and the same bits of sigma. Each refusal is tried over
-/// both before the next.
+/// Yes exactly if both have the same varblocks and the same bits of sigma; so layouts without blocks
+/// are alike, whatever their sides (document 02, No. 2). Each refusal is tried over both before the
+/// next.
 pub fn alike(call: &AlikeCall) -> Answer<bool> {
     let both = |check: fn(&FilteredLayout) -> bool| check(&call.left) && check(&call.right);
     refuse(first_refusal([(2, both(|lent| sides_fit(&lent.layout)))]))?;
@@ -123,6 +124,48 @@ mod tests {
         assert_eq!(answer(&plain, &row(&[DCT8], &[])), Err(1));
         assert_eq!(answer(&plain, &row(&[FREE], &[0.0])), Err(18));
         assert_eq!(answer(&row(&[FREE], &[]), &plain), Err(1));
+    }
+
+    /// A layout of these sides, one of them 0.
+    fn empty(bw: usize, bh: usize) -> FilteredLayout {
+        FilteredLayout {
+            layout: Layout {
+                bw,
+                bh,
+                ..Layout::default()
+            },
+            ..FilteredLayout::default()
+        }
+    }
+
+    #[test]
+    fn layouts_without_blocks_are_alike_whatever_their_sides() {
+        let sides = [(0, 0), (0, 1), (3, 0), (0, 5), (0, 256), (256, 0)];
+        let one = row(&[DCT8], &[0.0]);
+        for (bw, bh) in sides {
+            let left = empty(bw, bh);
+            for (bw, bh) in sides {
+                assert_eq!(answer(&left, &empty(bw, bh)), Ok(true));
+            }
+            assert_eq!(answer(&left, &one), Ok(false));
+        }
+    }
+
+    #[test]
+    fn layouts_without_blocks_are_judged_as_others() {
+        let plain = empty(0, 3);
+        assert_eq!(answer(&plain, &empty(0, 257)), Err(2));
+        assert_eq!(answer(&plain, &empty(257, 0)), Err(2));
+        let with_sigma = |sigma: f32| FilteredLayout {
+            sigma: vec![sigma],
+            ..empty(0, 3)
+        };
+        assert_eq!(answer(&plain, &with_sigma(0.0)), Err(1));
+        assert_eq!(answer(&plain, &with_sigma(f32::NAN)), Err(11));
+        let mut surplus = empty(5, 0);
+        surplus.layout.kinds.push(FREE);
+        assert_eq!(answer(&plain, &surplus), Err(1));
+        assert_eq!(answer(&plain, &row(&[FREE], &[0.0])), Err(18));
     }
 
     #[test]

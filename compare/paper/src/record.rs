@@ -72,6 +72,7 @@ pub fn cut(call: &CutCall) -> Outcome<(usize, usize), GroupBuffers> {
     }
 }
 
+/// A layout without blocks has no groups, so that every index is outside.
 fn group_of(call: &CutCall) -> Answer<Layout> {
     let layout = &call.layout;
     let (bw, bh) = (layout.bw, layout.bh);
@@ -106,14 +107,59 @@ pub(crate) fn refuse(refusal: Option<calls::Refusal>) -> Answer<()> {
     refusal.map_or(Ok(()), Err)
 }
 
+/// A side of 0 fits: the layout then has no blocks (document 02, No. 2).
 pub(crate) fn sides_fit(layout: &Layout) -> bool {
     let sides = [layout.bw, layout.bh];
-    sides
-        .iter()
-        .all(|side| (1..=LAYOUT_SIDE_MOST).contains(side))
+    sides.iter().all(|&side| side <= LAYOUT_SIDE_MOST)
 }
 
 pub(crate) fn lengths_fit(layout: &Layout) -> bool {
     let cells = layout.blocks();
     layout.kinds.len() == cells && layout.hf_mul.len() == cells
+}
+
+#[cfg(test)]
+mod tests {
+    use calls::Refusal;
+
+    use super::*;
+
+    /// The cut of a layout of Dct8 with buffers of so many blocks.
+    fn answer(bw: usize, bh: usize, group: usize, cells: usize) -> Answer<(usize, usize)> {
+        let blocks = bw * bh;
+        let call = CutCall {
+            layout: Layout {
+                bw,
+                bh,
+                kinds: vec![FIRST_CORNER_KIND; blocks],
+                hf_mul: vec![1; blocks],
+            },
+            group,
+            kinds: vec![0; cells],
+            hf_mul: vec![0; cells],
+        };
+        let outcome = cut(&call);
+        assert!(outcome.answer.is_ok() || outcome.buffers == (call.kinds, call.hf_mul));
+        outcome.answer
+    }
+
+    #[test]
+    fn every_index_of_a_layout_without_blocks_is_outside() {
+        let outside = Err(Refusal::plain(2));
+        for side in 0..=LAYOUT_SIDE_MOST + 1 {
+            for group in (0..=64).chain([usize::MAX]) {
+                assert_eq!(answer(0, side, group, 0), outside);
+                assert_eq!(answer(side, 0, group, 1), outside);
+            }
+        }
+        assert_eq!(answer(1, 1, 0, 1), Ok((1, 1)));
+        assert_eq!(answer(1, 1, 1, 1), outside);
+        assert_eq!(answer(256, 256, 63, 1024), Ok((32, 32)));
+        assert_eq!(answer(256, 256, 64, 1024), outside);
+    }
+
+    #[test]
+    fn a_layout_without_blocks_is_one() {
+        assert!(is_layout(&Layout::default()));
+    }
 }

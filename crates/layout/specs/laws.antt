@@ -21,3 +21,4 @@ pub mod RowByRowSteps
 pub mod Loops
 pub mod Corners
 pub mod Rectangles
+pub mod Empty

@@ -10,3 +10,4 @@ pub mod Sigma
 pub mod Unread
 pub mod Columns
 pub mod Types
+pub mod Empty

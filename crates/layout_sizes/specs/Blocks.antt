@@ -5,9 +5,9 @@ use Prim.Native.Nat.{ℕ, _+_, _*_, _/_}
 use lib.Dec.{leb, eqb}
 use lib.ListN.{getD}
 
--- width and height, 1 to 2,048
+-- width and height, at most 2,048; 0 is a strip without blocks (document 02, No. 2)
 abbrev pub sizeFits : ℕ → ℕ → Bool
-sizeFits width height = leb 1 width && leb width 2048 && leb 1 height && leb height 2048
+sizeFits width height = leb width 2048 && leb height 2048
 
 -- three upsampling modes 0 to 3
 abbrev pub modesFit : List ℕ → Bool

@@ -9,17 +9,11 @@ pub struct Blocks {
     pub bh: usize,
 }
 
-// 1 to 2,048 pixels each way.
+// At most 2,048 pixels each way.
 pub fn size_fits(width: u32, height: u32) -> bool
     ensures { λ r. ⌜ r ≡ sizeFits width height ⌝ }
 {
-    if width < 1 {
-        return false;
-    }
     if 2048 < width {
-        return false;
-    }
-    if height < 1 {
         return false;
     }
     height <= 2048

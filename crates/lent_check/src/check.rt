@@ -41,7 +41,7 @@ fn is_layout(bw: usize, bh: usize, kinds: &[u8], hf_mul: &[u32]) -> bool
     true
 }
 
-// Sides of 1 to 256, lengths of as many cells, and the cells are a layout.
+// Sides of at most 256, lengths of as many cells, and the cells are a layout.
 pub fn is_lent_layout(bw: usize, bh: usize, kinds: &[u8], hf_mul: &[u32]) -> bool
     ensures { λ r. ⌜ r ≡ isLentLayout bw bh (now (kinds .entry)) (now («hf_mul» .entry)) ⌝ }
 {
@@ -54,7 +54,7 @@ pub fn is_lent_layout(bw: usize, bh: usize, kinds: &[u8], hf_mul: &[u32]) -> boo
     is_layout(bw, bh, kinds, hf_mul)
 }
 
-// A lent group: sides 1 to 32 (2), lengths (1), 18.
+// A lent group: sides of at most 32 (2), lengths (1), 18.
 pub fn check_group(group: GroupSides, kinds: &[u8], hf_mul: &[u32]) -> Checked
     ensures { λ r. ⌜ checked r ≡ checkOf 32 (group .bw) (group .bh) (now (kinds .entry)) (now («hf_mul» .entry)) ⌝ }
 {

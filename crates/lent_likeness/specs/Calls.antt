@@ -1,11 +1,12 @@
 -- What the likeness test of two lent layouts answers (document 01, Layout, "Added by us", and Refused; document 02, No. 12).
-use mathlib.Core.Bool.{Bool, true, false, _&&_}
-use Prim.Native.Nat.{_*_}
+use mathlib.Core.Bool.{Bool, true, false, _&&_, _||_}
+use Prim.Native.Nat.{ℕ, _*_}
 use lib.Dec.{eqb}
 use lib.ListN.{length}
 use Rattle.refusal.specs.Said.{said}
 use Rattle.refusal.specs.Answer.{Answer, gives, refuses, unless}
 use Rattle.layout.specs.Check.{isLayout}
+use Rattle.layout.specs.Empty.{isEmpty}
 use Rattle.lent_sides.specs.Limits.{inLimits, lengthsFit}
 use Rattle.lent_lists.specs.Same.{same}
 use Rattle.lent_lists.specs.Finite.{allFinite}
@@ -31,10 +32,14 @@ allLengthsFit L =
 abbrev pub holdsLayout : FilteredLayout → Bool
 holdsLayout L = isLayout (L .layout .bw) (L .layout .bh) (L .layout .kinds) (L .layout .hfMul)
 
--- the same sides and the same lists: of two that no check refuses, the same varblocks and sigma bits (Theorems: like-yes, like-no)
+-- no blocks in either (document 02, No. 2), or the same sides
+abbrev pub sameSides : (bw bh bw′ bh′ : ℕ) → Bool
+sameSides bw bh bw′ bh′ = (isEmpty bw bh && isEmpty bw′ bh′) || (eqb bw bw′ && eqb bh bh′)
+
+-- so the sides, and the same lists: of two that no check refuses, the same varblocks and sigma bits (Theorems: like-yes, like-no)
 unfoldable pub alike : FilteredLayout → FilteredLayout → Bool
 alike L N =
-    (eqb (L .layout .bw) (N .layout .bw) && eqb (L .layout .bh) (N .layout .bh))
+    sameSides (L .layout .bw) (L .layout .bh) (N .layout .bw) (N .layout .bh)
     && (same (L .layout .kinds) (N .layout .kinds) && (same (L .layout .hfMul) (N .layout .hfMul) && same (L .sigma) (N .sigma)))
 
 -- each number is tried over both layouts before the next

@@ -9,7 +9,7 @@ use Rattle.lent_sides.specs.Limits.{Sided}
 use Rattle.lent_lists.specs.Finite.{finitePattern}
 use Rattle.lent_likeness.specs.Like.{FilteredLayout}
 
--- a lent layout that no check refuses: sides of 1 to 256, a layout, and for each block a sigma that is finite
+-- a lent layout that no check refuses: sides of at most 256, a layout, and for each block a sigma that is finite
 pub record Sound (L : FilteredLayout) : Type 0 where
   pub sides : Sided 256 (L .layout .bw) (L .layout .bh)
   pub layout : Layout (L .layout .bw) (L .layout .bh) (L .layout .kinds) (L .layout .hfMul)

@@ -10,12 +10,13 @@ ghost use mathlib.Core.Path.{_≡_};
 ghost use mathlib.Core.Bool.{_&&_};
 ghost use Prim.Native.Nat.{_*_};
 ghost use lib.Dec.{eqb};
+ghost use Rattle.layout.specs.Empty.{isEmpty};
 ghost use Rattle.lent_sides.specs.Limits.{inLimits, lengthsFit};
 ghost use Rattle.lent_lists.specs.Same.{same};
 ghost use Rattle.lent_lists.specs.Finite.{allFinite};
 ghost use Rattle.lent_check.specs.laws.Laws.{isLentLayout};
 ghost use Rattle.lent_likeness.specs.Like.{filtered};
-ghost use Rattle.lent_likeness.specs.Calls.{answered, likeOf};
+ghost use Rattle.lent_likeness.specs.Calls.{answered, sameSides, likeOf};
 
 pub enum LikeAnswer {
     Alike,
@@ -93,10 +94,33 @@ fn both_layouts(
     false
 }
 
-// The same sides.
-fn same_sides(bw: usize, bh: usize, bw2: usize, bh2: usize) -> bool
-    ensures { λ r. ⌜ r ≡ eqb bw bw2 && eqb bh bh2 ⌝ }
+// No blocks: width or height zero.
+fn is_empty(bw: usize, bh: usize) -> bool
+    ensures { λ r. ⌜ r ≡ isEmpty bw bh ⌝ }
 {
+    if bw == 0 {
+        return true;
+    }
+    bh == 0
+}
+
+// No blocks in either.
+fn both_empty(bw: usize, bh: usize, bw2: usize, bh2: usize) -> bool
+    ensures { λ r. ⌜ r ≡ isEmpty bw bh && isEmpty bw2 bh2 ⌝ }
+{
+    if is_empty(bw, bh) {
+        return is_empty(bw2, bh2);
+    }
+    false
+}
+
+// No blocks in either, or the same sides.
+fn same_sides(bw: usize, bh: usize, bw2: usize, bh2: usize) -> bool
+    ensures { λ r. ⌜ r ≡ sameSides bw bh bw2 bh2 ⌝ }
+{
+    if both_empty(bw, bh, bw2, bh2) {
+        return true;
+    }
     if bw == bw2 {
         return bh == bh2;
     }

@@ -3,16 +3,14 @@ use mathlib.Core.Bool.{Bool, _&&_}
 use Prim.Native.Nat.{ℕ, _*_, _≤_}
 use lib.Dec.{leb, eqb}
 
--- both sides are 1 to limit
+-- neither side is above the limit
 unfoldable pub inLimits : ℕ → ℕ → ℕ → Bool
-inLimits limit bw bh = leb 1 bw && leb bw limit && (leb 1 bh && leb bh limit)
+inLimits limit bw bh = leb bw limit && leb bh limit
 
 -- as many kinds and as many hf_mul as cells
 unfoldable pub lengthsFit : ℕ → ℕ → ℕ → ℕ → Bool
 lengthsFit bw bh kinds hfMul = eqb kinds (bh * bw) && eqb hfMul (bh * bw)
 
 pub record Sided (limit bw bh : ℕ) : Type 0 where
-  pub bwFrom : 1 ≤ bw
   pub bwTo : bw ≤ limit
-  pub bhFrom : 1 ≤ bh
   pub bhTo : bh ≤ limit

@@ -2,17 +2,11 @@
 ghost use mathlib.Core.Path.{_≡_};
 ghost use Rattle.lent_sides.specs.Limits.{inLimits, lengthsFit};
 
-// Both sides are 1 to limit.
+// Neither side is above the limit.
 pub fn in_limits(limit: usize, bw: usize, bh: usize) -> bool
     ensures { λ r. ⌜ r ≡ inLimits limit bw bh ⌝ }
 {
-    if bw < 1 {
-        return false;
-    }
     if limit < bw {
-        return false;
-    }
-    if bh < 1 {
         return false;
     }
     bh <= limit

@@ -14,6 +14,7 @@ use Rattle.layout.specs.Varblocks.{varblock, varblocksOf, area}
 use Rattle.lent_likeness.specs.Like.{SameRectangles}
 use Rattle.lent_likeness.specs.Calls.{likeOf}
 use Rattle.lent_likeness.specs.Examples.{oneDct8, oneHornuss}
+use Rattle.layout_sizes.specs.Blocks.{bwIn, bhIn}
 use Rattle.layout_filter.specs.declared.Filter.the-variants.{On}
 use Rattle.layout_filter.specs.Strength.{nearest}
 use Rattle.refusal.specs.Answer as answer
@@ -24,8 +25,9 @@ use Rattle.order_call.specs.Call.{parsed}
 use Rattle.coeff_call.specs.declared.CoeffAnswer.the-variants.{Accepted}
 use Rattle.refusal.specs.Answer.{gives, refuses}
 use Rattle.coeff_call.specs.Call.{leaves, outcomeOf, refuse, presetBits, call, reading as readingWith}
+use Rattle.lister.specs.Texts.{BAD-INPUT}
 use Rattle.lister.specs.Listing.{textOf}
-use Rattle.marked.specs.Lines.{job, lines}
+use Rattle.marked.specs.Lines.{job, lines, strip, stripWithColumn, tooHigh, stripLines}
 use Rattle.marked.specs.Coefficients.{gains, dct8, dct16, Room}
 
 -- M1 natural 8 × 8 starts (0,0) (1,0) (0,1) (0,2) (1,1) (2,0)
@@ -108,6 +110,16 @@ M11 = (map log g0 g1 g2 : List ℕ) → Room 1 1 map log g0 g1 g2
 abbrev pub M12 : Type 0
 M12 = (likeOf oneHornuss oneDct8 ≡ gives false) × SameRectangles (oneHornuss .layout) (oneDct8 .layout)
 
+-- M13, of document 02, No. 2: 0 × 16 pixels are 0 × 2 blocks, accepted with no columns used; 0 × 8 pixels with mode 1 are 0 × 2 blocks too; the lister
+-- prints `blocks 0 2` and `area 0`, surplus columns or not; 0 beside 513 pixels is bad input
+abbrev pub M13 : Type 0
+M13 = (off 0 2 [] [] ≡ record { answer = answer.gives 0; kinds = []; hfMul = []; sigma = [] })
+    × (bwIn 0 (1 ∷ 0 ∷ 0 ∷ []) ≡ 0)
+    × (bhIn 8 (1 ∷ 0 ∷ 0 ∷ []) ≡ 2)
+    × (textOf strip ≡ stripLines)
+    × (textOf stripWithColumn ≡ stripLines)
+    × (textOf tooHigh ≡ BAD-INPUT)
+
 -- number and statement of a marked example
 pub record Row : Type 1 where
   pub number : ℕ
@@ -117,7 +129,7 @@ abbrev m : ℕ → Type 0 → Row
 m number says = record { number = number; says = says }
 
 unfoldable pub MARKED : List Row
-MARKED = m 1 M1 ∷ m 2 M2 ∷ m 3 M3 ∷ m 4 M4 ∷ m 5 M5 ∷ m 6 M6 ∷ m 7 M7 ∷ m 8 M8 ∷ m 9 M9 ∷ m 10 M10 ∷ m 11 M11 ∷ m 12 M12 ∷ []
+MARKED = m 1 M1 ∷ m 2 M2 ∷ m 3 M3 ∷ m 4 M4 ∷ m 5 M5 ∷ m 6 M6 ∷ m 7 M7 ∷ m 8 M8 ∷ m 9 M9 ∷ m 10 M10 ∷ m 11 M11 ∷ m 12 M12 ∷ m 13 M13 ∷ []
 
 -- each row of a list
 abbrev pub Each : List Row → Type 0

@@ -18,3 +18,4 @@ pub mod Ways
 pub mod Computes
 pub mod Plain
 pub mod InsideLaws
+pub mod Empty

@@ -188,10 +188,13 @@ fn draw_legend(svg: &mut Svg, x: f64, entries: &[Entry], shades: &Shades) {
         y += LINE;
     }
     y += LINE;
-    let words = format!(
-        "hf_mul {} to {}: darker is larger",
-        shades.least, shades.largest
-    );
+    let words = match entries {
+        [] => String::from("no varblocks"),
+        _ => format!(
+            "hf_mul {} to {}: darker is larger",
+            shades.least, shades.largest
+        ),
+    };
     svg.text("note", (x, y + 15.0), &words);
     y += LINE;
     for step in 0..10 {
@@ -233,6 +236,17 @@ mod tests {
         );
         let area: usize = entries.iter().map(|entry| entry.area).sum();
         assert_eq!(area, layout.sides.blocks());
+    }
+
+    #[test]
+    fn an_empty_layout_has_a_picture() {
+        for job in [[0x10, 0, 0, 16, 0, 0], [0x10, 16, 0, 0, 0, 0]] {
+            let job = Job::read(&job).expect("a job");
+            let layout = LayoutBuf::read(&job.input()).expect("it is accepted");
+            let svg = draw("empty", job.group, &layout);
+            assert!(well_formed(&svg) && svg.contains("0 varblocks, 0 pass groups"));
+            assert!(!svg.contains("class=\"varblock\"") && !svg.contains("hf_mul"));
+        }
     }
 
     #[test]

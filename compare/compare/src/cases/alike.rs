@@ -1,9 +1,11 @@
 use calls::{AlikeCall, FilteredLayout, Layout, Outcome};
+use paper::TRANSFORM_COUNT;
 
 use super::cut::{misfit, plain_layouts, short_layout, short_layouts, whole_layout};
 use super::digits::{lists_count, Digits};
-use super::placing::{damage, fill};
+use super::placing::{damage, fill, single};
 use super::strengths::{any_finite, any_not_finite, EACH};
+use super::strips::{self, any_strip, empty};
 use super::{plainer, variants, Case};
 use crate::rng::Rng;
 
@@ -20,6 +22,11 @@ const SHORT_LENGTH: usize = 2;
 /// Kinds of transforms of one block.
 const ONE_BLOCK: [u8; 10] = [2, 3, 4, 5, 14, 15, 16, 17, 18, 19];
 
+impl AlikeCase {
+    /// So many of the short inputs, the first of them, are mostly about layouts without blocks.
+    pub const STRIPS: usize = strips::PAIRS;
+}
+
 impl Case for AlikeCase {
     const NAME: &'static str = "alike";
     type Input = AlikeCall;
@@ -33,12 +40,20 @@ impl Case for AlikeCase {
         }
     }
 
+    fn without_blocks(&self, input: &AlikeCall) -> Option<bool> {
+        let lent = [&input.left, &input.right];
+        Some(lent.iter().any(|lent| lent.layout.blocks() == 0))
+    }
+
     fn short_count(&self) -> usize {
         let blocks = BLOCKS.len() * lists_count(EACH.len(), SHORT_LENGTH);
-        short_layouts() * STEPS.len() + blocks.pow(2)
+        Self::STRIPS + short_layouts() * STEPS.len() + blocks.pow(2)
     }
 
     fn short(&self, number: usize) -> AlikeCall {
+        let Some(number) = number.checked_sub(Self::STRIPS) else {
+            return strips::alike(number);
+        };
         let pairs = short_layouts() * STEPS.len();
         match number.checked_sub(pairs) {
             None => short_pair(number),
@@ -129,6 +144,9 @@ fn filtered(rng: &mut Rng, layout: Layout) -> FilteredLayout {
 fn differ(rng: &mut Rng, call: &mut AlikeCall) {
     let AlikeCall { left, right } = call;
     let layout = &mut right.layout;
+    if layout.blocks() == 0 {
+        return differ_without_blocks(rng, right);
+    }
     let cell = rng.below(layout.blocks());
     match rng.below(12) {
         0 => {
@@ -149,6 +167,20 @@ fn differ(rng: &mut Rng, call: &mut AlikeCall) {
         }
         _ => {}
     }
+}
+
+/// Another right layout, mostly again without blocks, or the same.
+fn differ_without_blocks(rng: &mut Rng, right: &mut FilteredLayout) {
+    let layout = match rng.below(8) {
+        0 | 1 => whole_layout(rng),
+        2 => single(rng.below(TRANSFORM_COUNT) as u8),
+        3 => right.layout.clone(),
+        _ => {
+            let (bw, bh) = any_strip(rng, 256);
+            empty(bw, bh)
+        }
+    };
+    *right = filtered(rng, layout);
 }
 
 /// Another transform of one block in place of one, which leaves the rectangles as they are.

@@ -7,9 +7,11 @@ use calls::CoefficientsCall;
 use super::placing::damage;
 use crate::rng::Rng;
 
+/// Symbols that are refused or surplus, most often; where there are none, surplus ones.
 pub fn damage_symbols(rng: &mut Rng, symbols: &mut Vec<u32>) {
     let place = rng.below(symbols.len());
     match rng.below(10) {
+        _ if symbols.is_empty() => symbols.extend([rng.pick(&[0, 1, 64]), rng.any_u32()]),
         0 => symbols.truncate(symbols.len() - 1),
         1..=3 => symbols.truncate(place),
         4 | 5 => symbols[place] = rng.pick(&[63, 64, 126, 127, 252, 253, 64_512, 64_513, u32::MAX]),

@@ -1,19 +1,22 @@
 use super::coefficients::CoefficientsInput;
+use super::cut::smaller_strips;
 use super::placing::single;
-use super::{plainer, shorter, simpler, variants};
+use super::strips::empty;
+use super::{plainer, plainer_where, shorter, simpler, variants};
 use crate::make;
 
 /// Smaller coefficient calls: fewer varblocks, fewer and plainer symbols, all else plain.
 pub fn smaller(input: &CoefficientsInput) -> Vec<CoefficientsInput> {
     let call = &input.call;
-    let mut found = alone(input);
+    let mut found = without_blocks(input);
+    found.extend(alone(input));
     found.extend(one_preset(input));
     found.extend(default_contexts(input));
     found.extend(variants(input, shorter(&call.symbols), |i, list| {
         i.call.symbols = list
     }));
     for plain in [0, 1] {
-        let lists = plainer(&call.symbols, plain);
+        let lists = plainer_where(&call.symbols, |&symbol| symbol > plain, &plain);
         found.extend(variants(input, lists, |i, list| i.call.symbols = list));
     }
     found.extend(variants(input, simpler(&call.lf, [None]), |i, lf| {
@@ -36,6 +39,22 @@ pub fn smaller(input: &CoefficientsInput) -> Vec<CoefficientsInput> {
 fn is_served(input: &CoefficientsInput) -> bool {
     let entries = paper::ENTRIES_PER_CLUSTER * input.call.contexts.count as usize;
     entries <= input.orders.cluster_map.len()
+}
+
+/// The call without its blocks; where it has none, with a smaller side or list.
+fn without_blocks(input: &CoefficientsInput) -> Vec<CoefficientsInput> {
+    let group = &input.call.group;
+    if group.blocks() == 0 {
+        return variants(input, smaller_strips(group), |i, group| {
+            i.call.group = group
+        });
+    }
+    let mut none = input.clone();
+    none.call.group = empty(0, 0);
+    none.call.lf = input.call.lf.as_ref().map(|_| Default::default());
+    none.call.buffers.grids = Default::default();
+    none.call.buffers.log.clear();
+    vec![none]
 }
 
 /// Each varblock of several alone; all but contexts and symbols is plain then.

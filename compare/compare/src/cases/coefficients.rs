@@ -11,6 +11,7 @@ use super::digits::{lists_count, Digits};
 use super::last_places::{each_transform, one_block, EACH_TRANSFORM, ONE_BLOCK};
 use super::orders::symbols;
 use super::placing::{fill, single};
+use super::strips::{self, any_strip, GroupStrip};
 use super::symbol_stream::{crowded_stream, remaining_stream, symbol_stream};
 use super::Case;
 use crate::expected;
@@ -45,7 +46,8 @@ const SHORT_SYMBOLS: [u32; 6] = [0, 1, 2, 3, 63, 64];
 const SHORT_MOST: usize = 6;
 /// At how many places the symbols of each transform end, half of them counted from the end.
 const SHORT_ENDS: usize = 400;
-const SIDES: usize = 32;
+/// Widths and heights of groups, 0 among them.
+const SIDES: usize = 33;
 
 fn short_lists() -> usize {
     lists_count(SHORT_SYMBOLS.len(), SHORT_MOST)
@@ -54,6 +56,8 @@ fn short_lists() -> usize {
 impl CoefficientsCase {
     /// So many of the short inputs, the first of them, are about the last places of a channel.
     pub const LAST_PLACES: usize = ONE_BLOCK + EACH_TRANSFORM;
+    /// So many behind them are groups without blocks.
+    pub const STRIPS: usize = strips::GROUPS;
 
     pub fn new(seed: u64) -> Self {
         let mut rng = Rng::new(seed);
@@ -85,6 +89,22 @@ impl CoefficientsCase {
         input
     }
 
+    /// A group without blocks, with default contexts.
+    fn strip(&self, number: usize) -> CoefficientsInput {
+        let GroupStrip {
+            group,
+            presets,
+            bytes,
+            change,
+        } = strips::group(number);
+        let which = number % self.orders.len();
+        let mut input = self.input(which, group, make::default_contexts());
+        set_presets(&mut input.call, presets, &input.orders.cluster_map);
+        input.call.bytes = bytes.to_vec();
+        change(&mut input.call);
+        input
+    }
+
     /// One Dct8 with default contexts, over a list of a few symbols.
     fn short_list(&self, number: usize) -> CoefficientsInput {
         let group = single(0);
@@ -113,7 +133,7 @@ impl CoefficientsCase {
 
     /// A group of each width and height.
     fn of_sides(&self, number: usize) -> CoefficientsInput {
-        let (bw, bh) = (number % SIDES + 1, number / SIDES + 1);
+        let (bw, bh) = (number % SIDES, number / SIDES);
         let mut rng = Rng::new(number as u64);
         let group = fill(&mut rng, bw, bh, None).layout;
         let which = rng.below(self.orders.len());
@@ -150,13 +170,21 @@ impl Case for CoefficientsCase {
         Some(expected::count_remains(expected))
     }
 
+    fn without_blocks(&self, input: &CoefficientsInput) -> Option<bool> {
+        Some(input.call.group.blocks() == 0)
+    }
+
     fn short_count(&self) -> usize {
-        Self::LAST_PLACES + short_lists() + SHORT_ENDS * TRANSFORM_COUNT + SIDES * SIDES
+        let strips = Self::LAST_PLACES + Self::STRIPS;
+        strips + short_lists() + SHORT_ENDS * TRANSFORM_COUNT + SIDES * SIDES
     }
 
     fn short(&self, number: usize) -> CoefficientsInput {
-        let Some(list) = number.checked_sub(Self::LAST_PLACES) else {
+        let Some(strip) = number.checked_sub(Self::LAST_PLACES) else {
             return self.last_places(number);
+        };
+        let Some(list) = strip.checked_sub(Self::STRIPS) else {
+            return self.strip(strip);
         };
         let Some(end) = list.checked_sub(short_lists()) else {
             return self.short_list(list);
@@ -242,10 +270,12 @@ fn threshold(rng: &mut Rng) -> i32 {
     }
 }
 
+/// A group, seldom large; once in ten times it has no blocks.
 fn group(rng: &mut Rng) -> Layout {
     let favoured = rng.once_in(2).then(|| rng.below(TRANSFORM_COUNT) as u8);
     let (bw, bh) = match (rng.below(40), favoured) {
         (0, _) => (rng.between(1, 32), rng.between(1, 32)),
+        (36.., _) => any_strip(rng, 32),
         (1..=12, Some(transform)) => paper::transform_sides(transform.into()).expect("a transform"),
         _ => (rng.between(1, 5), rng.between(1, 5)),
     };
@@ -266,15 +296,21 @@ fn lf_grid(rng: &mut Rng, call: &CoefficientsCall, channel: usize) -> Vec<i32> {
     (0..call.group.blocks()).map(number).collect()
 }
 
+/// So many presets, with a cluster map of their length.
+fn set_presets(call: &mut CoefficientsCall, presets: u32, cluster_map: &[u8]) {
+    let entries = paper::ENTRIES_PER_CLUSTER * call.contexts.count as usize;
+    call.presets = presets;
+    call.cluster_map = cluster_map[..entries * presets as usize].to_vec();
+}
+
 /// A number of presets and the bits of one of them, seldom of none.
 fn presets(rng: &mut Rng, call: &mut CoefficientsCall, cluster_map: &[u8]) {
-    call.presets = match rng.below(40) {
+    let presets = match rng.below(40) {
         0 => rng.between(0, 256) as u32,
         1 => 0,
         _ => rng.between(1, 5) as u32,
     };
-    let entries = paper::ENTRIES_PER_CLUSTER * call.contexts.count as usize;
-    call.cluster_map = cluster_map[..entries * call.presets as usize].to_vec();
+    set_presets(call, presets, cluster_map);
     let any_below = if rng.once_in(8) {
         256
     } else {

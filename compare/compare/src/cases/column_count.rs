@@ -1,18 +1,18 @@
 use calls::{ColumnCount, ColumnCountCall, Outcome};
 
 use super::digits::Digits;
-use super::{shorter, simpler, variants, Case};
+use super::{less, shorter, simpler, variants, Case};
 use crate::expected;
 use crate::rng::Rng;
 
 pub struct ColumnCountCase;
 
 /// Sides around those at which the number of bits changes, and around the limits.
-const SIDES: [u32; 22] = [
-    1, 8, 9, 16, 17, 24, 25, 32, 33, 64, 65, 128, 129, 256, 257, 512, 1024, 1025, 2040, 2041, 2047,
-    2048,
+const SIDES: [u32; 26] = [
+    0, 1, 2, 3, 8, 9, 16, 17, 24, 25, 32, 33, 64, 65, 128, 129, 255, 256, 257, 512, 1024, 1025,
+    2040, 2041, 2047, 2048,
 ];
-const OUTSIDE: [u32; 4] = [0, 2049, 4096, u32::MAX];
+const OUTSIDE: [u32; 3] = [2049, 4096, u32::MAX];
 const MODES: [[u32; 3]; 7] = [
     [0; 3],
     [0, 1, 0],
@@ -38,6 +38,10 @@ impl Case for ColumnCountCase {
         }
     }
 
+    fn without_blocks(&self, input: &ColumnCountCall) -> Option<bool> {
+        Some(input.width == 0 || input.height == 0)
+    }
+
     fn short_count(&self) -> usize {
         let sides = SIDES.len() + OUTSIDE.len();
         sides * sides * MODES.len() * PATTERNS.len() * BYTES_MOST
@@ -58,14 +62,14 @@ impl Case for ColumnCountCase {
         let length = rng.below(BYTES_MOST);
         ColumnCountCall {
             bytes: rng.bytes(length),
-            width: rng.between(1, 2048) as u32,
-            height: rng.between(1, 2048) as u32,
+            width: any_side(rng),
+            height: any_side(rng),
             modes: rng.pick(&MODES),
         }
     }
 
     fn smaller(&self, input: &ColumnCountCall) -> Vec<ColumnCountCall> {
-        let smaller = |side: &u32| simpler(side, [1, side / 2, side.saturating_sub(1)]);
+        let smaller = |side: &u32| less(side, [0, 1, side / 2, side.saturating_sub(1)]);
         let mut found = variants(input, shorter(&input.bytes), |i, bytes| i.bytes = bytes);
         found.extend(variants(input, simpler(&input.modes, [[0; 3]]), |i, m| {
             i.modes = m
@@ -77,5 +81,14 @@ impl Case for ColumnCountCase {
             i.height = side
         }));
         found
+    }
+}
+
+/// Once in eight times 0.
+fn any_side(rng: &mut Rng) -> u32 {
+    match rng.below(32) {
+        0..=3 => 0,
+        4 => rng.pick(&[1, 2047, 2048, 2049, u32::MAX]),
+        _ => rng.between(1, 2048) as u32,
     }
 }

@@ -3,7 +3,8 @@ use paper::TRANSFORM_COUNT;
 
 use super::digits::Digits;
 use super::placing::{damage, fill};
-use super::{plainer, variants, Case};
+use super::strips::{self, any_strip, empty};
+use super::{less, plainer, shorter, variants, Case};
 use crate::make::{USED_BYTE, USED_WORD};
 use crate::rng::Rng;
 
@@ -13,6 +14,11 @@ pub struct CutCase;
 const SHORT_GRIDS: [(usize, usize); 6] = [(1, 1), (2, 1), (1, 2), (3, 1), (1, 3), (2, 2)];
 const SHORT_CELLS: usize = 4;
 const SHORT_KINDS: [u8; 13] = [0, 1, 2, 3, 6, 7, 8, 9, 10, 14, 28, 29, 255];
+
+impl CutCase {
+    /// So many of the short inputs, the first of them, are layouts without blocks.
+    pub const STRIPS: usize = strips::CUTS;
+}
 
 impl Case for CutCase {
     const NAME: &'static str = "cut";
@@ -24,18 +30,28 @@ impl Case for CutCase {
         paper::cut(input)
     }
 
+    fn without_blocks(&self, input: &CutCall) -> Option<bool> {
+        Some(input.layout.blocks() == 0)
+    }
+
     fn short_count(&self) -> usize {
-        short_layouts()
+        Self::STRIPS + short_layouts()
     }
 
     fn short(&self, number: usize) -> CutCall {
-        call(short_layout(number), 0)
+        match number.checked_sub(Self::STRIPS) {
+            None => strips::cut(number),
+            Some(number) => call(short_layout(number), 0),
+        }
     }
 
     fn random(&self, rng: &mut Rng) -> CutCall {
         let layout = random_layout(rng);
         let groups = layout.bw.div_ceil(32) * layout.bh.div_ceil(32);
-        let group = rng.below(groups);
+        let group = match groups {
+            0 => rng.pick(&[0, 0, 1, 7, 8, 63, 64, usize::MAX]),
+            _ => rng.below(groups),
+        };
         let mut call = call(layout, group);
         match rng.below(24) {
             0 => call.group = rng.pick(&[groups, usize::MAX, 64, groups + 1]),
@@ -48,18 +64,40 @@ impl Case for CutCase {
     }
 
     fn smaller(&self, input: &CutCall) -> Vec<CutCall> {
-        variants(input, plain_layouts(&input.layout), |i, layout| {
+        let mut found = variants(input, plain_layouts(&input.layout), |i, layout| {
             i.layout = layout
-        })
+        });
+        let indices = less(&input.group, [0, 1, input.group / 2]);
+        if input.layout.blocks() == 0 {
+            found.extend(variants(input, indices, |i, group| i.group = group));
+        }
+        found
     }
 }
 
-/// Copies of a layout with a plainer cell.
+/// Copies of a layout with a plainer cell, or, where it has no blocks, with a smaller side or list.
 pub fn plain_layouts(layout: &Layout) -> Vec<Layout> {
+    if layout.blocks() == 0 {
+        return smaller_strips(layout);
+    }
     let mut found = variants(layout, plainer(&layout.kinds, 2), |l, kinds| {
         l.kinds = kinds
     });
     found.extend(variants(layout, plainer(&layout.hf_mul, 1), |l, hf_mul| {
+        l.hf_mul = hf_mul
+    }));
+    found
+}
+
+/// Copies of a layout without blocks with a smaller side, or with fewer of the cells that are too many.
+pub fn smaller_strips(layout: &Layout) -> Vec<Layout> {
+    let sides = |side: usize| less(&side, [0, 1, side / 2, side.saturating_sub(1)]);
+    let mut found = variants(layout, sides(layout.bw), |l, bw| l.bw = bw);
+    found.extend(variants(layout, sides(layout.bh), |l, bh| l.bh = bh));
+    found.extend(variants(layout, shorter(&layout.kinds), |l, kinds| {
+        l.kinds = kinds
+    }));
+    found.extend(variants(layout, shorter(&layout.hf_mul), |l, hf_mul| {
         l.hf_mul = hf_mul
     }));
     found
@@ -106,8 +144,12 @@ fn random_layout(rng: &mut Rng) -> Layout {
     layout
 }
 
-/// A layout, seldom large.
+/// A layout, seldom large; once in eight times it has no blocks.
 pub fn whole_layout(rng: &mut Rng) -> Layout {
+    if rng.once_in(8) {
+        let (bw, bh) = any_strip(rng, 256);
+        return empty(bw, bh);
+    }
     let most = rng.pick(&[4, 8, 8, 8, 40, 40, 70, 256]);
     let (bw, bh) = (rng.between(1, most), rng.between(1, most.min(70)));
     let favoured = rng.once_in(3).then(|| rng.below(TRANSFORM_COUNT) as u8);

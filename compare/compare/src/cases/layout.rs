@@ -3,6 +3,7 @@ use paper::TRANSFORM_COUNT;
 
 use super::digits::{lists_count, Digits};
 use super::placing::fill;
+use super::strips::{self, any_strip};
 use super::{plainer, shorter, simpler, variants, Case};
 use crate::rng::Rng;
 use crate::{expected, make};
@@ -18,6 +19,7 @@ const SHORT_MULS: [i32; 4] = [0, -1, i32::MAX, 4];
 const SHORT_MODES: [[u32; 3]; 3] = [[0; 3], [0, 1, 0], [2, 0, 0]];
 const SHORT_SIDES: [u32; 3] = [8, 16, 24];
 const SHORT_LISTS: usize = 3;
+const SIDE_MOST: u32 = 2048;
 /// What is tried of the filter on each short list: off, on, and on with a faulty last sharpness.
 const SHORT_FILTERS: usize = 3;
 
@@ -39,6 +41,11 @@ const FLOATS: [u32; 14] = [
 ];
 const FLOATS_INSIDE: usize = 9;
 
+impl LayoutCase {
+    /// So many of the short inputs, the first of them, are strips without blocks.
+    pub const STRIPS: usize = strips::LAYOUTS;
+}
+
 impl Case for LayoutCase {
     const NAME: &'static str = "layout";
     type Input = LayoutCall;
@@ -53,13 +60,20 @@ impl Case for LayoutCase {
         Some(expected::has_types_above_a_byte(input))
     }
 
+    fn without_blocks(&self, input: &LayoutCall) -> Option<bool> {
+        Some(input.width == 0 || input.height == 0)
+    }
+
     fn short_count(&self) -> usize {
         let lists = lists_count(SHORT_TYPES.len(), SHORT_LISTS);
         let sides = SHORT_SIDES.len().pow(2);
-        lists * sides * SHORT_MODES.len() * SHORT_FILTERS * SHORT_MULS.len()
+        Self::STRIPS + lists * sides * SHORT_MODES.len() * SHORT_FILTERS * SHORT_MULS.len()
     }
 
     fn short(&self, number: usize) -> LayoutCall {
+        let Some(number) = number.checked_sub(Self::STRIPS) else {
+            return strips::layout(number);
+        };
         let mut digits = Digits::of(number);
         let filter = digits.next(SHORT_FILTERS);
         let last_mul = digits.pick(&SHORT_MULS);
@@ -97,7 +111,9 @@ impl Case for LayoutCase {
         let sides = simpler(&(input.width, input.height), smaller_sides(input));
         found.extend(variants(input, sides, |call, (width, height)| {
             (call.width, call.height) = (width, height);
-            fit_lengths(call);
+            if width.max(height) <= SIDE_MOST {
+                fit_lengths(call);
+            }
         }));
         let types = input.types.iter().copied();
         let columns: Vec<_> = types.zip(input.muls.iter().copied()).collect();
@@ -143,13 +159,13 @@ fn alone(call: &LayoutCall) -> Vec<LayoutCall> {
     columns.filter(|_| several).map(grid).collect()
 }
 
+/// Each is at most as wide and high; none grows from 0.
 fn smaller_sides(call: &LayoutCall) -> [(u32, u32); 4] {
     let (width, height) = (call.width, call.height);
-    let half = |side: u32| (side / 2).max(1);
-    let less = |side: u32| side.saturating_sub(8).max(1);
+    let less = |side: u32| side.saturating_sub(8);
     [
-        (half(width), height),
-        (width, half(height)),
+        (width / 2, height),
+        (width, height / 2),
         (less(width), height),
         (width, less(height)),
     ]
@@ -162,13 +178,15 @@ fn fit_lengths(call: &mut LayoutCall) {
     call.buffers = make::used_buffers(bw * bh);
 }
 
-/// Columns that fill the grid; once in eight times one of them has bits above the low eight.
+/// Columns that fill the grid; once in eight times one of them has bits above the low eight. A grid
+/// without blocks has surplus columns alone.
 fn filled(rng: &mut Rng) -> LayoutCall {
     let (width, height) = match rng.below(400) {
         0 => (rng.between(1, 2048), rng.between(1, 2048)),
         1..=19 => (rng.between(232, 296), rng.between(1, 40)),
         20..=39 => (rng.between(1, 40), rng.between(232, 296)),
         40..=43 => (rng.between(200, 300), rng.between(200, 300)),
+        44..=93 => any_strip(rng, SIDE_MOST as usize),
         _ => (rng.between(1, 64), rng.between(1, 64)),
     };
     let modes = if rng.once_in(4) {
@@ -179,11 +197,12 @@ fn filled(rng: &mut Rng) -> LayoutCall {
     let (bw, bh) = paper::grid_sides(width as u32, height as u32, modes);
     let favoured = rng.once_in(3).then(|| rng.below(TRANSFORM_COUNT) as u8);
     let mut columns = fill(rng, bw, bh, favoured).columns;
-    if rng.once_in(8) {
+    let surplus_once_in = if columns.is_empty() { 2 } else { 8 };
+    if rng.once_in(surplus_once_in) {
         let mask = if rng.once_in(2) { 0xff } else { -1 };
         columns.push((rng.any_i32() & mask, rng.any_i32()));
     }
-    if rng.once_in(8) {
+    if rng.once_in(8) && !columns.is_empty() {
         let column = rng.below(columns.len());
         columns[column].0 |= rng.any_i32() & !0xff;
     }

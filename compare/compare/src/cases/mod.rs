@@ -17,6 +17,7 @@ mod reader;
 mod signed;
 mod stores;
 mod strengths;
+mod strips;
 mod symbol_stream;
 mod transform;
 
@@ -62,6 +63,12 @@ pub trait Case {
         None
     }
 
+    /// Whether a side of the input's grid is 0, so that it has no blocks (document 02, No. 2); told by
+    /// calls that are lent sides, for likeness of either layout.
+    fn without_blocks(&self, _input: &Self::Input) -> Option<bool> {
+        None
+    }
+
     /// How many short inputs there are, and each by its number.
     fn short_count(&self) -> usize;
     fn short(&self, number: usize) -> Self::Input;
@@ -73,7 +80,8 @@ pub trait Case {
         None
     }
 
-    /// Inputs that are smaller than the given one in some way, the boldest cuts first.
+    /// Inputs that are smaller than the given one in some way, the boldest cuts first. From none of
+    /// them do further ones lead back.
     fn smaller(&self, input: &Self::Input) -> Vec<Self::Input>;
 }
 
@@ -94,16 +102,22 @@ fn shorter<T: Clone>(list: &[T]) -> Vec<Vec<T>> {
 
 /// The list with a part of it replaced by plain elements: the whole, halves, down to single ones.
 fn plainer<T: Clone + PartialEq>(list: &[T], plain: T) -> Vec<Vec<T>> {
+    plainer_where(list, |each| *each != plain, &plain)
+}
+
+/// The same, of elements of which a test holds alone, as it does not of the plain one.
+fn plainer_where<T: Clone>(list: &[T], test: impl Fn(&T) -> bool, plain: &T) -> Vec<Vec<T>> {
     let mut found = Vec::new();
     let mut part = list.len();
     while part > 0 {
         let most = if part == 1 { 64 } else { 8 };
-        let changed = |start: &usize| list[*start..].iter().take(part).any(|each| *each != plain);
+        let changed = |start: &usize| list[*start..].iter().take(part).any(&test);
         let starts = (0..list.len()).step_by(part).filter(changed);
         found.extend(starts.take(most).map(|start| {
             let mut list = list.to_vec();
-            let end = (start + part).min(list.len());
-            list[start..end].fill(plain.clone());
+            let part = list[start..].iter_mut().take(part);
+            part.filter(|each| test(each))
+                .for_each(|each| *each = plain.clone());
             list
         }));
         part /= 2;
@@ -117,6 +131,11 @@ fn simpler<T: PartialEq, const N: usize>(value: &T, values: [T; N]) -> Vec<T> {
         .into_iter()
         .filter(|simple| simple != value)
         .collect()
+}
+
+/// Those of the given values that are below the one at hand.
+fn less<T: PartialOrd, const N: usize>(value: &T, values: [T; N]) -> Vec<T> {
+    values.into_iter().filter(|less| less < value).collect()
 }
 
 /// Copies of an input, each changed in one way.

@@ -26,11 +26,12 @@ pub fn remaining_stream(rng: &mut Rng, group: &Layout, sparseness: usize) -> Vec
 /// How the symbols of one channel are written: its places, and of how many at most one is filled.
 type Write = fn(&mut Rng, usize, usize, &mut Vec<u32>);
 
-/// A stream in which one channel, once in four times the last of all, is written otherwise.
+/// A stream in which one channel, once in four times the last of all, is written otherwise; of a group
+/// without blocks, the stream of none.
 fn stream_but(rng: &mut Rng, group: &Layout, sparseness: usize, otherwise: Write) -> Vec<u32> {
     let count = channels(group).count();
     let chosen = if rng.once_in(4) {
-        count - 1
+        count.saturating_sub(1)
     } else {
         rng.below(count)
     };

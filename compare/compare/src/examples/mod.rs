@@ -7,6 +7,7 @@ mod layouts;
 mod likeness;
 mod orders;
 mod reading;
+mod strips;
 
 use std::fmt;
 
@@ -15,7 +16,7 @@ use calls::{
     Contexts, ContextsCall, CutCall, GroupBuffers, LayoutBuffers, LayoutCall, OrdersCall, Outcome,
     Situation, Store, Transform,
 };
-use jxl_vardct::oracle::Orders;
+use jxl_vardct::oracle::{self, Orders};
 
 use crate::expected;
 use crate::walks::Walks;
@@ -25,6 +26,8 @@ struct Calls {
     transform: fn(u32) -> Answer<Transform>,
     column_count: fn(&ColumnCountCall) -> Answer<ColumnCount>,
     layout: fn(&LayoutCall) -> Outcome<usize, LayoutBuffers>,
+    /// Of a layout call that is accepted, in blocks.
+    grid_sides: fn(&LayoutCall) -> (usize, usize),
     cut: fn(&CutCall) -> Outcome<(usize, usize), GroupBuffers>,
     alike: fn(&AlikeCall) -> Answer<bool>,
     contexts: fn(&ContextsCall) -> Outcome<usize, Contexts>,
@@ -37,6 +40,7 @@ const RUST: Calls = Calls {
     transform: expected::transform,
     column_count: expected::column_count,
     layout: expected::layout,
+    grid_sides: |call| oracle::grid_sides(call).expect("an accepted call"),
     cut: paper::cut,
     alike: paper::alike,
     contexts: expected::contexts,
@@ -49,6 +53,7 @@ const NETBUFF: Calls = Calls {
     transform: |number| ours::transform(&number).answer,
     column_count: |call| ours::column_count(call).answer,
     layout: ours::layout,
+    grid_sides: ours::grid_sides,
     cut: ours::cut,
     alike: |call| ours::alike(call).answer,
     contexts: ours::contexts,
@@ -108,6 +113,7 @@ fn said(calls: &Calls) -> Vec<Said> {
         orders::said(calls),
         coefficients::said(calls),
         census::said(calls),
+        strips::said(calls),
     ];
     parts.into_iter().flatten().collect()
 }

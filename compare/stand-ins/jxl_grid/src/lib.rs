@@ -1,4 +1,5 @@
-//! Stand-in for `jxl_grid`: grids row by row, without padding, nothing tracked.
+//! Stand-in for `jxl_grid`: grids row by row, without padding, nothing tracked. A grid with a side of 0
+//! has its sides and no cells.
 
 use std::fmt;
 use std::ops::Range;

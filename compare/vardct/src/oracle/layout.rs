@@ -37,6 +37,13 @@ pub fn layout(call: &LayoutCall) -> Outcome<usize, LayoutBuffers> {
     }
 }
 
+/// The sides of the grid that `HfMetadata::parse` makes for a layout call that it accepts, in blocks.
+pub fn grid_sides(call: &LayoutCall) -> Option<(usize, usize)> {
+    let metadata = LayoutRun::new(call, call.types.len()).run().ok()?;
+    let grid = metadata.block_info.as_subgrid();
+    Some((grid.width(), grid.height()))
+}
+
 fn accepted(metadata: &HfMetadata) -> Outcome<usize, LayoutBuffers> {
     let cells = metadata.block_info.buf().iter().copied().map(kind_and_mul);
     let (kinds, hf_mul): (Vec<u8>, Vec<i32>) = cells.unzip();

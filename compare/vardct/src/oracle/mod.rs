@@ -10,7 +10,7 @@ mod transform;
 
 pub use coefficients::{coefficients, CoefficientsRun};
 pub use contexts::{contexts, paper_form, ContextsRead};
-pub use layout::{column_count, layout, LayoutRun};
+pub use layout::{column_count, grid_sides, layout, LayoutRun};
 pub use lf_group::LfGroupRun;
 pub use orders::{orders, store_after, Orders};
 pub use transform::{block_info, transform};

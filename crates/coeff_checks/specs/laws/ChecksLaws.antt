@@ -19,18 +19,14 @@ use Rattle.coeff_checks.specs.Checks.{blocks, sidesFit, parametersFit, t
 use Rattle.coeff_checks.specs.laws.Tests.{readLengthsFit, otherLengthsFit, groupPasses, two, three, four, truth, other-lengths-are, passes-is}
 
 pub record Sides (P : PassGroup) : Type 0 where
-  pub someWide : 1 ≤ P .bw
   pub wide : P .bw ≤ 32
-  pub someHigh : 1 ≤ P .bh
   pub high : P .bh ≤ 32
 
 pub sides-fit : (P : PassGroup) → sidesFit P ≡ true → Sides P
 unfolding inLimits
 sides-fit P e =
-    let t = two (leb 1 (P .bw) && leb (P .bw) 32) (leb 1 (P .bh) && leb (P .bh) 32) (truth (sidesFit P) e) in
-    let w = two (leb 1 (P .bw)) (leb (P .bw) 32) (t .0) in
-    let h = two (leb 1 (P .bh)) (leb (P .bh) 32) (t .1) in
-    record { someWide = leb→le 1 (P .bw) (w .0); wide = leb→le (P .bw) 32 (w .1); someHigh = leb→le 1 (P .bh) (h .0); high = leb→le (P .bh) 32 (h .1) }
+    let t = two (leb (P .bw) 32) (leb (P .bh) 32) (truth (sidesFit P) e) in
+    record { wide = leb→le (P .bw) 32 (t .0); high = leb→le (P .bh) 32 (t .1) }
 
 pub parameters-fit : (shift presets : ℕ) → parametersFit shift presets ≡ true → (shift ≤ 3) × (presets ≤ 256)
 parameters-fit shift presets e =

@@ -1,21 +1,22 @@
 -- Each group of a valid layout is valid; its corners are the layout's.
-use mathlib.Core.Path.{_≡_, ap, sym}
-use mathlib.Core.Bool.{true}
+use mathlib.Core.Path.{_≡_, refl, ap, sym, _∙_}
+use mathlib.Core.Bool.{Bool, true, false, cond}
 use mathlib.Core.Logic.{_⊎_, inl, inr}
 use mathlib.Core.List.{List}
-use Prim.Native.Nat.{ℕ, _+_, _*_, _-_, _/_, _%_, _≤_, _<_}
-use native.Mathlib.Nat.{mul-zero, mod-lt, div-lt-iff-lt-mul}
+use Prim.Native.Nat.{ℕ, zero, suc, _+_, _*_, _-_, _/_, _%_, _≤_, _<_}
+use native.Mathlib.Nat.{mul-zero, div-lt-iff-lt-mul, suc-mul}
 use native.Mathlib.Omega.{arith}
 use lib.Arith.{digits-lt, digits-div, digits-mod}
+use lib.Dec.{ltb}
 use lib.ListN.{length}
-use borrow.Author.Tests.{ltb-true}
+use borrow.Author.Tests.{ltb-true, ltb-false}
 use Rattle.laws.specs.laws.Cases.{le-or-lt}
 use Rattle.layout.specs.Kinds.{wideOf, highOf}
 use Rattle.layout.specs.Grid.{blockAt}
 use Rattle.layout.specs.laws.Grid.{grid-length, grid-at}
 use Rattle.layout.specs.Valid.{Cells, Covers, Fits, Owned, Valid, Layout}
 use Rattle.layout.specs.laws.Same.{valid-same}
-use Rattle.layout.specs.Cut.{groups, groupX, groupY, hasGroup, side, cutCells, groupBw, groupBh, cut}
+use Rattle.layout.specs.Cut.{groups, behind, groupPlace, groupX, groupY, hasGroup, side, cutCells, groupBw, groupBh, cut}
 
 -- a corner that reaches into a square of 32 lies in it
 pub within : (q i w x : ℕ) → i % 32 + w ≤ 32 → i ≤ 32 * q + x → 32 * q + x < i + w → x < 32 → 32 * q ≤ i
@@ -85,6 +86,37 @@ module _ (bw bh g : ℕ) where
         (cut-valid bw bh (blockAt kinds bw) (blockAt hfMul bw) (groupX bw g) (groupY bw g) (ok .valid));
   }
 
+-- Counting row by row, where a row has a group at all: x and y are the digits of the index.
+abbrev Digits : ℕ → ℕ × ℕ → ℕ → Type 0
+Digits n at g = (at .0 < n) × (g ≡ at .1 * n + at .0)
+
+behind-digits : (n x y g : ℕ) → Digits n (x, y) g → Digits n (behind n (x, y)) (suc g)
+behind-digits n x y g d = go (ltb (x + 1) n) refl
+  where
+    go : (b : Bool) → ltb (x + 1) n ≡ b → Digits n (cond b (x + 1, y) (0, y + 1)) (suc g)
+    go true e = (ltb-true (x + 1) n e, omega (arith, d .1))
+    go false e = let h = ltb-false (x + 1) n e in (omega (arith, d .0), omega (arith, d .0, d .1, suc-mul y n))
+
+module _ (bw : ℕ) (some : 0 < groups bw) where
+  pub group-digits : (g : ℕ) → Digits (groups bw) (groupPlace bw g) g
+  unfolding groupPlace
+  group-digits zero = (some, omega arith)
+  group-digits (suc g) = behind-digits (groups bw) (groupX bw g) (groupY bw g) g (group-digits g)
+
+  pub group-x-is : (g : ℕ) → groupX bw g ≡ g % groups bw
+  group-x-is g = let d = group-digits g in sym (ap (λ (n : ℕ). n % groups bw) (d .1) ∙ digits-mod (groupY bw g) (d .0))
+
+  pub group-y-is : (g : ℕ) → groupY bw g ≡ g / groups bw
+  group-y-is g = let d = group-digits g in sym (ap (λ (n : ℕ). n / groups bw) (d .1) ∙ digits-div (groupY bw g) (d .0))
+
+-- the p-th group of the q-th row
+module _ (bw q p : ℕ) (h : p < groups bw) where
+  pub counted-x : groupX bw (q * groups bw + p) ≡ p
+  counted-x = group-x-is bw (omega arith) (q * groups bw + p) ∙ digits-mod q h
+
+  pub counted-y : groupY bw (q * groups bw + p) ≡ q
+  counted-y = group-y-is bw (omega arith) (q * groups bw + p) ∙ digits-div q h
+
 -- The first block of a group is in the layout.
 module _ (bw bh g : ℕ) (has : hasGroup bw bh g ≡ true) where
   some : 0 < groups bw
@@ -95,12 +127,10 @@ module _ (bw bh g : ℕ) (has : hasGroup bw bh g ≡ true) where
       go (inr h) l = let z : groups bh * groups bw ≡ groups bh * 0 = ap (λ (n : ℕ). groups bh * n) (let e : groups bw ≡ 0 = omega arith in e) in absurd (omega (arith, mul-zero (groups bh)))
 
   pub starts-x : 32 * groupX bw g < bw
-  unfolding groupX
-  starts-x = let h = mod-lt g some in omega arith
+  starts-x = let h = group-digits bw some g .0 in omega arith
 
   pub starts-y : 32 * groupY bw g < bh
-  unfolding groupY
-  starts-y = let h = div-lt-iff-lt-mul {k = groups bw} some .1 (ltb-true g (groups bh * groups bw) has) in omega arith
+  starts-y = let h = div-lt-iff-lt-mul {k = groups bw} some .1 (ltb-true g (groups bh * groups bw) has) in let e = group-y-is bw some g in omega arith
 
 -- Each block lies in the group of its square, and in the grid of that group.
 pub groupAt : ℕ → ℕ → ℕ → ℕ
@@ -108,12 +138,12 @@ groupAt bw x y = y / 32 * groups bw + x / 32
 
 module _ (bw bh x y : ℕ) (i : x < bw) (j : y < bh) where
   pub group-x : groupX bw (groupAt bw x y) ≡ x / 32
-  unfolding groupX groupAt
-  group-x = digits-mod (y / 32) (omega arith)
+  unfolding groupAt
+  group-x = counted-x bw (y / 32) (x / 32) (omega arith)
 
   pub group-y : groupY bw (groupAt bw x y) ≡ y / 32
-  unfolding groupY groupAt
-  group-y = digits-div (y / 32) (omega arith)
+  unfolding groupAt
+  group-y = counted-y bw (y / 32) (x / 32) (omega arith)
 
   pub group-lt : groupAt bw x y < groups bh * groups bw
   unfolding groupAt

@@ -1,18 +1,13 @@
 -- The groups of a layout together have all its varblocks, each once and where it was.
 use mathlib.Core.Path.{_≡_, ap, sym, _∙_}
-use Prim.Native.Nat.{ℕ, _+_, _*_, _/_, _%_}
-use native.Mathlib.Nat.{div-add-mod, mul-comm}
+use Prim.Native.Nat.{ℕ, _+_, _*_, _/_, _%_, _<_}
 use native.Mathlib.Omega.{arith}
 use borrow.Author.Tests.{lt-ltb}
 use Rattle.layout.specs.Cut.{groups, groupX, groupY}
-use Rattle.layout.specs.laws.CutLaws.{cut-at, groupAt, group-x, group-y, group-lt, block-in}
+use Rattle.layout.specs.laws.CutLaws.{cut-at, group-digits, groupAt, group-x, group-y, group-lt, block-in}
 use Rattle.layout.specs.Lent.{LentLayout, HasVarblock}
 use Rattle.layout.specs.Varblocks.{Varblock}
 use Rattle.layout.specs.Groups.{InOneGroup, cutGroup, moved}
-
-index : (bw f : ℕ) → f ≡ groupY bw f * groups bw + groupX bw f
-unfolding groupX groupY
-index bw f = sym (div-add-mod f (groups bw)) ∙ ap (λ (n : ℕ). n + f % groups bw) (mul-comm (groups bw) (f / groups bw))
 
 module _ (L : LentLayout) where
   -- a varblock of a group is the layout's
@@ -73,4 +68,5 @@ module _ (L : LentLayout) where
           let qy : q .y ≡ v .y % 32 = omega arith in
           let t : q .type ≡ v .type = ap (λ (u : Varblock). u .type) e in
           let m : q .hfMul ≡ v .hfMul = ap (λ (u : Varblock). u .hfMul) e in
-          (index (L .bw) f ∙ k ∙ sym (index (L .bw) g), rw (← qx, ← qy, ← t, ← m))
+          let o : 0 < groups (L .bw) = omega (arith, h .inX) in
+          (group-digits (L .bw) o f .1 ∙ k ∙ sym (group-digits (L .bw) o g .1), rw (← qx, ← qy, ← t, ← m))

@@ -5,7 +5,6 @@ use mathlib.Core.List.{List}
 use Prim.Native.Nat.{ℕ, _+_, _*_, _-_, _≤_, _<_}
 use native.Mathlib.Nat.{add-mul, mul-le-mul-right}
 use native.Mathlib.Omega.{arith}
-use lib.Arith.{digits-div, digits-mod}
 use borrow.Author.Tests.{lt-ltb}
 use lib.ListN.{length, drop, length-drop}
 use lib.Seq.{length-take-le, getD-take, getD-drop}
@@ -15,7 +14,7 @@ use Rattle.layout.specs.laws.Grid.{grid-length, grid-at, grid-is, place-
 use Rattle.layout.specs.Valid.{Cells, Covers, Owned, Valid, Layout}
 use Rattle.layout.specs.laws.Same.{valid-same}
 use Rattle.layout.specs.Cut.{groups, groupX, groupY, hasGroup, side, cutCells, groupBw, groupBh, cut, rowsOf}
-use Rattle.layout.specs.laws.CutLaws.{within}
+use Rattle.layout.specs.laws.CutLaws.{within, counted-x, counted-y}
 
 module _ (bw bh q : ℕ) where
   abbrev below : Cells → Cells
@@ -81,20 +80,16 @@ module _ (bw bh q : ℕ) where
   -- group p of the rows is the p-th group of the row of groups
   module _ (p : ℕ) (h : p < groups bw) where
     first-x : groupX bw p ≡ p
-    unfolding groupX
-    first-x = let e : 0 * groups bw + p ≡ p = omega arith in sym (ap (λ (n : ℕ). groupX bw n) e) ∙ digits-mod 0 h
+    first-x = let e : 0 * groups bw + p ≡ p = omega arith in sym (ap (λ (n : ℕ). groupX bw n) e) ∙ counted-x bw 0 p h
 
     first-y : groupY bw p ≡ 0
-    unfolding groupY
-    first-y = let e : 0 * groups bw + p ≡ p = omega arith in sym (ap (λ (n : ℕ). groupY bw n) e) ∙ digits-div 0 h
+    first-y = let e : 0 * groups bw + p ≡ p = omega arith in sym (ap (λ (n : ℕ). groupY bw n) e) ∙ counted-y bw 0 p h
 
     there-x : groupX bw (q * groups bw + p) ≡ p
-    unfolding groupX
-    there-x = digits-mod q h
+    there-x = counted-x bw q p h
 
     there-y : groupY bw (q * groups bw + p) ≡ q
-    unfolding groupY
-    there-y = digits-div q h
+    there-y = counted-y bw q p h
 
     same-high : side (side bh q) 0 ≡ side bh q
     same-high = omega arith

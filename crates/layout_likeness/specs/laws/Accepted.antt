@@ -8,7 +8,7 @@ use lib.Dec.{T}
 use lib.ListN.{length, getD}
 use Rattle.refusal.specs.Answer.{gives}
 use Rattle.layout.specs.laws.Grid.{cell-at}
-use Rattle.layout_sizes.specs.laws.Bounds.{bw-least, bw-most, bh-least, bh-most}
+use Rattle.layout_sizes.specs.laws.Bounds.{bw-most, bh-most}
 use Rattle.lent_lists.specs.Finite.{finitePattern}
 use Rattle.lent_likeness.specs.Calls.{likeOf}
 use Rattle.lent_likeness.specs.Theorems.{Sound}
@@ -34,9 +34,7 @@ module _ (i : Inputs) (kinds hfMul sigma : List ℕ) (n : ℕ) (e : layoutOf i k
       let s = accepted-read i kinds hfMul sigma n e .sizes in
       record {
         sides = record {
-          bwFrom = bw-least (i .width) (i .height) s (i .modes);
           bwTo = bw-most (i .width) (i .height) s (i .modes);
-          bhFrom = bh-least (i .width) (i .height) s (i .modes);
           bhTo = bh-most (i .width) (i .height) s (i .modes);
         };
         layout = accepted-layout i kinds hfMul sigma n e;

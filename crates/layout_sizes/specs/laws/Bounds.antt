@@ -1,6 +1,7 @@
--- The grid of blocks: within the limits it has 1 to 256 blocks each way.
+-- The grid of blocks: within the limits it has at most 256 blocks each way, and none exactly along a side of no pixels.
 use mathlib.Core.Path.{_≡_}
-use mathlib.Core.Bool.{Bool, true, false, _&&_}
+use mathlib.Core.Bool.{Bool, true, false}
+use mathlib.Core.Logic.{_↔_}
 use mathlib.Core.List.{List}
 use Prim.Native.Nat.{ℕ, _≤_}
 use native.Mathlib.Omega.{arith}
@@ -16,32 +17,29 @@ side : (even : Bool) (pixels : ℕ) → pixels ≤ 2048 → evenIf even (blocks 
 side true pixels h = omega arith
 side false pixels h = omega arith
 
-some : (even : Bool) (pixels : ℕ) → 1 ≤ pixels → 1 ≤ evenIf even (blocks pixels)
-some true pixels h = omega arith
-some false pixels h = omega arith
+-- a side has no blocks exactly if it has no pixels; made even, none stay none (document 02, No. 2)
+none : (even : Bool) (pixels : ℕ) → (evenIf even (blocks pixels) ≡ 0) ↔ (pixels ≡ 0)
+none true pixels = (λ e. omega arith, λ e. omega arith)
+none false pixels = (λ e. omega arith, λ e. omega arith)
+
+pub no-columns : (width : ℕ) (modes : List ℕ) → (bwIn width modes ≡ 0) ↔ (width ≡ 0)
+unfolding bwIn
+no-columns width modes = none (anyEither modes 1 2) width
+
+pub no-rows : (height : ℕ) (modes : List ℕ) → (bhIn height modes ≡ 0) ↔ (height ≡ 0)
+unfolding bhIn
+no-rows height modes = none (anyEither modes 1 3) height
 
 module _ (width height : ℕ) (fits : sizeFits width height ≡ true) where
-  passed : T (sizeFits width height)
-  passed = rw fits tt
-
-  sides : T (leb 1 width) × T (leb width 2048) × T (leb 1 height) × T (leb height 2048)
+  sides : (width ≤ 2048) × (height ≤ 2048)
   sides =
-      let a = and-l (leb 1 width && leb width 2048 && leb 1 height) (leb height 2048) passed in
-      let b = and-l (leb 1 width && leb width 2048) (leb 1 height) a in
-      (and-l (leb 1 width) (leb width 2048) b, and-r (leb 1 width) (leb width 2048) b, and-r (leb 1 width && leb width 2048) (leb 1 height) a, and-r (leb 1 width && leb width 2048 && leb 1 height) (leb height 2048) passed)
+      let t : T (sizeFits width height) = rw fits tt in
+      (leb→le width 2048 (and-l (leb width 2048) (leb height 2048) t), leb→le height 2048 (and-r (leb width 2048) (leb height 2048) t))
 
   pub bw-most : (modes : List ℕ) → bwIn width modes ≤ 256
   unfolding bwIn
-  bw-most modes = side (anyEither modes 1 2) width (leb→le width 2048 (sides .1))
+  bw-most modes = side (anyEither modes 1 2) width (sides .0)
 
   pub bh-most : (modes : List ℕ) → bhIn height modes ≤ 256
   unfolding bhIn
-  bh-most modes = side (anyEither modes 1 3) height (leb→le height 2048 (sides .3))
-
-  pub bw-least : (modes : List ℕ) → 1 ≤ bwIn width modes
-  unfolding bwIn
-  bw-least modes = some (anyEither modes 1 2) width (leb→le 1 width (sides .0))
-
-  pub bh-least : (modes : List ℕ) → 1 ≤ bhIn height modes
-  unfolding bhIn
-  bh-least modes = some (anyEither modes 1 3) height (leb→le 1 height (sides .2))
+  bh-most modes = side (anyEither modes 1 3) height (sides .1)

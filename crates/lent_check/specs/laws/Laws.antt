@@ -10,7 +10,7 @@ use Rattle.refusal.specs.Answer.{gives, refuses}
 use Rattle.lent_check.specs.Calls.{checkOf}
 use Rattle.lent_sides.specs.Limits.{inLimits, lengthsFit}
 
--- sides of 1 to 256, lengths of as many cells, and the cells are a layout
+-- sides of at most 256, lengths of as many cells, and the cells are a layout
 unfoldable pub isLentLayout : ℕ → ℕ → List ℕ → List ℕ → Bool
 isLentLayout bw bh kinds hfMul = inLimits 256 bw bh && (lengthsFit bw bh (length kinds) (length hfMul) && isLayout bw bh kinds hfMul)
 

@@ -2,10 +2,13 @@
 use mathlib.Core.Path.{_≡_, refl, ap, sym, _∙_}
 use mathlib.Core.Bool.{Bool, true, false}
 use mathlib.Core.List.{List}
-use Prim.Native.Nat.{ℕ}
+use Prim.Native.Nat.{ℕ, _≤_}
 use native.Mathlib.Omega.{arith}
 use lib.ListN.{length}
 use Rattle.refusal.specs.declared.Said.{Said}
+use Rattle.refusal.specs.Said.{saidAt}
+use Rattle.layout.specs.Empty.{Empty}
+use Rattle.layout.specs.laws.Empty.{no-groups}
 use Rattle.layout.specs.Valid.{Layout}
 use Rattle.layout.specs.Check.{isLayout}
 use Rattle.layout.specs.Cut.{hasGroup, groupBw, groupBh, cut}
@@ -20,7 +23,7 @@ use Rattle.lent_sides.specs.laws.Limits.{lengths-fit}
 use Rattle.lent_check.specs.GroupSides.{groupSides}
 use Rattle.lent_cut.specs.Calls.{Outcome, outcome, cutCheck, cutBy, cutOf}
 use Rattle.lent_check.specs.laws.Theorems.{checks}
-use Rattle.lent_cut.specs.laws.CutSteps.{Passed, passed, cut-done, cut-refused}
+use Rattle.lent_cut.specs.laws.CutSteps.{Passed, passed, cut-size, cut-index, cut-done, cut-refused}
 
 -- The cut.
 module _ (bw bh : ℕ) (kinds hfMul : List ℕ) (g : ℕ) (outKinds outHfMul : List ℕ) where
@@ -54,7 +57,7 @@ module _ (bw bh : ℕ) (kinds hfMul : List ℕ) (g : ℕ) (outKinds outHfMul : L
           let x = starts-x bw bh g (p .index) in
           let y = starts-y bw bh g (p .index) in
           checks 32 (groupBw bw g) (groupBh bw bh g) (cut bw bh g kinds) (cut bw bh g hfMul)
-          (record { bwFrom = omega arith; bwTo = omega arith; bhFrom = omega arith; bhTo = omega arith }) (cut-layout bw bh g kinds hfMul ok)
+          (record { bwTo = omega arith; bhTo = omega arith }) (cut-layout bw bh g kinds hfMul ok)
 
       go : (a : Answer Unit) → cutCheck bw bh kinds hfMul g (length outKinds) (length outHfMul) ≡ a → checkOf 32 (r .bw) (r .bh) (O .kinds) (O .hfMul) ≡ gives tt
       go (refuses s) c = absurd (let d : refuses s ≡ gives r = ap (λ (o : Outcome). o .answer) (sym (cut-refused bw bh kinds hfMul g outKinds outHfMul s c)) ∙ e in let z : _≡_ {A = ℕ} 0 1 = cc in omega arith)
@@ -63,3 +66,25 @@ module _ (bw bh : ℕ) (kinds hfMul : List ℕ) (g : ℕ) (outKinds outHfMul : L
           let q : gives (groupSides (groupBw bw g) (groupBh bw bh g)) ≡ gives r = ap (λ (o : Outcome). o .answer) (sym d) ∙ e in
           let k : groupSides (groupBw bw g) (groupBh bw bh g) ≡ r = cc in
           rw (← k, d) (written (passed bw bh kinds hfMul g (length outKinds) (length outHfMul) c))
+
+  -- and has a block at least, so that no cut hands back a group without blocks (document 02, No. 2)
+  pub cut-some : (r : GroupSides) → (cutOf bw bh kinds hfMul g outKinds outHfMul) .answer ≡ gives r → (1 ≤ r .bw) × (1 ≤ r .bh)
+  cut-some r e = go (cutCheck bw bh kinds hfMul g (length outKinds) (length outHfMul)) refl
+    where
+      go : (a : Answer Unit) → cutCheck bw bh kinds hfMul g (length outKinds) (length outHfMul) ≡ a → (1 ≤ r .bw) × (1 ≤ r .bh)
+      go (refuses s) c = absurd (let d : refuses s ≡ gives r = ap (λ (o : Outcome). o .answer) (sym (cut-refused bw bh kinds hfMul g outKinds outHfMul s c)) ∙ e in let z : _≡_ {A = ℕ} 0 1 = cc in omega arith)
+      go (gives t) c =
+          let d : gives (groupSides (groupBw bw g) (groupBh bw bh g)) ≡ gives r = ap (λ (o : Outcome). o .answer) (sym (cut-done bw bh kinds hfMul g outKinds outHfMul c)) ∙ e in
+          let k : groupSides (groupBw bw g) (groupBh bw bh g) ≡ r = cc in
+          let i = passed bw bh kinds hfMul g (length outKinds) (length outHfMul) c .index in
+          let x = starts-x bw bh g i in
+          let y = starts-y bw bh g i in
+          rw (← k) (omega arith, omega arith)
+
+  -- every index of a layout without blocks is refused with 2, whatever else is lent, and nothing is written (document 02, No. 2)
+  pub cut-empty : Empty bw bh → cutOf bw bh kinds hfMul g outKinds outHfMul ≡ outcome (refuses (saidAt 2 0 0)) outKinds outHfMul
+  cut-empty e = cut-refused bw bh kinds hfMul g outKinds outHfMul (saidAt 2 0 0) (sym (go (inLimits 256 bw bh) refl))
+    where
+      go : (b : Bool) → inLimits 256 bw bh ≡ b → refuses (saidAt 2 0 0) ≡ cutCheck bw bh kinds hfMul g (length outKinds) (length outHfMul)
+      go false l = cut-size bw bh kinds hfMul g (length outKinds) (length outHfMul) l
+      go true l = cut-index bw bh kinds hfMul g (length outKinds) (length outHfMul) l (no-groups bw bh g e)

@@ -1,21 +1,30 @@
--- Layouts with the same varblocks have the same rectangles, and where they have a block at all, they are lent as the same.
+-- Layouts with the same varblocks have the same rectangles, and are lent alike: both without blocks, or as the same.
 use mathlib.Core.Path.{_≡_, refl, ap, sym, _∙_}
 use mathlib.Core.Logic.{_⊎_, inl, inr}
+use mathlib.Core.List.{List, [], _∷_}
 use Prim.Native.Nat.{ℕ, _+_, _*_, _-_, _≤_, _<_}
 use native.Mathlib.Omega.{arith}
-use lib.ListN.{getD}
+use lib.ListN.{length, getD}
 use lib.Seq.{ext-getD}
 use Rattle.laws.specs.laws.Cases.{le-or-lt}
 use Rattle.layout.specs.Kinds.{wideOf, highOf}
 use Rattle.layout.specs.laws.Grid.{cell-at}
+use Rattle.layout.specs.Empty.{Empty}
+use Rattle.layout.specs.laws.Empty.{empty-or-not, no-blocks, no-cell}
 use Rattle.layout.specs.Valid.{Layout}
 use Rattle.layout.specs.Varblocks.{varblock}
 use Rattle.layout.specs.Lent.{LentLayout, kindAt, hfMulAt, HasVarblock}
 use Rattle.lent_likeness.specs.Like.{SameVarblocks, HasRectangle, SameRectangles}
+use Rattle.lent_likeness.specs.laws.LikeSteps.{SameSides}
 
 -- what 18 lets pass
 abbrev LaidOut : LentLayout → Type 0
 LaidOut L = Layout (L .bw) (L .bh) (L .kinds) (L .hfMul)
+
+pub none-equal : (l m : List ℕ) → length l ≡ 0 → length m ≡ 0 → l ≡ m
+none-equal [] [] e f = refl
+none-equal (a ∷ l) m e f = absurd (omega arith)
+none-equal [] (b ∷ m) e f = absurd (omega arith)
 
 varblocks-turned : (L N : LentLayout) → SameVarblocks L N → SameVarblocks N L
 unfolding SameVarblocks
@@ -42,7 +51,8 @@ pub same-rectangles : (L N : LentLayout) → SameVarblocks L N → SameRectangle
 unfolding SameRectangles
 same-rectangles L N s x y w h m = (one-way L N s x y w h m, one-way N L (varblocks-turned L N s) x y w h m)
 
--- A layout reaches its right and lower edges, so that layouts with the same rectangles have the same sides.
+-- A layout that has a block reaches its right and lower edges, so that layouts with the same rectangles have the same sides. Without a block
+-- it reaches none: 0 x 3 and 5 x 0 have the same rectangles.
 module _ (L N : LentLayout) (here : LaidOut L) (there : LaidOut N) (same : SameRectangles L N) where
   inside : (x y : ℕ) → x < L .bw → y < L .bh → (x < N .bw) × (y < N .bh)
   unfolding SameRectangles
@@ -89,13 +99,37 @@ module _ (L N : LentLayout) (here : LaidOut L) (there : LaidOut N) (same : SameV
     ext-getD 0 (L .hfMul) (N .hfMul) (here .hfMulLength ∙ sym long ∙ sym (there .hfMulLength)) (λ i h. cells-at i (let z = here .hfMulLength in omega arith) .1),
   )
 
--- layouts of at least one block with the same varblocks are lent as the same
-module _ (L N : LentLayout) (here : LaidOut L) (there : LaidOut N) (some : (1 ≤ L .bw) × (1 ≤ L .bh)) (some′ : (1 ≤ N .bw) × (1 ≤ N .bh)) where
-  pub same-lent : SameVarblocks L N → L ≡ N
-  same-lent s =
+-- layouts with the same varblocks are lent alike: both without blocks, or as the same
+module _ (L N : LentLayout) (here : LaidOut L) (there : LaidOut N) (s : SameVarblocks L N) where
+  -- a layout with a block has a varblock
+  pub same-empty : Empty (L .bw) (L .bh) → Empty (N .bw) (N .bh)
+  same-empty e = go (empty-or-not (N .bw) (N .bh))
+    where
+      go : Empty (N .bw) (N .bh) ⊎ ((1 ≤ N .bw) × (1 ≤ N .bh)) → Empty (N .bw) (N .bh)
+      go (inl h) = h
+      go (inr h) =
+          let o = there .valid .owned 0 0 (omega arith) (omega arith) in
+          let v = o .covers in
+          let a = v .fromX in let b = v .fromY in
+          let c = same-corner N L (varblocks-turned L N s) (o .ox) (o .oy) (omega arith) (omega arith) (v .corner) in
+          absurd (no-cell (L .bw) (L .bh) (o .ox) (o .oy) e (c .0) (c .1))
+
+module _ (L N : LentLayout) (here : LaidOut L) (there : LaidOut N) (s : SameVarblocks L N) where
+  empty-lists : Empty (L .bw) (L .bh) → Empty (N .bw) (N .bh) → (L .kinds ≡ N .kinds) × (L .hfMul ≡ N .hfMul)
+  empty-lists e f =
+      let a = no-blocks (L .bw) (L .bh) e in let b = no-blocks (N .bw) (N .bh) f in
+      (none-equal (L .kinds) (N .kinds) (here .kindsLength ∙ a) (there .kindsLength ∙ b), none-equal (L .hfMul) (N .hfMul) (here .hfMulLength ∙ a) (there .hfMulLength ∙ b))
+
+  equal-sides : (1 ≤ L .bw) × (1 ≤ L .bh) → (1 ≤ N .bw) × (1 ≤ N .bh) → (L .bw ≡ N .bw) × (L .bh ≡ N .bh)
+  equal-sides some some′ =
       let a = not-wider L N here there (same-rectangles L N s) (some .0) (some .1) in
       let b = not-wider N L there here (same-rectangles N L (varblocks-turned L N s)) (some′ .0) (some′ .1) in
-      let wide : L .bw ≡ N .bw = omega arith in
-      let high : L .bh ≡ N .bh = omega arith in
-      let l = same-lists L N here there s wide high in
-      rw (wide, high, l .0, l .1)
+      (omega arith, omega arith)
+
+  pub same-lent : SameSides L N × (L .kinds ≡ N .kinds) × (L .hfMul ≡ N .hfMul)
+  same-lent = go (empty-or-not (L .bw) (L .bh)) (empty-or-not (N .bw) (N .bh))
+    where
+      go : Empty (L .bw) (L .bh) ⊎ ((1 ≤ L .bw) × (1 ≤ L .bh)) → Empty (N .bw) (N .bh) ⊎ ((1 ≤ N .bw) × (1 ≤ N .bh)) → SameSides L N × (L .kinds ≡ N .kinds) × (L .hfMul ≡ N .hfMul)
+      go (inl e) q = let f = same-empty L N here there s e in let l = empty-lists e f in (inl (e, f), l .0, l .1)
+      go (inr h) (inl f) = let e = same-empty N L there here (varblocks-turned L N s) f in let l = empty-lists e f in (inl (e, f), l .0, l .1)
+      go (inr h) (inr k) = let d = equal-sides h k in let l = same-lists L N here there s (d .0) (d .1) in (inr d, l .0, l .1)

@@ -12,6 +12,8 @@ use Rattle.laws.specs.laws.Tables.{at-each, each-every, some-fails}
 use Rattle.refusal.specs.Said.{saidAt}
 use Rattle.refusal.specs.Answer.{gives, refuses, unless}
 use Rattle.refusal.specs.laws.Answer.{pass, refusedWith, refused-later}
+use Rattle.layout.specs.Empty.{Empty}
+use Rattle.layout.specs.laws.Empty.{no-blocks, no-varblock}
 use Rattle.layout.specs.laws.Theorems.{layout-iff}
 use Rattle.lent_sides.specs.Limits.{Sided, lengthsFit}
 use Rattle.lent_sides.specs.laws.Limits.{in-limits, lengths-fit, fit-lengths, limits-in}
@@ -19,8 +21,8 @@ use Rattle.lent_lists.specs.Finite.{finitePattern, allFinite}
 use Rattle.lent_likeness.specs.Like.{FilteredLayout, SameVarblocks, Alike, SameRectangles}
 use Rattle.lent_likeness.specs.Calls.{sided, strengthsFinite, allLengthsFit, holdsLayout, alike, likeOf}
 use Rattle.lent_likeness.specs.Theorems.{Sound, NotFinite}
-use Rattle.lent_likeness.specs.laws.Like.{same-lent, same-rectangles}
-use Rattle.lent_likeness.specs.laws.LikeSteps.{alike-equal}
+use Rattle.lent_likeness.specs.laws.Like.{none-equal, same-empty, same-lent, same-rectangles}
+use Rattle.lent_likeness.specs.laws.LikeSteps.{SameSides, LentAlike, alike-lent, lent-itself, lent-turned, lent-joined}
 
 -- a lent layout that no check refuses passes them all, and the other way round
 module _ (L : FilteredLayout) where
@@ -95,13 +97,16 @@ module _ (L N : FilteredLayout) where
   -- the test decides likeness
   same-alike : Sound L → Sound N → Alike L N → alike L N ≡ true
   same-alike s t a =
-      let p = s .sides in let q = t .sides in
-      let e = same-lent (L .layout) (N .layout) (s .layout) (t .layout) (p .bwFrom, p .bhFrom) (q .bwFrom, q .bhFrom) (a .varblocks) in
-      alike-equal L N .1 (rw (e, a .sigma))
+      let e = same-lent (L .layout) (N .layout) (s .layout) (t .layout) (a .varblocks) in
+      alike-lent L N .1 (record { sides = e .0; kinds = e .1; hfMul = e .2; sigma = a .sigma })
 
   alike-same : alike L N ≡ true → Alike L N
   unfolding SameVarblocks
-  alike-same e = rw (alike-equal L N .0 e) (record { varblocks = λ v. ((λ h. h), (λ h. h)); sigma = refl })
+  alike-same e = let a = alike-lent L N .0 e in record { varblocks = go a (a .sides); sigma = a .sigma }
+    where
+      go : LentAlike L N → SameSides (L .layout) (N .layout) → SameVarblocks (L .layout) (N .layout)
+      go a (inl p) v = ((λ h. absurd (no-varblock (L .layout) (p .0) v h)), (λ h. absurd (no-varblock (N .layout) (p .1) v h)))
+      go a (inr p) v = rw (p .0, p .1, a .kinds, a .hfMul) ((λ h. h), (λ h. h))
 
   pub like-yes : (likeOf L N ≡ gives true) ↔ (Sound L × Sound N × Alike L N)
   like-yes = (λ e. let t = tests true e in (t .0, t .1, alike-same (t .2)), λ t. says true (t .0) (t .1) (same-alike (t .0) (t .1) (t .2)))
@@ -130,8 +135,8 @@ module _ (L N : FilteredLayout) where
       go : (p q : Bool) → alike L N ≡ p → alike N L ≡ q → p ≡ q
       go true true e f = refl
       go false false e f = refl
-      go true false e f = absurd (false≢true (sym f ∙ alike-equal N L .1 (sym (alike-equal L N .0 e))))
-      go false true e f = absurd (false≢true (sym e ∙ alike-equal L N .1 (sym (alike-equal N L .0 f))))
+      go true false e f = absurd (false≢true (sym f ∙ alike-lent N L .1 (lent-turned L N (alike-lent L N .0 e))))
+      go false true e f = absurd (false≢true (sym e ∙ alike-lent L N .1 (lent-turned N L (alike-lent N L .0 f))))
 
   -- turned round it answers the same, refusals too
   pub like-turned : likeOf L N ≡ likeOf N L
@@ -179,10 +184,27 @@ module _ (L N : FilteredLayout) where
       back t = rw (limits-in 256 (L .layout .bw) (L .layout .bh) (t .0), limits-in 256 (N .layout .bw) (N .layout .bh) (t .1), both-not (t .2))
 
 pub like-itself : (L : FilteredLayout) → Sound L → likeOf L L ≡ gives true
-like-itself L s = says L L true s s (alike-equal L L .1 refl)
+like-itself L s = says L L true s s (alike-lent L L .1 (lent-itself L))
 
 pub like-joined : (L N O : FilteredLayout) → likeOf L N ≡ gives true → likeOf N O ≡ gives true → likeOf L O ≡ gives true
 like-joined L N O e f =
     let t = tests L N true e in
     let u = tests N O true f in
-    says L O true (t .0) (u .1) (alike-equal L O .1 (alike-equal L N .0 (t .2) ∙ alike-equal N O .0 (u .2)))
+    says L O true (t .0) (u .1) (alike-lent L O .1 (lent-joined L N O (alike-lent L N .0 (t .2)) (alike-lent N O .0 (u .2))))
+
+-- Layouts without blocks: alike whatever their sides, and like no other (document 02, No. 2).
+module _ (L N : FilteredLayout) (s : Sound L) (t : Sound N) (e : Empty (L .layout .bw) (L .layout .bh)) where
+  pub empty-alike : Empty (N .layout .bw) (N .layout .bh) → likeOf L N ≡ gives true
+  unfolding SameVarblocks
+  empty-alike f =
+      like-yes L N .1 (
+        s,
+        t,
+        record {
+          varblocks = λ v. ((λ h. absurd (no-varblock (L .layout) e v h)), (λ h. absurd (no-varblock (N .layout) f v h)));
+          sigma = none-equal (L .sigma) (N .sigma) (s .sigmaLength ∙ no-blocks (L .layout .bw) (L .layout .bh) e) (t .sigmaLength ∙ no-blocks (N .layout .bw) (N .layout .bh) f);
+        },
+      )
+
+  pub empty-unlike : (Empty (N .layout .bw) (N .layout .bh) → ⊥) → likeOf L N ≡ gives false
+  empty-unlike n = like-no L N .1 (s, t, λ a. n (same-empty (L .layout) (N .layout) (s .layout) (t .layout) (a .varblocks) e))

@@ -12,14 +12,12 @@ use Rattle.lent_sides.specs.Limits.{Sided, inLimits, lengthsFit}
 pub in-limits : (limit bw bh : ℕ) → inLimits limit bw bh ≡ true → Sided limit bw bh
 unfolding inLimits
 in-limits limit bw bh e =
-    let p = and-true (leb 1 bw && leb bw limit) (leb 1 bh && leb bh limit) e in
-    let q = and-true (leb 1 bw) (leb bw limit) (p .0) in
-    let r = and-true (leb 1 bh) (leb bh limit) (p .1) in
-    record { bwFrom = leb-true 1 bw (q .0); bwTo = leb-true bw limit (q .1); bhFrom = leb-true 1 bh (r .0); bhTo = leb-true bh limit (r .1) }
+    let p = and-true (leb bw limit) (leb bh limit) e in
+    record { bwTo = leb-true bw limit (p .0); bhTo = leb-true bh limit (p .1) }
 
 pub limits-in : (limit bw bh : ℕ) → Sided limit bw bh → inLimits limit bw bh ≡ true
 unfolding inLimits
-limits-in limit bw bh s = rw (le-leb 1 bw (s .bwFrom), le-leb bw limit (s .bwTo), le-leb 1 bh (s .bhFrom), le-leb bh limit (s .bhTo))
+limits-in limit bw bh s = rw (le-leb bw limit (s .bwTo), le-leb bh limit (s .bhTo))
 
 pub fit-lengths : (bw bh kinds hfMul : ℕ) → kinds ≡ bh * bw → hfMul ≡ bh * bw → lengthsFit bw bh kinds hfMul ≡ true
 unfolding lengthsFit

@@ -1,13 +1,21 @@
--- Laws: M4 as the lister prints it: the bytes of document 01's job, and the five lines.
+-- Laws: what the lister prints, M4 and M13, by computation.
 use mathlib.Core.Path.{_≡_, refl}
 use Rattle.layout.specs.Varblocks.{area, cornersRow, cornersFrom}
 use Rattle.layout_accepted.specs.laws.Marked.{layout-computes}
 use Rattle.text.specs.Text.{digitsOf}
 use Rattle.lister_job.specs.Job.{countFrom}
-use Rattle.lister.specs.Texts.{linesOf}
+use Rattle.lister.specs.Texts.{BAD-INPUT, linesOf}
 use Rattle.lister.specs.Listing.{textOf}
-use Rattle.marked.specs.Lines.{job, lines}
+use Rattle.marked.specs.Lines.{job, lines, strip, stripWithColumn, tooHigh, stripLines}
 
 pub five-lines : textOf job ≡ lines
 unfolding textOf countFrom linesOf digitsOf area cornersRow cornersFrom layout-computes
 five-lines = refl
+
+pub strip-lines : (textOf strip ≡ stripLines) × (textOf stripWithColumn ≡ stripLines)
+unfolding textOf countFrom linesOf digitsOf area cornersRow cornersFrom layout-computes
+strip-lines = (refl, refl)
+
+pub too-high : textOf tooHigh ≡ BAD-INPUT
+unfolding textOf countFrom
+too-high = refl

@@ -22,7 +22,7 @@ use Rattle.coeff_walk.specs.Sent.{Words}
 use Rattle.coeff_group.specs.Sequence.{theSequence}
 
 module _ (L : Lent) (given : Given L) where
-  -- a group that an accepted cut call wrote is one that 18 lets pass, 1 to 32 blocks each way
+  -- a group that an accepted cut call wrote is one that 18 lets pass, at most 32 blocks each way
   passes : checkOf 32 (L .passGroup .bw) (L .passGroup .bh) (L .passGroup .kinds) (L .passGroup .hfMul) ≡ gives tt
   passes =
       let l = layoutOf (given .inputs) (given .kinds) (given .hfMul) (given .sigma) in

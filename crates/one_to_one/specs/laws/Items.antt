@@ -7,7 +7,7 @@ use Prim.Native.Nat.{ℕ, zero, suc, _+_, _*_, _/_, _%_, _-_, _^_, _<_, _≤_}
 use native.Mathlib.Omega.{arith}
 use native.Mathlib.Nat.{mod-lt, div-add-mod', div-lt-iff-lt-mul}
 use native.Mathlib.Decide.{ℕ-discrete, decLt}
-use lib.Arith.{digits-lt}
+use lib.Arith.{digits-lt, digits-div, digits-mod}
 use lib.ListN.{length, getD, drop, List·getD-eq-default}
 use Rattle.dct_select.specs.Transforms.{wide, high, orderOf, turns, across, down}
 use Rattle.order_sizes.specs.BlockSizes.{widthOf, heightOf}
@@ -246,7 +246,8 @@ module _ (P : PassGroup) (lay : LaidOut P) (ord : Ordered P) where
               (Memᴰ·cast (sym (ap₂ (λ (a b : ℕ). a * (8 * P .bw) + b) ey ex ∙ div-add-mod' p (8 * P .bw))) (place-in t (8 * P .bw) (8 * v .x) (8 * v .y) (rest v i c hc) (s .0) (s .1)))
 
           cases : Dec (dx < wide (v .type)) → Dec (dy < high (v .type)) → Low P p ⊎ ReadAt P c p
-          cases (yes a) (yes b) = inl (record { of = v; there = i; fromX = omega arith; toX = omega arith; fromY = omega arith; toY = omega arith })
+          cases (yes a) (yes b) =
+              inl (record { x = p % (8 * P .bw); y = p / (8 * P .bw); inX = omega (arith, in-block p h .0); place = sym (div-add-mod' p (8 * P .bw)); of = v; there = i; fromX = omega arith; toX = omega arith; fromY = omega arith; toY = omega arith })
           cases (yes a) (no b) = inr (place (λ x y. b y))
           cases (no a) b = inr (place (λ x y. a x))
 
@@ -257,6 +258,8 @@ module _ (P : PassGroup) (lay : LaidOut P) (ord : Ordered P) where
       let v = s .0 in let i = s .1 in let u = l .of in
       let r = place-at v i c (s .2) p (s .3) in
       let a = l .fromX in let b = l .toX in let d = l .fromY in let e = l .toY in
+      let lx : p % (8 * P .bw) ≡ l .x = ap (λ (n : ℕ). n % (8 * P .bw)) (l .place) ∙ digits-mod (l .y) (l .inX) in
+      let ly : p / (8 * P .bw) ≡ l .y = ap (λ (n : ℕ). n / (8 * P .bw)) (l .place) ∙ digits-div (l .y) (l .inX) in
       let o = one-corner u v p (places-inside v i c (s .2) p (s .3))
       (covers lay u (l .there) (p % (8 * P .bw) / 8) (p / (8 * P .bw) / 8) (omega arith) (omega arith) (omega arith) (omega arith)) (places-covered v i c (s .2) p (s .3)) in
       let t : u .type ≡ v .type = type-is lay u (l .there) ∙ ap₂ (λ (x y : ℕ). K x y - 2) (o .0) (o .1) ∙ sym (type-is lay v i) in

@@ -2,6 +2,7 @@
 -- stores that no order call wrote included, and whatever the symbols. So the definitions' numbers for places outside are never met.
 use mathlib.Core.Path.{_≡_, refl}
 use mathlib.Core.Bool.{true}
+use mathlib.Core.Logic.{_⊎_, inl, inr}
 use mathlib.Core.List.{List, [], _∷_, _++_, List·Memᴰ·head as here, List·Memᴰ·tail as there}
 use Prim.Native.Nat.{ℕ, zero, suc, _+_, _*_, _<_, _≤_}
 use native.Mathlib.Omega.{arith}
@@ -15,6 +16,8 @@ use Rattle.order_natural.specs.Places.{Place, paired}
 use Rattle.dct_select.specs.laws.Sides.{wide-some, inside}
 use Rattle.layout.specs.Grid.{blockAt}
 use Rattle.layout.specs.laws.Grid.{place-lt}
+use Rattle.layout.specs.Empty.{Empty}
+use Rattle.layout.specs.laws.Empty.{empty-or-not, no-varblocks}
 use Rattle.layout.specs.Varblocks.{Varblock}
 use Rattle.layout.specs.Listed.{Among, first, later}
 use Rattle.layout.specs.laws.Rectangles.{has, known, right, bottom}
@@ -169,11 +172,11 @@ module _ (L : Lent) (passed : Passed L) (preset : ℕ) (below : preset < L .pres
   rows-small (suc (suc zero)) h = zeros-small 32
   rows-small (suc (suc (suc c))) h = absurd (omega arith)
 
-  start : Sane 32 (64 * blocks P) (symbolsIn (itemsOf P (varblocks P))) 0 (L .log) (L .grids) zeroRows
-  start =
+  -- of a group that has a block: without blocks nothing is read, whatever grids are lent
+  start : (1 ≤ P .bw) × (1 ≤ P .bh) → Sane 32 (64 * blocks P) (symbolsIn (itemsOf P (varblocks P))) 0 (L .log) (L .grids) zeroRows
+  start some =
       let k = lengths-fit L (passed .lengths) in
-      let s = sides-fit P (passed .sides) in
-      let pos : 1 * 1 ≤ P .bh * P .bw = mul-le-mul (s .someHigh) (s .someWide) in
+      let pos : 1 * 1 ≤ P .bh * P .bw = mul-le-mul (some .1) (some .0) in
       let m = most-symbols P (k .store) lay in
       let l = k .room in
       record {
@@ -187,11 +190,13 @@ module _ (L : Lent) (passed : Passed L) (preset : ℕ) (below : preset < L .pres
 
   -- whatever passed the checks before work, with a valid preset, whatever the symbols: nothing is read or written outside a list
   pub never-outside : ReadingInside L preset
-  never-outside = (
-    preset-inside,
-    let k = lengths-fit L (passed .lengths) in
-        by-group (L .shift) (clustersOf P) (presetMap L preset) P (varblocks P) (going (L .symbols) 0 (L .log) (L .grids) zeroRows)
-        varblock-inside
-        (read-inside (L .shift) (clustersOf P) (presetMap L preset) preset-whole 32 (64 * blocks P) (itemsOf P (varblocks P)) (going (L .symbols) 0 (L .log) (L .grids) zeroRows)
-        (all-sound P lay (sides-fit P (passed .sides) .wide) (passed .contexts) (k .store) (passed .places)) start),
-  )
+  never-outside = (preset-inside, go (empty-or-not (P .bw) (P .bh)))
+    where
+      go : Empty (P .bw) (P .bh) ⊎ ((1 ≤ P .bw) × (1 ≤ P .bh)) → GroupInside (L .shift) (clustersOf P) (presetMap L preset) P (varblocks P) (going (L .symbols) 0 (L .log) (L .grids) zeroRows)
+      go (inl e) = rw (no-varblocks (P .bw) (P .bh) (P .kinds) (P .hfMul) e) tt
+      go (inr some) =
+          let k = lengths-fit L (passed .lengths) in
+          by-group (L .shift) (clustersOf P) (presetMap L preset) P (varblocks P) (going (L .symbols) 0 (L .log) (L .grids) zeroRows)
+          varblock-inside
+          (read-inside (L .shift) (clustersOf P) (presetMap L preset) preset-whole 32 (64 * blocks P) (itemsOf P (varblocks P)) (going (L .symbols) 0 (L .log) (L .grids) zeroRows)
+          (all-sound P lay (sides-fit P (passed .sides) .wide) (passed .contexts) (k .store) (passed .places)) (start some))

@@ -6,6 +6,7 @@ use mathlib.Core.List.{List, [], _∷_}
 use Prim.Native.Nat.{ℕ, zero, suc, _+_, _*_, _/_, _%_, _^_, _<_, _≤_}
 use native.Mathlib.Omega.{arith}
 use native.Mathlib.Decide.{decLt}
+use lib.Arith.{digits-div, digits-mod}
 use lib.ListN.{length, getD, List·getD-eq-default}
 use borrow.Author.Tests.{lt-ltb, le-leb, ltb-true, leb-true}
 use Rattle.laws.specs.laws.Cases.{and-true}
@@ -16,12 +17,17 @@ use Rattle.layout.specs.Listed.{Among, first, later}
 use Rattle.coeff_group.specs.Group.{PerChannel}
 use Rattle.coeff_group.specs.PassGroup.{PassGroup, varblocks}
 use Rattle.coeff_call.specs.Call.{Lent}
-use Rattle.one_to_one.specs.Filling.{gridLength, Low, LowKept, lowIn, lowInSome, isLow, Sized, Fixed, Filling, asked, gridWanted, wanted, Fills, Fails}
+use Rattle.one_to_one.specs.Filling.{gridLength, cellAt, Low, LowKept, lowIn, lowInSome, isLow, Sized, Fixed, Filling, asked, gridWanted, wanted, Fills, Fails}
 use Rattle.coeff_group.specs.laws.Cells.{same-shape}
 use Rattle.one_to_one.specs.laws.OverCall.{shapes, start-sized}
 use Rattle.one_to_one.specs.laws.Demand3.{one-sequence, every-other}
 use Rattle.coeff_group.specs.Sequence.{inCell, theSequence}
 use Rattle.coeff_walk.specs.Sent.{Words}
+
+-- two cells of a grid that are one
+same-cell : (w x y x′ y′ : ℕ) → x < w → x′ < w → y * w + x ≡ y′ * w + x′ → (x ≡ x′) × (y ≡ y′)
+same-cell w x y x′ y′ h h′ e =
+    (sym (digits-mod y h) ∙ ap (λ (n : ℕ). n % w) e ∙ digits-mod y′ h′, sym (digits-div y h) ∙ ap (λ (n : ℕ). n / w) e ∙ digits-div y′ h′)
 
 -- The test is what it says.
 or-true : (a b : Bool) → a || b ≡ true → (a ≡ true) ⊎ (b ≡ true)
@@ -74,17 +80,20 @@ module _ (x y : ℕ) where
   some-in (u ∷ vs) v (first e) h = or-either (lowIn x y u) (lowInSome x y vs) (inl (one-in u (rw (← e) at h)))
   some-in (u ∷ vs) v (later i) h = or-either (lowIn x y u) (lowInSome x y vs) (inr (some-in vs v i h))
 
-module _ (P : PassGroup) (p : ℕ) where
-  pub is-low : isLow P p ≡ true → Low P p
+-- of the cell p at (x, y)
+module _ (P : PassGroup) (p x y : ℕ) (inX : x < 8 * P .bw) (place : p ≡ cellAt P x y) where
+  pub is-low : isLow P x y ≡ true → Low P p
   unfolding isLow
   is-low e =
-      let r = in-some (p % (8 * P .bw)) (p / (8 * P .bw)) (varblocks P) e in
+      let r = in-some x y (varblocks P) e in
       let i = r .2 in
-      record { of = r .0; there = r .1; fromX = i .fromX; toX = i .toX; fromY = i .fromY; toY = i .toY }
+      record { x = x; y = y; inX = inX; place = place; of = r .0; there = r .1; fromX = i .fromX; toX = i .toX; fromY = i .fromY; toY = i .toY }
 
-  pub low-is : Low P p → isLow P p ≡ true
+  pub low-is : Low P p → isLow P x y ≡ true
   unfolding isLow
-  low-is l = some-in (p % (8 * P .bw)) (p / (8 * P .bw)) (varblocks P) (l .of) (l .there) (record { fromX = l .fromX; toX = l .toX; fromY = l .fromY; toY = l .toY })
+  low-is l =
+      let s = same-cell (8 * P .bw) (l .x) (l .y) x y (l .inX) inX (sym (l .place) ∙ place) in
+      some-in x y (varblocks P) (l .of) (l .there) (rw (← (s .0), ← (s .1)) (record { fromX = l .fromX; toX = l .toX; fromY = l .fromY; toY = l .toY }))
 
 -- The grids wanted.
 module _ (L : Lent) (f : ℕ → ℕ → ℕ) where
@@ -92,13 +101,7 @@ module _ (L : Lent) (f : ℕ → ℕ → ℕ) where
   P = L .passGroup
 
   grid-long : (c : ℕ) → length (gridWanted L f c) ≡ gridLength P
-  grid-long c = grid-length (λ (x y : ℕ). asked L f c (y * (8 * P .bw) + x)) (8 * P .bw) (8 * P .bh)
-
-  grid-cell : (c p : ℕ) → p < gridLength P → getD (gridWanted L f c) p 0 ≡ asked L f c p
-  grid-cell c p h = go (cell-at (8 * P .bw) (8 * P .bh) p h)
-    where
-      go : Cell (8 * P .bw) (8 * P .bh) p → getD (gridWanted L f c) p 0 ≡ asked L f c p
-      go k = rw (k .place) (grid-at (λ (x y : ℕ). asked L f c (y * (8 * P .bw) + x)) (8 * P .bw) (8 * P .bh) (k .x) (k .y) (k .inX) (k .inY))
+  grid-long c = grid-length (asked L f c) (8 * P .bw) (8 * P .bh)
 
   channel-is : (c : ℕ) → c < 3 → getD (wanted L f) c [] ≡ gridWanted L f c
   unfolding wanted
@@ -111,8 +114,15 @@ module _ (L : Lent) (f : ℕ → ℕ → ℕ) where
   unfolding wanted
   three = refl
 
-  cell-is : (c p : ℕ) → c < 3 → p < gridLength P → inCell (wanted L f) c p ≡ asked L f c p
-  cell-is c p hc h = rw (channel-is c hc) (grid-cell c p h)
+  -- x and y of a cell
+  abbrev CellOf : ℕ → Type 0
+  CellOf p = Cell (8 * P .bw) (8 * P .bh) p
+
+  cell-of : (p : ℕ) → p < gridLength P → CellOf p
+  cell-of p h = cell-at (8 * P .bw) (8 * P .bh) p h
+
+  cell-is : (c p : ℕ) → c < 3 → (k : CellOf p) → inCell (wanted L f) c p ≡ asked L f c (k .x) (k .y)
+  cell-is c p hc k = rw (channel-is c hc, k .place) (grid-at (asked L f c) (8 * P .bw) (8 * P .bh) (k .x) (k .y) (k .inX) (k .inY))
 
 module _ (L : Lent) (fixed : Fixed L) (f : ℕ → ℕ → ℕ) (words : (c p : ℕ) → f c p < 2 ^ 32) where
   sized : Sized (L .passGroup) (wanted L f)
@@ -126,28 +136,33 @@ module _ (L : Lent) (fixed : Fixed L) (f : ℕ → ℕ → ℕ) (words : (c p : 
 
   -- each cell that is not low-frequency holds what is asked for
   pub wanted-there : (c p : ℕ) → c < 3 → p < gridLength (L .passGroup) → (Low (L .passGroup) p → ⊥) → inCell (wanted L f) c p ≡ f c p
-  wanted-there c p hc h n = cell-is L f c p hc h ∙ go (isLow (L .passGroup) p) refl
+  wanted-there c p hc h n = cell-is L f c p hc k ∙ go (isLow (L .passGroup) (k .x) (k .y)) refl
     where
-      go : (b : Bool) → isLow (L .passGroup) p ≡ b → asked L f c p ≡ f c p
-      go true e = absurd (n (is-low (L .passGroup) p e))
-      go false e = rw e
+      k : CellOf L f p
+      k = cell-of L f p h
+
+      go : (b : Bool) → isLow (L .passGroup) (k .x) (k .y) ≡ b → asked L f c (k .x) (k .y) ≡ f c p
+      go true e = absurd (n (is-low (L .passGroup) p (k .x) (k .y) (k .inX) (k .place) e))
+      go false e = rw e (ap (f c) (sym (k .place)))
 
   low : LowKept (L .passGroup) (L .grids) (wanted L f)
   low c p hc l = go (decLt p (gridLength (L .passGroup)))
     where
       go : Dec (p < gridLength (L .passGroup)) → inCell (wanted L f) c p ≡ inCell (L .grids) c p
-      go (yes h) = cell-is L f c p hc h ∙ rw (low-is (L .passGroup) p l)
+      go (yes h) =
+          let k = cell-of L f p h in
+          cell-is L f c p hc k ∙ rw (low-is (L .passGroup) p (k .x) (k .y) (k .inX) (k .place) l) (ap (inCell (L .grids) c) (sym (k .place)))
       go (no n) = outside (wanted L f) sized c p hc n ∙ sym (outside (L .grids) (start-sized L fixed) c p hc n)
 
   small : (c p : ℕ) → inCell (wanted L f) c p < 2 ^ 32
   small c p = go (decLt c 3) (decLt p (gridLength (L .passGroup)))
     where
-      by : (b : Bool) → isLow (L .passGroup) p ≡ b → asked L f c p < 2 ^ 32
-      by true e = rw e (fixed .rest .words c p)
-      by false e = rw e (words c p)
+      by : (x y : ℕ) (b : Bool) → isLow (L .passGroup) x y ≡ b → asked L f c x y < 2 ^ 32
+      by x y true e = rw e (fixed .rest .words c (cellAt (L .passGroup) x y))
+      by x y false e = rw e (words c (cellAt (L .passGroup) x y))
 
       go : Dec (c < 3) → Dec (p < gridLength (L .passGroup)) → inCell (wanted L f) c p < 2 ^ 32
-      go (yes a) (yes b) = rw (cell-is L f c p a b) (by (isLow (L .passGroup) p) refl)
+      go (yes a) (yes b) = let k = cell-of L f p b in rw (cell-is L f c p a k) (by (k .x) (k .y) (isLow (L .passGroup) (k .x) (k .y)) refl)
       go (yes a) (no n) = rw (outside (wanted L f) sized c p a n) (omega arith)
       go (no n) b = rw (no-channel (wanted L f) (three L f) c p n) (omega arith)
 
@@ -160,14 +175,14 @@ module _ (L : Lent) (fixed : Fixed L) (f : ℕ → ℕ → ℕ) (words : (c p : 
   wanted-only W filling g =
       same-shape W (wanted L f) (shapes (L .passGroup) (wanted L f) W sized (filling .sized)) (λ (c : ℕ). λ (p : ℕ). at-cell c p (decLt c 3) (decLt p (gridLength (L .passGroup))))
     where
-      by : (c p : ℕ) → c < 3 → p < gridLength (L .passGroup) → (b : Bool) → isLow (L .passGroup) p ≡ b → inCell W c p ≡ inCell (wanted L f) c p
-      by c p a h true e = let l = is-low (L .passGroup) p e in filling .low c p a l ∙ sym (low c p a l)
-      by c p a h false e =
-          let n : Low (L .passGroup) p → ⊥ = λ l. let x : _≡_ {A = Bool} false true = sym e ∙ low-is (L .passGroup) p l in let z : _≡_ {A = ℕ} 0 1 = cc in omega arith in
+      by : (c p : ℕ) → c < 3 → p < gridLength (L .passGroup) → (k : CellOf L f p) (b : Bool) → isLow (L .passGroup) (k .x) (k .y) ≡ b → inCell W c p ≡ inCell (wanted L f) c p
+      by c p a h k true e = let l = is-low (L .passGroup) p (k .x) (k .y) (k .inX) (k .place) e in filling .low c p a l ∙ sym (low c p a l)
+      by c p a h k false e =
+          let n : Low (L .passGroup) p → ⊥ = λ l. let x : _≡_ {A = Bool} false true = sym e ∙ low-is (L .passGroup) p (k .x) (k .y) (k .inX) (k .place) l in let z : _≡_ {A = ℕ} 0 1 = cc in omega arith in
           g c p a h n ∙ sym (wanted-there c p a h n)
 
       at-cell : (c p : ℕ) → Dec (c < 3) → Dec (p < gridLength (L .passGroup)) → inCell W c p ≡ inCell (wanted L f) c p
-      at-cell c p (yes a) (yes h) = by c p a h (isLow (L .passGroup) p) refl
+      at-cell c p (yes a) (yes h) = let k = cell-of L f p h in by c p a h k (isLow (L .passGroup) (k .x) (k .y)) refl
       at-cell c p (yes a) (no n) = outside W (filling .sized) c p a n ∙ sym (outside (wanted L f) sized c p a n)
       at-cell c p (no n) h = no-channel W (filling .sized .three) c p n ∙ sym (no-channel (wanted L f) (three L f) c p n)
 

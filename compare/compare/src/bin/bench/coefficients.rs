@@ -39,6 +39,8 @@ pub fn benches() -> Vec<Bench> {
         bench("coefficients, 1 x 1 Dct8", one, 4),
         checked("coefficients, 32 x 32 Dct8, sparse", dct8, 16),
         checked("coefficients, 1 x 1 Dct8", one, 4),
+        bench("coefficients, 0 x 32, no blocks", strip, 4),
+        checked("coefficients, 0 x 32, no blocks", strip, 4),
     ]
 }
 
@@ -73,7 +75,19 @@ fn sides(
             assert!(first(&orders.store), "a place outside its order");
             run.run(&mut rust_buffers)
         })),
-        units: (symbols.len(), "symbol"),
+        units: match symbols.len() {
+            0 => (1, "call"),
+            symbols => (symbols, "symbol"),
+        },
+    }
+}
+
+/// A group without blocks.
+fn strip() -> Layout {
+    Layout {
+        bw: 0,
+        bh: 32,
+        ..Layout::default()
     }
 }
 

@@ -12,6 +12,7 @@ pub fn benches() -> Vec<Bench> {
         bench("layout, 2,048 x 2,048, Dct8, filter on", || dct8(2048)),
         bench("layout, 2,048 x 2,048, mixed, filter on", || mixed(2048)),
         bench("layout, 256 x 256, mixed, filter on", || mixed(256)),
+        bench("layout, 0 x 2,048, no blocks", strip),
     ]
 }
 
@@ -38,8 +39,16 @@ fn sides(call: LayoutCall) -> Sides {
             || LayoutRun::new(call, call.types.len()),
             |run| run.run(),
         )),
-        units: (call.sharpness.len(), "block"),
+        units: match call.sharpness.len() {
+            0 => (1, "call"),
+            blocks => (blocks, "block"),
+        },
     }
+}
+
+/// An LF group without blocks, and the one column that its column count tells.
+fn strip() -> LayoutCall {
+    filtered(make::layout(0, 2048, &[(0, 0)]))
 }
 
 fn dct8(side: u32) -> LayoutCall {

@@ -143,6 +143,30 @@ mod tests {
         }
     }
 
+    /// Every width and height of 0 to 3 blocks, and some of more pass groups. Those of no blocks have
+    /// no pass groups: layout, contexts and orders are read, and no symbol.
+    #[test]
+    fn both_sides_agree_on_small_lf_groups_and_strips() {
+        let small = (0..4).flat_map(|x| (0..4).map(move |y| (8 * x, 8 * y)));
+        let sides = small.chain([(0, 300), (600, 0), (2048, 0), (0, 2048), (264, 8), (3, 257)]);
+        for (width, height) in sides {
+            let call = call(width, height);
+            let is_strip = width == 0 || height == 0;
+            assert_eq!(call.groups().is_empty(), is_strip);
+            let mut rust = LfGroupOutput::zeros(&call);
+            let read = LfGroupRun::new(&call).run(&mut rust);
+            assert!(read.is_ok_and(|read| (read == 0) == is_strip));
+            for cut_of in [CutOf::Layout, CutOf::Rows] {
+                let mut ours = LfGroupOutput::zeros(&call);
+                let answer = LfGroupBuffers::new(&call, cut_of).run(&call, &mut ours);
+                assert!(
+                    (answer, &ours) == (read, &rust),
+                    "{width} x {height}, {cut_of:?}"
+                );
+            }
+        }
+    }
+
     #[test]
     fn a_fifth_of_the_symbols_is_not_0() {
         let call = call(1024, 1024);

@@ -2,7 +2,7 @@
 
 use std::collections::BTreeMap;
 
-use calls::{CutCall, Layout, LayoutCall, OrdersCall, Outcome, STORE_LENGTH};
+use calls::{AlikeCall, CutCall, Layout, LayoutCall, OrdersCall, Outcome, STORE_LENGTH};
 use compare::cases::{
     AlikeCase, Case, CensusCase, CoefficientsCase, CoefficientsInput, ColumnCountCase,
     ContextsCase, CutCase, LayoutCase, OrdersCase, TransformCase, MAP_MOST,
@@ -42,9 +42,7 @@ pub fn file() -> Vec<u8> {
     let groups = Quota::new(10_000, &[1, 2, 18]).of(20, 10, 250);
     file.sample(4, &CutCase, encode::cut, groups, plain_cut);
     let pairs = Quota::new(10_000, &[1, 2, 11, 18]).of(60, 10, 120);
-    file.sample(5, &AlikeCase, encode::alike, pairs, |call| {
-        sides_recorded(&call.left.layout) && sides_recorded(&call.right.layout)
-    });
+    file.sample(5, &AlikeCase, encode::alike, pairs, plain_pair);
     let contexts = Quota::new(10_000, &[1, 3, 12]).of(40, 10, 250);
     file.sample(6, &ContextsCase, encode::contexts, contexts, |_| true);
     let lists = Quota::new(1000, &[1, 3, 13, 15]).of(14, 6, 700);
@@ -54,6 +52,7 @@ pub fn file() -> Vec<u8> {
     file.sample(8, &case, encode::coefficients, passes, plain_coefficients);
     let census = CensusCase::default();
     file.sample(9, &census, encode::census, each(&[11]), |_| true);
+    file.strips(&case);
     file.bytes()
 }
 
@@ -82,6 +81,10 @@ fn plain_cut(call: &mut CutCall) -> bool {
     call.hf_mul.fill(USED_WORD);
     let small = call.kinds.len().max(call.hf_mul.len()) <= LAYOUT_MOST;
     small && sides_recorded(&call.layout) && call.group < 100
+}
+
+fn plain_pair(call: &mut AlikeCall) -> bool {
+    sides_recorded(&call.left.layout) && sides_recorded(&call.right.layout)
 }
 
 fn plain_orders(call: &mut OrdersCall) -> bool {
@@ -116,7 +119,8 @@ fn sides_recorded(layout: &Layout) -> bool {
 }
 
 /// What is recorded of a call: how many inputs are tried, the refusals that it can give, how many
-/// accepted calls and of each refusal, and how many numbers a record may have.
+/// accepted calls and of each refusal, and how many numbers a record may have; all of them strips
+/// without blocks, or none.
 #[derive(Copy, Clone)]
 struct Quota {
     tried: usize,
@@ -124,6 +128,7 @@ struct Quota {
     accepted: usize,
     refused: usize,
     largest: usize,
+    strips: bool,
 }
 
 impl Quota {
@@ -134,6 +139,14 @@ impl Quota {
             accepted: 0,
             refused: 0,
             largest: 0,
+            strips: false,
+        }
+    }
+
+    fn strips(tried: usize, refusals: &'static [u32]) -> Self {
+        Self {
+            strips: true,
+            ..Self::new(tried, refusals)
         }
     }
 
@@ -174,6 +187,20 @@ impl File {
         self.numbers.extend(body.numbers);
     }
 
+    /// Records strips without blocks (document 02, No. 2). No group of theirs is cut.
+    fn strips(&mut self, case: &CoefficientsCase) {
+        let counts = Quota::strips(1000, &[2, 11]).of(8, 4, 20);
+        self.sample(2, &ColumnCountCase, encode::column_count, counts, |_| true);
+        let layouts = Quota::strips(20_000, &[1, 2, 11]).of(12, 6, 60);
+        self.sample(3, &LayoutCase, encode::layout, layouts, plain_layout);
+        let groups = Quota::strips(10_000, &[2]).of(0, 12, 60);
+        self.sample(4, &CutCase, encode::cut, groups, plain_cut);
+        let pairs = Quota::strips(10_000, &[1, 2, 11, 18]).of(16, 4, 120);
+        self.sample(5, &AlikeCase, encode::alike, pairs, plain_pair);
+        let passes = Quota::strips(8000, &[1, 2, 3, 11, 12, 13, 14]).of(10, 3, 120);
+        self.sample(8, case, encode::coefficients, passes, plain_coefficients);
+    }
+
     /// Records short and random inputs of a call in turn, as `prepare` makes them ready, where it
     /// wants them.
     fn sample<C: Case>(
@@ -192,7 +219,8 @@ impl File {
             } else {
                 case.random(&mut rng)
             };
-            if !prepare(&mut input) {
+            let is_strip = case.without_blocks(&input) == Some(true);
+            if is_strip != quota.strips || !prepare(&mut input) {
                 continue;
             }
             let outcome = case.expected(&input);
@@ -208,7 +236,8 @@ impl File {
                 }
             }
         }
-        for number in quota.refusals.iter().chain(&[0]) {
+        let accepted: &[u32] = if quota.accepted > 0 { &[0] } else { &[] };
+        for number in quota.refusals.iter().chain(accepted) {
             let count = recorded.get(number).unwrap_or(&0);
             assert!(*count > 0, "call {call}: no input is answered by {number}");
         }

@@ -1,4 +1,5 @@
 use mathlib.Core.Path.{_∙_}
+use Rattle.layout.specs.laws.CutLaws.{starts-x}
 use Rattle.lent_sides.specs.laws.Limits.{in-limits}
 use Rattle.lent_cut.specs.laws.CutSteps.{Ready, ready, copied}
 use borrow.Author.Needs.{needs}
@@ -7,10 +8,20 @@ use Rattle.lent_cut.proofs.cut.copy_group.Statement.{statement}
 use Rattle.lent_cut.proofs.cut.copy_group.Tie as tie
 
 group-x-requires : tie.Need-group-x-requires
-group-x-requires c κs = let s = in-limits 256 (c .before .before .before .before .args .bw) (c .before .before .before .before .args .bh) (c .before .before .before .before .pre .sides) in omega arith
+group-x-requires c κs =
+    let a = c .before .before .before .before .args in
+    let p = c .before .before .before .before .pre in
+    let s = in-limits 256 (a .bw) (a .bh) (p .sides) in
+    let l = starts-x (a .bw) (a .bh) (a .index) (p .index) in
+    omega arith
 
 group-y-requires : tie.Need-group-y-requires
-group-y-requires c κs = let s = in-limits 256 (c .before .before .before .before .before .args .bw) (c .before .before .before .before .before .args .bh) (c .before .before .before .before .before .pre .sides) in omega arith
+group-y-requires c κs =
+    let a = c .before .before .before .before .before .args in
+    let p = c .before .before .before .before .before .pre in
+    let s = in-limits 256 (a .bw) (a .bh) (p .sides) in
+    let l = starts-x (a .bw) (a .bh) (a .index) (p .index) in
+    omega arith
 
 placed : (c : tie.After-sides-of) → let a = c .before .before .before .before .before .before .before .args in Ready (a .bw) (a .bh) (a .kinds .now) (a .hf-mul .now) (a .index) (a .out-kinds .now) (a .out-hf-mul .now) (c .before .before .group-x .result) (c .before .group-y .result) (c .sides-of .result)
 placed c =

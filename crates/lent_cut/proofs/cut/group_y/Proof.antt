@@ -1,11 +1,11 @@
-use Rattle.layout.specs.Cut.{groupY}
+use Rattle.layout.specs.laws.CutLaws.{group-y-is}
+use native.Mathlib.Omega.{arith}
 use borrow.Author.Needs.{needs}
 use Rattle.lent_cut.proofs.cut.group_y.Statement.{statement}
 use Rattle.lent_cut.proofs.cut.group_y.Tie as tie
 
 returns : tie.Need-returns
-unfolding groupY
-returns c = rw (c .groups-along .ensures)
+returns c = let a = c .before .args in rw (c .groups-along .ensures, group-y-is (a .bw) (omega arith) (a .index))
 
 pub group-y-spec : {M : Type 1} → statement M
 group-y-spec =

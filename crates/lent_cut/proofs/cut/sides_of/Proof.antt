@@ -8,12 +8,14 @@ group-x-requires : tie.Need-group-x-requires
 group-x-requires c κs =
     let a = c .args in
     let s = in-limits 256 (a .bw) (a .bh) (c .pre .0) in
+    let l = starts-x (a .bw) (a .bh) (a .index) (c .pre .1) in
     omega arith
 
 group-y-requires : tie.Need-group-y-requires
 group-y-requires c κs =
     let a = c .before .args in
     let s = in-limits 256 (a .bw) (a .bh) (c .before .pre .0) in
+    let l = starts-x (a .bw) (a .bh) (a .index) (c .before .pre .1) in
     omega arith
 
 blocks-along-requires : tie.Need-blocks-along-requires
