@@ -93,7 +93,7 @@ static bool float_fits(float number)
     return number >= -65504.0f && number <= 65504.0f;
 }
 
-/* Sides to lend for: those of the group, or some where it has none. */
+/* Sides to lend for: those of the group, or some where it is refused. */
 static struct sides sides_for(struct lf_group group)
 {
     if (refused_before(group) != 0)

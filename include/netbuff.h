@@ -434,9 +434,9 @@ uint32_t netbuff_cut(size_t bw, size_t bh, const uint8_t *kinds, size_t kinds_le
 /*
  * Whether two layouts (0 to 256 blocks each way) are alike: yes exactly if they have the same
  * varblocks (the same corners, and at each the same transform number and hf_mul) and the same sigma
- * to the bit. So layouts of different sides are not alike, but for empty ones, as 0 x 3 and 5 x 0,
- * since two of these have the same varblocks and sigma, namely none; nor is one with Hornuss like
- * one with Dct8 in its place, nor +0.0 like -0.0. Any finite sigma serves.
+ * to the bit. So layouts of different sides that have a block are not alike, nor is one with
+ * Hornuss like one with Dct8 in its place, nor +0.0 like -0.0. Empty layouts are alike whatever
+ * their sides, as 0 x 3 and 5 x 0: they have no varblocks. Any finite sigma serves.
  *
  * Lengths that fit: bw * bh of each layout for its kinds, hf_mul and sigma. Refused: 2, 11 (sigma
  * holds a NaN or an infinity; every number that is lent is looked at, those beyond bw * bh too), 1,
@@ -516,10 +516,10 @@ bool netbuff_places_fit(const uint16_t *store, size_t store_length);
 
 /*
  * The coefficients of a pass group of bw x bh blocks (0 to 32 each way), all three channels at
- * full size: subsampled colour is not read. kinds and hf_mul are those of a cut, the record is one
- * of netbuff_block_context, the store one of netbuff_orders. Where lf_there is false the LF grids
- * are not looked at (lend lists of none), else they hold the LF numbers of channels 0, 1, 2, one
- * for each block.
+ * full size: subsampled colour is not read. kinds and hf_mul are those of a cut, or lists of none
+ * for an empty group; the record is one of netbuff_block_context, the store one of netbuff_orders.
+ * Where lf_there is false the LF grids are not looked at (lend lists of none), else they hold the
+ * LF numbers of channels 0, 1, 2, one for each block.
  *
  * The bytes hold the preset number, as many bits as the exponent of the least power of two not
  * below presets: none for one preset. The cluster map has 495 * num_block_clusters bytes for each

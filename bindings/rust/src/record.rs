@@ -302,9 +302,9 @@ impl FilteredLayout<'_> {
 }
 
 /// Whether two layouts have the same varblocks (the same corners, and at each the same transform
-/// number and hf_mul) and the same filter strengths to the bit. Layouts of different sides are not
-/// alike, but for empty ones, two of which have the same varblocks and strengths, namely none; and
-/// +0.0 is not like −0.0. Two layouts that the layout call accepted are never refused, and each is
+/// number and hf_mul) and the same filter strengths to the bit. Layouts of different sides that have
+/// a block are not alike, and +0.0 is not like −0.0; empty layouts are alike whatever their sides:
+/// they have no varblocks. Two layouts that the layout call accepted are never refused, and each is
 /// like itself.
 ///
 /// # Errors

@@ -42,7 +42,7 @@ fn has_group(bw: usize, bh: usize, index: usize) -> bool
     index < down * across
 }
 
-// Column of a group that the layout has among the groups: its row is not empty, so that it can be divided by.
+// x among the groups, of a group that the layout has: so there is a group across, and it can be divided by their number.
 fn group_x(bw: usize, index: usize) -> usize
     requires { ⌜ (1 ≤ bw) × (bw ≤ 256) ⌝ }
     ensures { λ r. ⌜ r ≡ groupX bw index ⌝ }
@@ -51,7 +51,7 @@ fn group_x(bw: usize, index: usize) -> usize
     index % across
 }
 
-// Row of a group that the layout has among the groups, likewise.
+// y among the groups, likewise.
 fn group_y(bw: usize, index: usize) -> usize
     requires { ⌜ (1 ≤ bw) × (bw ≤ 256) ⌝ }
     ensures { λ r. ⌜ r ≡ groupY bw index ⌝ }

@@ -33,13 +33,13 @@ abbrev pub holdsLayout : FilteredLayout → Bool
 holdsLayout L = isLayout (L .layout .bw) (L .layout .bh) (L .layout .kinds) (L .layout .hfMul)
 
 -- no blocks in either (document 02, No. 2), or the same sides
-abbrev pub sameSides : (bw bh bw′ bh′ : ℕ) → Bool
-sameSides bw bh bw′ bh′ = (isEmpty bw bh && isEmpty bw′ bh′) || (eqb bw bw′ && eqb bh bh′)
+abbrev pub sidesAlike : (bw bh bw′ bh′ : ℕ) → Bool
+sidesAlike bw bh bw′ bh′ = (isEmpty bw bh && isEmpty bw′ bh′) || (eqb bw bw′ && eqb bh bh′)
 
 -- so the sides, and the same lists: of two that no check refuses, the same varblocks and sigma bits (Theorems: like-yes, like-no)
 unfoldable pub alike : FilteredLayout → FilteredLayout → Bool
 alike L N =
-    sameSides (L .layout .bw) (L .layout .bh) (N .layout .bw) (N .layout .bh)
+    sidesAlike (L .layout .bw) (L .layout .bh) (N .layout .bw) (N .layout .bh)
     && (same (L .layout .kinds) (N .layout .kinds) && (same (L .layout .hfMul) (N .layout .hfMul) && same (L .sigma) (N .sigma)))
 
 -- each number is tried over both layouts before the next

@@ -16,7 +16,7 @@ ghost use Rattle.lent_lists.specs.Same.{same};
 ghost use Rattle.lent_lists.specs.Finite.{allFinite};
 ghost use Rattle.lent_check.specs.laws.Laws.{isLentLayout};
 ghost use Rattle.lent_likeness.specs.Like.{filtered};
-ghost use Rattle.lent_likeness.specs.Calls.{answered, sameSides, likeOf};
+ghost use Rattle.lent_likeness.specs.Calls.{answered, sidesAlike, likeOf};
 
 pub enum LikeAnswer {
     Alike,
@@ -115,8 +115,8 @@ fn both_empty(bw: usize, bh: usize, bw2: usize, bh2: usize) -> bool
 }
 
 // No blocks in either, or the same sides.
-fn same_sides(bw: usize, bh: usize, bw2: usize, bh2: usize) -> bool
-    ensures { λ r. ⌜ r ≡ sameSides bw bh bw2 bh2 ⌝ }
+fn sides_alike(bw: usize, bh: usize, bw2: usize, bh2: usize) -> bool
+    ensures { λ r. ⌜ r ≡ sidesAlike bw bh bw2 bh2 ⌝ }
 {
     if both_empty(bw, bh, bw2, bh2) {
         return true;
@@ -186,7 +186,7 @@ pub fn alike(
     if !both_layouts(bw, bh, kinds, hf_mul, bw2, bh2, kinds2, hf_mul2) {
         return LikeAnswer::Refused(Refusal::Layout);
     }
-    if !same_sides(bw, bh, bw2, bh2) {
+    if !sides_alike(bw, bh, bw2, bh2) {
         return LikeAnswer::Unlike;
     }
     if same_lists(kinds, hf_mul, sigma, kinds2, hf_mul2, sigma2) {

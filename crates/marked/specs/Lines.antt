@@ -21,11 +21,11 @@ lines =
     ++ (97 ∷ 114 ∷ 101 ∷ 97 ∷ 32 ∷ 52 ∷ 10 ∷ []))))
 
 -- 10 size 0 × 16; 00 end; and with a column (0,0) that no block takes; 10 size 0 × 513
-abbrev pub strip : List ℕ
-strip = 0x10 ∷ 0 ∷ 0 ∷ 16 ∷ 0 ∷ 0 ∷ []
+abbrev pub stripJob : List ℕ
+stripJob = 0x10 ∷ 0 ∷ 0 ∷ 16 ∷ 0 ∷ 0 ∷ []
 
-abbrev pub stripWithColumn : List ℕ
-stripWithColumn =
+abbrev pub stripJobWithColumn : List ℕ
+stripJobWithColumn =
     0x10 ∷ 0 ∷ 0 ∷ 16 ∷ 0
     ∷ 0x11 ∷ 0 ∷ 0 ∷ 0 ∷ 0 ∷ 0 ∷ 0 ∷ 0 ∷ 0
     ∷ 0 ∷ []

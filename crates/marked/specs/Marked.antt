@@ -27,7 +27,7 @@ use Rattle.refusal.specs.Answer.{gives, refuses}
 use Rattle.coeff_call.specs.Call.{leaves, outcomeOf, refuse, presetBits, call, reading as readingWith}
 use Rattle.lister.specs.Texts.{BAD-INPUT}
 use Rattle.lister.specs.Listing.{textOf}
-use Rattle.marked.specs.Lines.{job, lines, strip, stripWithColumn, tooHigh, stripLines}
+use Rattle.marked.specs.Lines.{job, lines, stripJob, stripJobWithColumn, tooHigh, stripLines}
 use Rattle.marked.specs.Coefficients.{gains, dct8, dct16, Room}
 
 -- M1 natural 8 × 8 starts (0,0) (1,0) (0,1) (0,2) (1,1) (2,0)
@@ -110,14 +110,14 @@ M11 = (map log g0 g1 g2 : List ℕ) → Room 1 1 map log g0 g1 g2
 abbrev pub M12 : Type 0
 M12 = (likeOf oneHornuss oneDct8 ≡ gives false) × SameRectangles (oneHornuss .layout) (oneDct8 .layout)
 
--- M13, of document 02, No. 2: 0 × 16 pixels are 0 × 2 blocks, accepted with no columns used; 0 × 8 pixels with mode 1 are 0 × 2 blocks too; the lister
+-- M13, ours for document 02, No. 2: 0 × 16 pixels are 0 × 2 blocks, accepted with no columns used; 0 × 8 pixels with mode 1 are 0 × 2 blocks too; the lister
 -- prints `blocks 0 2` and `area 0`, surplus columns or not; 0 beside 513 pixels is bad input
 abbrev pub M13 : Type 0
 M13 = (off 0 2 [] [] ≡ record { answer = answer.gives 0; kinds = []; hfMul = []; sigma = [] })
     × (bwIn 0 (1 ∷ 0 ∷ 0 ∷ []) ≡ 0)
     × (bhIn 8 (1 ∷ 0 ∷ 0 ∷ []) ≡ 2)
-    × (textOf strip ≡ stripLines)
-    × (textOf stripWithColumn ≡ stripLines)
+    × (textOf stripJob ≡ stripLines)
+    × (textOf stripJobWithColumn ≡ stripLines)
     × (textOf tooHigh ≡ BAD-INPUT)
 
 -- number and statement of a marked example

@@ -7,6 +7,11 @@ use lib.ListN.{length, getD, set, take, drop, length-drop}
 use lib.Seq.{sets, take-all}
 use Rattle.laws.specs.Lists.{tabulate}
 
+-- a list of no elements
+pub no-elements : {A : Type 0} (l : List A) → length l ≡ 0 → l ≡ []
+no-elements [] e = refl
+no-elements (x ∷ l) e = absurd (omega arith)
+
 -- an entry of a list of images is the image of the entry
 pub getD-map : {A B : Type 0} (f : A → B) (l : List A) (k : ℕ) (d : A) → getD (map f l) k (f d) ≡ f (getD l k d)
 getD-map f [] k d = refl

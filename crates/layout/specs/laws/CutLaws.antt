@@ -16,7 +16,7 @@ use Rattle.layout.specs.Grid.{blockAt}
 use Rattle.layout.specs.laws.Grid.{grid-length, grid-at}
 use Rattle.layout.specs.Valid.{Cells, Covers, Fits, Owned, Valid, Layout}
 use Rattle.layout.specs.laws.Same.{valid-same}
-use Rattle.layout.specs.Cut.{groups, behind, groupPlace, groupX, groupY, hasGroup, side, cutCells, groupBw, groupBh, cut}
+use Rattle.layout.specs.Cut.{groups, behind, groupXY, groupX, groupY, hasGroup, side, cutCells, groupBw, groupBh, cut}
 
 -- a corner that reaches into a square of 32 lies in it
 pub within : (q i w x : ℕ) → i % 32 + w ≤ 32 → i ≤ 32 * q + x → 32 * q + x < i + w → x < 32 → 32 * q ≤ i
@@ -98,8 +98,8 @@ behind-digits n x y g d = go (ltb (x + 1) n) refl
     go false e = let h = ltb-false (x + 1) n e in (omega (arith, d .0), omega (arith, d .0, d .1, suc-mul y n))
 
 module _ (bw : ℕ) (some : 0 < groups bw) where
-  pub group-digits : (g : ℕ) → Digits (groups bw) (groupPlace bw g) g
-  unfolding groupPlace
+  pub group-digits : (g : ℕ) → Digits (groups bw) (groupXY bw g) g
+  unfolding groupXY
   group-digits zero = (some, omega arith)
   group-digits (suc g) = behind-digits (groups bw) (groupX bw g) (groupY bw g) g (group-digits g)
 

@@ -1,6 +1,6 @@
 -- A grid without blocks: nothing is visited, there are no varblocks and no groups, and it is a layout (document 02, No. 2).
 use mathlib.Core.Path.{_≡_, refl}
-use mathlib.Core.Bool.{Bool, true, false, _||_}
+use mathlib.Core.Bool.{Bool, true, false}
 use mathlib.Core.Logic.{_↔_, _⊎_, inl, inr}
 use mathlib.Core.List.{List, []}
 use Prim.Native.Nat.{ℕ, zero, suc, _+_, _*_, _≤_, _<_}
@@ -8,7 +8,7 @@ use native.Mathlib.Nat.{mul-zero, zero-mul}
 use native.Mathlib.Omega.{arith}
 use lib.Dec.{eqb}
 use borrow.Author.Tests.{eqb-true, eq-eqb, ltb-true}
-use Rattle.laws.specs.laws.Cases.{le-or-lt}
+use Rattle.laws.specs.laws.Cases.{le-or-lt, or-true, or-either}
 use Rattle.layout.specs.RowByRow.{alongRow, rows, rowByRow}
 use Rattle.layout.specs.Valid.{Cells, Layout}
 use Rattle.layout.specs.Varblocks.{Varblock, cornersRow, cornersFrom, varblocksOf, area}
@@ -18,19 +18,15 @@ use Rattle.layout.specs.Empty.{Empty, isEmpty}
 
 -- the test is what it says
 pub is-empty : (bw bh : ℕ) → (isEmpty bw bh ≡ true) ↔ Empty bw bh
-is-empty bw bh = (there (eqb bw 0) refl, back)
+is-empty bw bh = (λ e. there (or-true (eqb bw 0) (eqb bh 0) e), λ e. or-either (eqb bw 0) (eqb bh 0) (back e))
   where
-    there : (b : Bool) → eqb bw 0 ≡ b → b || eqb bh 0 ≡ true → Empty bw bh
-    there true e t = inl (eqb-true bw 0 e)
-    there false e t = inr (eqb-true bh 0 t)
+    there : (eqb bw 0 ≡ true) ⊎ (eqb bh 0 ≡ true) → Empty bw bh
+    there (inl e) = inl (eqb-true bw 0 e)
+    there (inr e) = inr (eqb-true bh 0 e)
 
-    back : Empty bw bh → isEmpty bw bh ≡ true
-    back (inl e) = rw (eq-eqb bw 0 e)
-    back (inr e) = go (eqb bw 0)
-      where
-        go : (b : Bool) → b || eqb bh 0 ≡ true
-        go true = refl
-        go false = eq-eqb bh 0 e
+    back : Empty bw bh → (eqb bw 0 ≡ true) ⊎ (eqb bh 0 ≡ true)
+    back (inl e) = inl (eq-eqb bw 0 e)
+    back (inr e) = inr (eq-eqb bh 0 e)
 
 -- without blocks, or with at least one
 pub empty-or-not : (bw bh : ℕ) → Empty bw bh ⊎ ((1 ≤ bw) × (1 ≤ bh))

@@ -2,54 +2,37 @@
 -- no varblocks and the area is 0 (document 02, No. 2).
 use mathlib.Core.Path.{_≡_, refl, _∙_}
 use mathlib.Core.Bool.{true}
-use mathlib.Core.Logic.{_↔_, _⊎_, inl, inr}
-use mathlib.Core.List.{List, [], _∷_}
+use mathlib.Core.List.{List, []}
 use Prim.Native.Nat.{ℕ, _*_}
-use native.Mathlib.Omega.{arith}
-use lib.ListN.{length, replicate}
+use lib.ListN.{length}
+use Rattle.laws.specs.laws.Lists.{no-elements}
 use Rattle.refusal.specs.Answer.{Answer, gives, refuses, answeredBy}
 use Rattle.refusal.specs.laws.Answer.{pass}
 use Rattle.layout.specs.Empty.{Empty}
 use Rattle.layout.specs.Varblocks.{area}
 use Rattle.layout.specs.laws.Empty.{no-steps, no-blocks, no-varblocks, no-area}
 use Rattle.layout_sizes.specs.Blocks.{sizeFits}
-use Rattle.layout_sizes.specs.laws.Bounds.{no-columns, no-rows}
+use Rattle.layout_sizes.specs.laws.Bounds.{without-pixels}
 use Rattle.layout_sizes.specs.laws.Counts.{counts}
 use Rattle.layout_placing.specs.Reading.{Job, Going, visit, start, reading}
 use Rattle.layout_placing.specs.Outcome.{outcome}
 use Rattle.layout_call.specs.Call.{outcomeOf, Inputs, jobOf, parametersFit, allLengthsFit, beforeWork, refuse, layoutOf}
 use Rattle.layout_accepted.specs.Outcome.{bwOf, bhOf, varblocksLeft}
 
--- the grid has no blocks exactly if the strip has no pixels, whatever the modes
-pub without-pixels : (i : Inputs) → Empty (bwOf i) (bhOf i) ↔ Empty (i .width) (i .height)
-without-pixels i = (there, back)
-  where
-    there : Empty (bwOf i) (bhOf i) → Empty (i .width) (i .height)
-    there (inl e) = inl (no-columns (i .width) (i .modes) .0 e)
-    there (inr e) = inr (no-rows (i .height) (i .modes) .0 e)
-
-    back : Empty (i .width) (i .height) → Empty (bwOf i) (bhOf i)
-    back (inl e) = inl (no-columns (i .width) (i .modes) .1 e)
-    back (inr e) = inr (no-rows (i .height) (i .modes) .1 e)
-
 -- the reading takes no column, whatever the columns are
 pub empty-reading : (J : Job) → Empty (J .bw) (J .bh) → reading J ≡ Going (start J)
 unfolding reading
 empty-reading J e = no-steps (visit J) (J .bw) (J .bh) (Going (start J)) e
 
-none : (l : List ℕ) → length l ≡ 0 → replicate 0 0 ≡ l
-none [] e = refl
-none (a ∷ l) e = absurd (omega arith)
-
 module _ (i : Inputs) (kinds hfMul sigma : List ℕ) (e : Empty (i .width) (i .height)) where
   grid : Empty (bwOf i) (bhOf i)
-  grid = without-pixels i .1 e
+  grid = without-pixels (i .width) (i .height) (i .modes) .1 e
 
   nothing-written : allLengthsFit i kinds hfMul sigma ≡ true → outcomeOf (jobOf i) (reading (jobOf i)) ≡ outcome (gives 0) kinds hfMul sigma
   nothing-written l =
       let z = no-blocks (bwOf i) (bhOf i) grid in
       let c = counts (length (i .types)) (length (i .muls)) (length (i .sharpness)) (length kinds) (length hfMul) (length sigma) (bhOf i * bwOf i) l in
-      rw (empty-reading (jobOf i) grid, z, ← none kinds (c .kindsAre ∙ z), ← none hfMul (c .hfMulAre ∙ z), ← none sigma (c .sigmaAre ∙ z))
+      rw (empty-reading (jobOf i) grid, z, no-elements kinds (c .kindsAre ∙ z), no-elements hfMul (c .hfMulAre ∙ z), no-elements sigma (c .sigmaAre ∙ z))
 
   -- the checks before work decide alone: what they let pass is accepted with no columns used, and all that is lent stays as it was
   pub empty-call : layoutOf i kinds hfMul sigma ≡ answeredBy (beforeWork i kinds hfMul sigma) (refuse i kinds hfMul sigma) (λ (u : Unit). outcome (gives 0) kinds hfMul sigma)

@@ -1,12 +1,13 @@
 -- The grid of blocks: within the limits it has at most 256 blocks each way, and none exactly along a side of no pixels.
 use mathlib.Core.Path.{_≡_}
 use mathlib.Core.Bool.{Bool, true, false}
-use mathlib.Core.Logic.{_↔_}
+use mathlib.Core.Logic.{_↔_, inl, inr}
 use mathlib.Core.List.{List}
 use Prim.Native.Nat.{ℕ, _≤_}
 use native.Mathlib.Omega.{arith}
 use lib.Dec.{T, leb, leb→le}
 use lib.Ieee.Fits.{and-l, and-r}
+use Rattle.layout.specs.Empty.{Empty}
 use Rattle.layout_sizes.specs.declared.Blocks.{Blocks}
 use Rattle.layout_sizes.specs.Blocks.{sizeFits, blocks, evenIf, anyEither, bwIn, bhIn}
 
@@ -22,13 +23,25 @@ none : (even : Bool) (pixels : ℕ) → (evenIf even (blocks pixels) ≡ 0) ↔ 
 none true pixels = (λ e. omega arith, λ e. omega arith)
 none false pixels = (λ e. omega arith, λ e. omega arith)
 
-pub no-columns : (width : ℕ) (modes : List ℕ) → (bwIn width modes ≡ 0) ↔ (width ≡ 0)
+pub no-bw : (width : ℕ) (modes : List ℕ) → (bwIn width modes ≡ 0) ↔ (width ≡ 0)
 unfolding bwIn
-no-columns width modes = none (anyEither modes 1 2) width
+no-bw width modes = none (anyEither modes 1 2) width
 
-pub no-rows : (height : ℕ) (modes : List ℕ) → (bhIn height modes ≡ 0) ↔ (height ≡ 0)
+pub no-bh : (height : ℕ) (modes : List ℕ) → (bhIn height modes ≡ 0) ↔ (height ≡ 0)
 unfolding bhIn
-no-rows height modes = none (anyEither modes 1 3) height
+no-bh height modes = none (anyEither modes 1 3) height
+
+-- so a grid has no blocks exactly if the strip has no pixels, whatever the modes
+pub without-pixels : (width height : ℕ) (modes : List ℕ) → Empty (bwIn width modes) (bhIn height modes) ↔ Empty width height
+without-pixels width height modes = (there, back)
+  where
+    there : Empty (bwIn width modes) (bhIn height modes) → Empty width height
+    there (inl e) = inl (no-bw width modes .0 e)
+    there (inr e) = inr (no-bh height modes .0 e)
+
+    back : Empty width height → Empty (bwIn width modes) (bhIn height modes)
+    back (inl e) = inl (no-bw width modes .1 e)
+    back (inr e) = inr (no-bh height modes .1 e)
 
 module _ (width height : ℕ) (fits : sizeFits width height ≡ true) where
   sides : (width ≤ 2048) × (height ≤ 2048)

@@ -9,7 +9,7 @@ use lib.ListN.{length}
 use Rattle.refusal.specs.declared.Said.{Said}
 use Rattle.refusal.specs.Said.{saidAt}
 use Rattle.layout.specs.laws.Loops.{rowsLeft, loop-start}
-use Rattle.layout.specs.Grid.{gridOf, blockAt as cellAt}
+use Rattle.layout.specs.Grid.{gridOf, blockAt}
 use Rattle.layout.specs.laws.Fill.{write, written}
 use Rattle.layout.specs.Check.{isLayout}
 use Rattle.layout.specs.Cut.{groupX, groupY, hasGroup, groupBw, groupBh, cut}
@@ -106,7 +106,7 @@ module _ (bw bh : ℕ) (kinds hfMul : List ℕ) (g : ℕ) (outKinds outHfMul : L
           record { fitsX = omega arith; fitsY = omega arith; fits = omega arith; same = omega arith; outKindsFit = b .0; outHfMulFit = b .1 }
 
 pub copied : (bw bh g : ℕ) (l : List ℕ) (gx gy : ℕ) (r : GroupSides) → gx ≡ groupX bw g → gy ≡ groupY bw g → r ≡ groupSides (groupBw bw g) (groupBh bw bh g)
-    → gridOf (λ x y. cellAt l bw (32 * gx + x) (32 * gy + y)) (r .bw) (r .bh) ≡ cut bw bh g l
+    → gridOf (λ x y. blockAt l bw (32 * gx + x) (32 * gy + y)) (r .bw) (r .bh) ≡ cut bw bh g l
 unfolding cut
 copied bw bh g l gx gy r ex ey er = rw (ex, ey, er)
 

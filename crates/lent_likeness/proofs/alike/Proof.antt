@@ -62,13 +62,13 @@ returns-5 : tie.Need-returns-5
 returns-5 c =
     let d = c .before .before in
     let s = d .before .before .before .before .before .before .before in
-    says d false (unlike-sides (one s) (two s) (sym (c .before .same-sides .ensures) ∙ not-true _ (c .if5 .taken)))
+    says d false (unlike-sides (one s) (two s) (sym (c .before .sides-alike .ensures) ∙ not-true _ (c .if5 .taken)))
 
 -- the test where the sides are the same
 lists : (c : tie.After-same-lists) → let s = c .before .before .before .before .before .before .before .before .before .before in alike (one s) (two s) ≡ c .same-lists .result
 lists c =
     let s = c .before .before .before .before .before .before .before .before .before .before in
-    alike-lists (one s) (two s) (sym (c .before .before .same-sides .ensures) ∙ not-false _ (c .before .if5 .left)) ∙ sym (c .same-lists .ensures)
+    alike-lists (one s) (two s) (sym (c .before .before .sides-alike .ensures) ∙ not-false _ (c .before .if5 .left)) ∙ sym (c .same-lists .ensures)
 
 returns-6 : tie.Need-returns-6
 returns-6 c = says (c .before .before .before .before) true (lists (c .before) ∙ c .if6 .taken)

@@ -1,12 +1,13 @@
 -- Layouts with the same varblocks have the same rectangles, and are lent alike: both without blocks, or as the same.
 use mathlib.Core.Path.{_≡_, refl, ap, sym, _∙_}
 use mathlib.Core.Logic.{_⊎_, inl, inr}
-use mathlib.Core.List.{List, [], _∷_}
+use mathlib.Core.List.{List}
 use Prim.Native.Nat.{ℕ, _+_, _*_, _-_, _≤_, _<_}
 use native.Mathlib.Omega.{arith}
 use lib.ListN.{length, getD}
 use lib.Seq.{ext-getD}
 use Rattle.laws.specs.laws.Cases.{le-or-lt}
+use Rattle.laws.specs.laws.Lists.{no-elements}
 use Rattle.layout.specs.Kinds.{wideOf, highOf}
 use Rattle.layout.specs.laws.Grid.{cell-at}
 use Rattle.layout.specs.Empty.{Empty}
@@ -15,16 +16,15 @@ use Rattle.layout.specs.Valid.{Layout}
 use Rattle.layout.specs.Varblocks.{varblock}
 use Rattle.layout.specs.Lent.{LentLayout, kindAt, hfMulAt, HasVarblock}
 use Rattle.lent_likeness.specs.Like.{SameVarblocks, HasRectangle, SameRectangles}
-use Rattle.lent_likeness.specs.laws.LikeSteps.{SameSides}
+use Rattle.lent_likeness.specs.laws.LikeSteps.{SidesAlike}
 
 -- what 18 lets pass
 abbrev LaidOut : LentLayout → Type 0
 LaidOut L = Layout (L .bw) (L .bh) (L .kinds) (L .hfMul)
 
+-- lists of no elements
 pub none-equal : (l m : List ℕ) → length l ≡ 0 → length m ≡ 0 → l ≡ m
-none-equal [] [] e f = refl
-none-equal (a ∷ l) m e f = absurd (omega arith)
-none-equal [] (b ∷ m) e f = absurd (omega arith)
+none-equal l m e f = no-elements l e ∙ sym (no-elements m f)
 
 varblocks-turned : (L N : LentLayout) → SameVarblocks L N → SameVarblocks N L
 unfolding SameVarblocks
@@ -126,10 +126,10 @@ module _ (L N : LentLayout) (here : LaidOut L) (there : LaidOut N) (s : SameVarb
       let b = not-wider N L there here (same-rectangles N L (varblocks-turned L N s)) (some′ .0) (some′ .1) in
       (omega arith, omega arith)
 
-  pub same-lent : SameSides L N × (L .kinds ≡ N .kinds) × (L .hfMul ≡ N .hfMul)
+  pub same-lent : SidesAlike (L .bw) (L .bh) (N .bw) (N .bh) × (L .kinds ≡ N .kinds) × (L .hfMul ≡ N .hfMul)
   same-lent = go (empty-or-not (L .bw) (L .bh)) (empty-or-not (N .bw) (N .bh))
     where
-      go : Empty (L .bw) (L .bh) ⊎ ((1 ≤ L .bw) × (1 ≤ L .bh)) → Empty (N .bw) (N .bh) ⊎ ((1 ≤ N .bw) × (1 ≤ N .bh)) → SameSides L N × (L .kinds ≡ N .kinds) × (L .hfMul ≡ N .hfMul)
+      go : Empty (L .bw) (L .bh) ⊎ ((1 ≤ L .bw) × (1 ≤ L .bh)) → Empty (N .bw) (N .bh) ⊎ ((1 ≤ N .bw) × (1 ≤ N .bh)) → SidesAlike (L .bw) (L .bh) (N .bw) (N .bh) × (L .kinds ≡ N .kinds) × (L .hfMul ≡ N .hfMul)
       go (inl e) q = let f = same-empty L N here there s e in let l = empty-lists e f in (inl (e, f), l .0, l .1)
       go (inr h) (inl f) = let e = same-empty N L there here (varblocks-turned L N s) f in let l = empty-lists e f in (inl (e, f), l .0, l .1)
       go (inr h) (inr k) = let d = equal-sides h k in let l = same-lists L N here there s (d .0) (d .1) in (inr d, l .0, l .1)

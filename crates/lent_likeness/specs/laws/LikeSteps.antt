@@ -1,16 +1,15 @@
 -- The ends of the likeness test.
-use mathlib.Core.Path.{_≡_, refl, sym, _∙_}
-use mathlib.Core.Bool.{Bool, true, false, _&&_, _||_}
+use mathlib.Core.Path.{_≡_, sym}
+use mathlib.Core.Bool.{Bool, true, false, _&&_}
 use mathlib.Core.Logic.{_↔_, _⊎_, inl, inr}
 use Prim.Native.Nat.{ℕ, _*_}
 use lib.Dec.{eqb}
 use lib.ListN.{length}
 use borrow.Author.Tests.{eqb-true, eq-eqb}
-use Rattle.laws.specs.laws.Cases.{and-true}
+use Rattle.laws.specs.laws.Cases.{and-true, or-true, or-either}
 use Rattle.refusal.specs.Said.{saidAt}
 use Rattle.refusal.specs.Answer.{gives, refuses}
 use Rattle.layout.specs.Empty.{Empty, isEmpty}
-use Rattle.layout.specs.Lent.{LentLayout}
 use Rattle.layout.specs.laws.Empty.{is-empty}
 use Rattle.lent_sides.specs.Limits.{lengthsFit}
 use Rattle.lent_sides.specs.laws.Limits.{lengths-fit}
@@ -18,7 +17,7 @@ use Rattle.lent_check.specs.laws.Laws.{isLentLayout, lent-cells}
 use Rattle.lent_lists.specs.Same.{same}
 use Rattle.lent_lists.specs.laws.Same.{same-iff}
 use Rattle.lent_likeness.specs.Like.{FilteredLayout}
-use Rattle.lent_likeness.specs.Calls.{sided, strengthsFinite, allLengthsFit, holdsLayout, sameSides, alike, likeOf}
+use Rattle.lent_likeness.specs.Calls.{sided, strengthsFinite, allLengthsFit, holdsLayout, sidesAlike, alike, likeOf}
 
 -- two tests, the second where the first holds
 module _ (r a b : Bool) (e : r ≡ a) where
@@ -72,38 +71,34 @@ module _ (L N : FilteredLayout) where
         rw (is-lent L (p .0) (q .0), is-lent N (p .1) (q .1))
 
   -- the test of likeness: the sides, then the lists
-  pub unlike-sides : sameSides (L .layout .bw) (L .layout .bh) (N .layout .bw) (N .layout .bh) ≡ false → alike L N ≡ false
+  pub unlike-sides : sidesAlike (L .layout .bw) (L .layout .bh) (N .layout .bw) (N .layout .bh) ≡ false → alike L N ≡ false
   unfolding alike
   unlike-sides e = rw e
 
-  pub alike-lists : sameSides (L .layout .bw) (L .layout .bh) (N .layout .bw) (N .layout .bh) ≡ true
+  pub alike-lists : sidesAlike (L .layout .bw) (L .layout .bh) (N .layout .bw) (N .layout .bh) ≡ true
       → alike L N ≡ same (L .layout .kinds) (N .layout .kinds) && (same (L .layout .hfMul) (N .layout .hfMul) && same (L .sigma) (N .sigma))
   unfolding alike
   alike-lists e = rw e
 
--- no blocks in either, or the same sides
-abbrev pub SameSides : LentLayout → LentLayout → Type 0
-SameSides L N = (Empty (L .bw) (L .bh) × Empty (N .bw) (N .bh)) ⊎ ((L .bw ≡ N .bw) × (L .bh ≡ N .bh))
+-- no blocks in either, or the same sides; what the test says
+abbrev pub SidesAlike : (bw bh bw′ bh′ : ℕ) → Type 0
+SidesAlike bw bh bw′ bh′ = (Empty bw bh × Empty bw′ bh′) ⊎ ((bw ≡ bw′) × (bh ≡ bh′))
 
 module _ (bw bh bw′ bh′ : ℕ) where
-  same-sides : sameSides bw bh bw′ bh′ ≡ true → (Empty bw bh × Empty bw′ bh′) ⊎ ((bw ≡ bw′) × (bh ≡ bh′))
-  same-sides e = go (isEmpty bw bh && isEmpty bw′ bh′) refl e
-    where
-      go : (b : Bool) → isEmpty bw bh && isEmpty bw′ bh′ ≡ b → b || (eqb bw bw′ && eqb bh bh′) ≡ true → (Empty bw bh × Empty bw′ bh′) ⊎ ((bw ≡ bw′) × (bh ≡ bh′))
-      go true f t = let p = and-true (isEmpty bw bh) (isEmpty bw′ bh′) f in inl (is-empty bw bh .0 (p .0), is-empty bw′ bh′ .0 (p .1))
-      go false f t = let p = and-true (eqb bw bw′) (eqb bh bh′) t in inr (eqb-true bw bw′ (p .0), eqb-true bh bh′ (p .1))
+  sides-pass : SidesAlike bw bh bw′ bh′ → sidesAlike bw bh bw′ bh′ ≡ true
+  sides-pass (inl p) = or-either (isEmpty bw bh && isEmpty bw′ bh′) (eqb bw bw′ && eqb bh bh′) (inl (rw (is-empty bw bh .1 (p .0), is-empty bw′ bh′ .1 (p .1))))
+  sides-pass (inr p) = or-either (isEmpty bw bh && isEmpty bw′ bh′) (eqb bw bw′ && eqb bh bh′) (inr (rw (eq-eqb bw bw′ (p .0), eq-eqb bh bh′ (p .1))))
 
-  sides-same : (Empty bw bh × Empty bw′ bh′) ⊎ ((bw ≡ bw′) × (bh ≡ bh′)) → sameSides bw bh bw′ bh′ ≡ true
-  sides-same (inl p) = rw (is-empty bw bh .1 (p .0), is-empty bw′ bh′ .1 (p .1))
-  sides-same (inr p) = go (isEmpty bw bh && isEmpty bw′ bh′)
+  sides-passed : sidesAlike bw bh bw′ bh′ ≡ true → SidesAlike bw bh bw′ bh′
+  sides-passed e = go (or-true (isEmpty bw bh && isEmpty bw′ bh′) (eqb bw bw′ && eqb bh bh′) e)
     where
-      go : (b : Bool) → b || (eqb bw bw′ && eqb bh bh′) ≡ true
-      go true = refl
-      go false = rw (eq-eqb bw bw′ (p .0), eq-eqb bh bh′ (p .1))
+      go : (isEmpty bw bh && isEmpty bw′ bh′ ≡ true) ⊎ (eqb bw bw′ && eqb bh bh′ ≡ true) → SidesAlike bw bh bw′ bh′
+      go (inl t) = let p = and-true (isEmpty bw bh) (isEmpty bw′ bh′) t in inl (is-empty bw bh .0 (p .0), is-empty bw′ bh′ .0 (p .1))
+      go (inr t) = let p = and-true (eqb bw bw′) (eqb bh bh′) t in inr (eqb-true bw bw′ (p .0), eqb-true bh bh′ (p .1))
 
 -- lent alike: so the sides, and the same lists
 pub record LentAlike (L N : FilteredLayout) : Type 0 where
-  pub sides : SameSides (L .layout) (N .layout)
+  pub sides : SidesAlike (L .layout .bw) (L .layout .bh) (N .layout .bw) (N .layout .bh)
   pub kinds : L .layout .kinds ≡ N .layout .kinds
   pub hfMul : L .layout .hfMul ≡ N .layout .hfMul
   pub sigma : L .sigma ≡ N .sigma
@@ -115,11 +110,11 @@ alike-lent L N = (there, back)
   where
     there : alike L N ≡ true → LentAlike L N
     there e =
-        let p = and-true (sameSides (L .layout .bw) (L .layout .bh) (N .layout .bw) (N .layout .bh)) _ e in
+        let p = and-true (sidesAlike (L .layout .bw) (L .layout .bh) (N .layout .bw) (N .layout .bh)) _ e in
         let r = and-true (same (L .layout .kinds) (N .layout .kinds)) _ (p .1) in
         let s = and-true (same (L .layout .hfMul) (N .layout .hfMul)) (same (L .sigma) (N .sigma)) (r .1) in
         record {
-          sides = same-sides (L .layout .bw) (L .layout .bh) (N .layout .bw) (N .layout .bh) (p .0);
+          sides = sides-passed (L .layout .bw) (L .layout .bh) (N .layout .bw) (N .layout .bh) (p .0);
           kinds = same-iff (L .layout .kinds) (N .layout .kinds) .0 (r .0);
           hfMul = same-iff (L .layout .hfMul) (N .layout .hfMul) .0 (s .0);
           sigma = same-iff (L .sigma) (N .sigma) .0 (s .1);
@@ -128,28 +123,16 @@ alike-lent L N = (there, back)
     back : LentAlike L N → alike L N ≡ true
     back a =
         rw (
-          sides-same (L .layout .bw) (L .layout .bh) (N .layout .bw) (N .layout .bh) (a .sides),
+          sides-pass (L .layout .bw) (L .layout .bh) (N .layout .bw) (N .layout .bh) (a .sides),
           same-iff (L .layout .kinds) (N .layout .kinds) .1 (a .kinds),
           same-iff (L .layout .hfMul) (N .layout .hfMul) .1 (a .hfMul),
           same-iff (L .sigma) (N .sigma) .1 (a .sigma),
         )
 
--- of itself, turned round and joined
-pub lent-itself : (L : FilteredLayout) → LentAlike L L
-lent-itself L = record { sides = inr (refl, refl); kinds = refl; hfMul = refl; sigma = refl }
-
+-- turned round
 pub lent-turned : (L N : FilteredLayout) → LentAlike L N → LentAlike N L
 lent-turned L N a = record { sides = go (a .sides); kinds = sym (a .kinds); hfMul = sym (a .hfMul); sigma = sym (a .sigma) }
   where
-    go : SameSides (L .layout) (N .layout) → SameSides (N .layout) (L .layout)
+    go : SidesAlike (L .layout .bw) (L .layout .bh) (N .layout .bw) (N .layout .bh) → SidesAlike (N .layout .bw) (N .layout .bh) (L .layout .bw) (L .layout .bh)
     go (inl p) = inl (p .1, p .0)
     go (inr p) = inr (sym (p .0), sym (p .1))
-
-pub lent-joined : (L N O : FilteredLayout) → LentAlike L N → LentAlike N O → LentAlike L O
-lent-joined L N O a b = record { sides = go (a .sides) (b .sides); kinds = a .kinds ∙ b .kinds; hfMul = a .hfMul ∙ b .hfMul; sigma = a .sigma ∙ b .sigma }
-  where
-    go : SameSides (L .layout) (N .layout) → SameSides (N .layout) (O .layout) → SameSides (L .layout) (O .layout)
-    go (inl p) (inl q) = inl (p .0, q .1)
-    go (inl p) (inr q) = inl (p .0, rw (← (q .0), ← (q .1)) (p .1))
-    go (inr p) (inl q) = inl (rw (p .0, p .1) (q .0), q .1)
-    go (inr p) (inr q) = inr (p .0 ∙ q .0, p .1 ∙ q .1)

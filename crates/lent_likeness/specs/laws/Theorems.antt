@@ -22,7 +22,7 @@ use Rattle.lent_likeness.specs.Like.{FilteredLayout, SameVarblocks, Alik
 use Rattle.lent_likeness.specs.Calls.{sided, strengthsFinite, allLengthsFit, holdsLayout, alike, likeOf}
 use Rattle.lent_likeness.specs.Theorems.{Sound, NotFinite}
 use Rattle.lent_likeness.specs.laws.Like.{none-equal, same-empty, same-lent, same-rectangles}
-use Rattle.lent_likeness.specs.laws.LikeSteps.{SameSides, LentAlike, alike-lent, lent-itself, lent-turned, lent-joined}
+use Rattle.lent_likeness.specs.laws.LikeSteps.{SidesAlike, LentAlike, alike-lent, lent-turned}
 
 -- a lent layout that no check refuses passes them all, and the other way round
 module _ (L : FilteredLayout) where
@@ -104,7 +104,7 @@ module _ (L N : FilteredLayout) where
   unfolding SameVarblocks
   alike-same e = let a = alike-lent L N .0 e in record { varblocks = go a (a .sides); sigma = a .sigma }
     where
-      go : LentAlike L N → SameSides (L .layout) (N .layout) → SameVarblocks (L .layout) (N .layout)
+      go : LentAlike L N → SidesAlike (L .layout .bw) (L .layout .bh) (N .layout .bw) (N .layout .bh) → SameVarblocks (L .layout) (N .layout)
       go a (inl p) v = ((λ h. absurd (no-varblock (L .layout) (p .0) v h)), (λ h. absurd (no-varblock (N .layout) (p .1) v h)))
       go a (inr p) v = rw (p .0, p .1, a .kinds, a .hfMul) ((λ h. h), (λ h. h))
 
@@ -184,13 +184,16 @@ module _ (L N : FilteredLayout) where
       back t = rw (limits-in 256 (L .layout .bw) (L .layout .bh) (t .0), limits-in 256 (N .layout .bw) (N .layout .bh) (t .1), both-not (t .2))
 
 pub like-itself : (L : FilteredLayout) → Sound L → likeOf L L ≡ gives true
-like-itself L s = says L L true s s (alike-lent L L .1 (lent-itself L))
+unfolding SameVarblocks
+like-itself L s = like-yes L L .1 (s, s, record { varblocks = λ v. ((λ h. h), (λ h. h)); sigma = refl })
 
 pub like-joined : (L N O : FilteredLayout) → likeOf L N ≡ gives true → likeOf N O ≡ gives true → likeOf L O ≡ gives true
+unfolding SameVarblocks
 like-joined L N O e f =
-    let t = tests L N true e in
-    let u = tests N O true f in
-    says L O true (t .0) (u .1) (alike-lent L O .1 (lent-joined L N O (alike-lent L N .0 (t .2)) (alike-lent N O .0 (u .2))))
+    let t = like-yes L N .0 e in
+    let u = like-yes N O .0 f in
+    let a = t .2 in let b = u .2 in
+    like-yes L O .1 (t .0, u .1, record { varblocks = λ v. ((λ h. b .varblocks v .0 (a .varblocks v .0 h)), (λ h. a .varblocks v .1 (b .varblocks v .1 h))); sigma = a .sigma ∙ b .sigma })
 
 -- Layouts without blocks: alike whatever their sides, and like no other (document 02, No. 2).
 module _ (L N : FilteredLayout) (s : Sound L) (t : Sound N) (e : Empty (L .layout .bw) (L .layout .bh)) where

@@ -9,6 +9,7 @@ use lib.Dec.{eqb}
 use lib.ListN.{length, take, drop, length-append, length-take}
 use lib.Seq.{take-nil, drop-nil}
 use Rattle.laws.specs.laws.Cases.{eq-or-ne}
+use Rattle.laws.specs.laws.Lists.{no-elements}
 use Rattle.lister_job.specs.Job.{hasSize, isJob, needed, readBy, read, Same}
 use Rattle.lister_job.specs.laws.Needed.{needed-none, needed-job, needed-fits}
 use Rattle.lister_job.specs.laws.Reading.{read-stops, read-goes, seam}
@@ -40,10 +41,6 @@ read-none (suc n) s = rw (take-nil {A = ℕ} (needed s), drop-nil {A = ℕ} (nee
     same true = refl
     same false = refl
 
-no-bytes : (u : List ℕ) → length u ≡ 0 → u ≡ []
-no-bytes [] e = refl
-no-bytes (x ∷ u) e = absurd (omega arith)
-
 read-rest : (n : ℕ) (s u : List ℕ) → length s ≤ 36870 → 36870 ≤ length s + n → textOf (readBy n s u) ≡ textOf (s ++ u)
 read-rest zero s u h l = let f = needed-fits s h in ap textOf (read-stops zero s u (omega arith)) ∙ sym (text-decided s u (omega arith))
 read-rest (suc n) s u h l = go (eq-or-ne (needed s) 0) (eq-or-ne (length u) 0) (read-rest n (s ++ take (needed s) u) (drop (needed s) u))
@@ -55,7 +52,7 @@ read-rest (suc n) s u h l = go (eq-or-ne (needed s) 0) (eq-or-ne (length u) 0) (
         → (length (s ++ take (needed s) u) ≤ 36870 → 36870 ≤ length (s ++ take (needed s) u) + n → textOf (readBy n (s ++ take (needed s) u) (drop (needed s) u)) ≡ textOf ((s ++ take (needed s) u) ++ drop (needed s) u))
         → textOf (readBy (suc n) s u) ≡ textOf (s ++ u)
     go (inl z) e r = ap textOf (read-stops (suc n) s u z) ∙ sym (text-decided s u z)
-    go (inr z) (inl e) r = rw (no-bytes u e) (ap textOf (read-none (suc n) s ∙ sym (append-nil s)))
+    go (inr z) (inl e) r = rw (no-elements u e) (ap textOf (read-none (suc n) s ∙ sym (append-nil s)))
     go (inr z) (inr e) r =
         let f = needed-fits s h in
         ap textOf (read-goes n s u (omega arith)) ∙ r (omega (arith, grown)) (omega (arith, grown)) ∙ ap textOf (seam s u (needed s))

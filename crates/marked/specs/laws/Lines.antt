@@ -6,13 +6,13 @@ use Rattle.text.specs.Text.{digitsOf}
 use Rattle.lister_job.specs.Job.{countFrom}
 use Rattle.lister.specs.Texts.{BAD-INPUT, linesOf}
 use Rattle.lister.specs.Listing.{textOf}
-use Rattle.marked.specs.Lines.{job, lines, strip, stripWithColumn, tooHigh, stripLines}
+use Rattle.marked.specs.Lines.{job, lines, stripJob, stripJobWithColumn, tooHigh, stripLines}
 
 pub five-lines : textOf job ≡ lines
 unfolding textOf countFrom linesOf digitsOf area cornersRow cornersFrom layout-computes
 five-lines = refl
 
-pub strip-lines : (textOf strip ≡ stripLines) × (textOf stripWithColumn ≡ stripLines)
+pub strip-lines : (textOf stripJob ≡ stripLines) × (textOf stripJobWithColumn ≡ stripLines)
 unfolding textOf countFrom linesOf digitsOf area cornersRow cornersFrom layout-computes
 strip-lines = (refl, refl)
 

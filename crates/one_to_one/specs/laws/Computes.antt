@@ -17,7 +17,7 @@ use Rattle.layout.specs.RowByRow.{alongRow, rows}
 use Rattle.layout.specs.Varblocks.{cornersRow, cornersFrom}
 use Rattle.laws.specs.Lists.{fillFrom}
 use Rattle.layout.specs.Grid.{rowOf, gridFrom}
-use Rattle.layout.specs.Cut.{cut, groupPlace}
+use Rattle.layout.specs.Cut.{cut, groupXY}
 use Rattle.layout.specs.Check.{clear, fitting, visitCell, checkRun}
 use Rattle.layout_sizes.specs.Blocks.{bwIn, bhIn}
 use Rattle.lent_sides.specs.Limits.{inLimits, lengthsFit}
@@ -35,7 +35,7 @@ use Rattle.coeff_group.specs.Sequence.{inCell, theSequence}
 use Rattle.coeff_walk.specs.Sent.{nonZeros, upTo, sent}
 
 unfoldable pub cut-computes : Bool
-unfolding cutCheck inLimits lengthsFit bwIn bhIn groupPlace checkRun rows alongRow visitCell fitting clear wide high TRANSFORMS fillFrom cut gridFrom rowOf
+unfolding cutCheck inLimits lengthsFit bwIn bhIn groupXY checkRun rows alongRow visitCell fitting clear wide high TRANSFORMS fillFrom cut gridFrom rowOf
 cut-computes = true
 
 unfoldable pub bits-compute : Bool

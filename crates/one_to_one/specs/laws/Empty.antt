@@ -17,15 +17,15 @@ use Rattle.lent_check.specs.GroupSides.{groupSides}
 use Rattle.lent_cut.specs.laws.Theorems.{cut-some}
 use Rattle.order_store.specs.Store.{PLACES}
 use Rattle.context_call.specs.Call.{contextsOf}
-use Rattle.coeff_group.specs.Group.{PerChannel, Reading, going, readGroup, zeroRows}
-use Rattle.coeff_group.specs.PassGroup.{PassGroup, varblocks, itemsOf}
+use Rattle.coeff_group.specs.Group.{PerChannel, going, readGroup, zeroRows}
+use Rattle.coeff_group.specs.PassGroup.{varblocks, itemsOf}
 use Rattle.coeff_group.specs.Sequence.{theSequence}
 use Rattle.coeff_walk.specs.Sent.{Words, sent}
 use Rattle.coeff_preset.specs.Preset.{presetOf}
 use Rattle.coeff_call.specs.Call.{Lent, allLengthsFit, beforeWork, presetBits, reading, outcomeOf, refuse, call}
 use Rattle.one_to_one.specs.Filling.{Fixed, Filling, Fills, Given, untouched}
 use Rattle.one_to_one.specs.Plain.{store}
-use Rattle.one_to_one.specs.Witness.{strip}
+use Rattle.one_to_one.specs.Witness.{stripGroup}
 use Rattle.one_to_one.specs.laws.Demand3.{one-sequence}
 use Rattle.one_to_one.specs.laws.OverCall.{start-sized}
 use Rattle.one_to_one.specs.laws.Computes.{bits-compute, cells-below}
@@ -72,11 +72,11 @@ cut-not-empty L given e =
     no-cell (L .passGroup .bw) (L .passGroup .bh) 0 0 e (s .0) (s .1)
 
 -- The premises can be met by a group without blocks: those of `Fixed`, and so the theorems that ask for them.
-lengths-fit : allLengthsFit strip ≡ true
+lengths-fit : allLengthsFit stripGroup ≡ true
 unfolding contextsOf
 lengths-fit = rw (eq-eqb (length store) (2 * PLACES) store-long)
 
-pub strip-fixed : Fixed strip
+pub strip-fixed : Fixed stripGroup
 unfolding bits-compute inLimits
 strip-fixed = record {
   sides = refl;
@@ -91,14 +91,14 @@ strip-fixed = record {
     below = omega arith;
     lengths = lengths-fit;
     three = refl;
-    words = cells-below (strip .grids) tt;
+    words = cells-below (stripGroup .grids) tt;
     shift = refl;
   };
 }
 
 -- no symbols fill it, as it is
-strip-filling : Filling strip (strip .grids)
-strip-filling = record { sized = start-sized strip strip-fixed; words = strip-fixed .rest .words; low = λ c p h l. refl }
+strip-filling : Filling stripGroup (stripGroup .grids)
+strip-filling = record { sized = start-sized stripGroup strip-fixed; words = strip-fixed .rest .words; low = λ c p h l. refl }
 
-pub strip-filled : (s : List ℕ) → Words s → Fills strip s (strip .grids) ↔ (s ≡ [])
-strip-filled = one-empty strip (inl refl) strip-fixed (strip .grids) strip-filling
+pub strip-filled : (s : List ℕ) → Words s → Fills stripGroup s (stripGroup .grids) ↔ (s ≡ [])
+strip-filled = one-empty stripGroup (inl refl) strip-fixed (stripGroup .grids) strip-filling

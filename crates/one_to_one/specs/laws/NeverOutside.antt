@@ -172,7 +172,7 @@ module _ (L : Lent) (passed : Passed L) (preset : ℕ) (below : preset < L .pres
   rows-small (suc (suc zero)) h = zeros-small 32
   rows-small (suc (suc (suc c))) h = absurd (omega arith)
 
-  -- of a group that has a block: without blocks nothing is read, whatever grids are lent
+  -- of a group that has a block: its grids are there, since they are not empty. Without blocks the lengths do not tell that, and nothing is read.
   start : (1 ≤ P .bw) × (1 ≤ P .bh) → Sane 32 (64 * blocks P) (symbolsIn (itemsOf P (varblocks P))) 0 (L .log) (L .grids) zeroRows
   start some =
       let k = lengths-fit L (passed .lengths) in

@@ -6,6 +6,7 @@ use Prim.Native.Nat.{ℕ, zero, suc, _+_, _^_, _<_}
 use native.Mathlib.Omega.{arith}
 use lib.ListN.{length, take, drop, length-map, length-append}
 use lib.Seq.{sets, take-at, drop-at}
+use Rattle.laws.specs.laws.Lists.{no-elements}
 use Rattle.coded_numbers.specs.laws.Signed.{symbol-lt}
 use Rattle.coded_numbers.specs.Signed.{symbol}
 use Rattle.coeff_walk.specs.Walk.{less}
@@ -93,10 +94,6 @@ sequence-words (it ∷ its) G W f =
     let w = map-words (λ (p : ℕ). symbol (inCell W (it .channel) p) (inCell G (it .channel) p)) (λ p. symbol-lt (inCell W (it .channel) p) (inCell G (it .channel) p)) (it .cells) in
     (omega (arith, nonZeros-le ds, length-map (it .cells) (λ (p : ℕ). symbol (inCell W (it .channel) p) (inCell G (it .channel) p)), f it (here refl)), words-both (upTo (nonZeros ds) ds) (sent (map (changes G W) its)) (upTo-words (nonZeros ds) ds w) (sequence-words its G W (λ t i. f t (there i))))
 
-none : (l : List ℕ) → length l ≡ 0 → l ≡ []
-none [] e = refl
-none (x ∷ l) e = absurd (omega arith)
-
 module _ (clusters : ℕ) (presetMap : List ℕ) (its : List Item) (G W : PerChannel) (fillable : Fillable its G W) (log : List ℕ) (rows : PerChannel) where
   abbrev dss : List (List ℕ)
   dss = map (changes G W) its
@@ -144,7 +141,7 @@ module _ (clusters : ℕ) (presetMap : List ℕ) (its : List Item) (G W : PerCha
           joined-only its ess dss long (changes-long G W its)
           (only-symbols G (readCells its) (joined ess) (fillable .distinct) (fillable .fit) (t .words h) (long-joined its ess long)
           ∙ ap (λ (X : PerChannel). map (change G X) (readCells its)) g ∙ sym (changes-joined G W its)) in
-          t .rest ∙ rw (none us (omega (arith, t .read)), d) (append-nil (sent dss))
+          t .rest ∙ rw (no-elements us (omega (arith, t .read)), d) (append-nil (sent dss))
       go k l ess (run.stops why) long e t =
           let a = sym (ap (λ (x : Reading). outcomeOf x .answer) e) ∙ f .accepted in
           let z : _≡_ {A = ℕ} 0 1 = cc in absurd (omega arith)

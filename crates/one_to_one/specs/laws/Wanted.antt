@@ -1,44 +1,29 @@
 -- Laws: Whatever 32-bit numbers the cells that are not low-frequency are to hold (document 00, demand 3): there is a filling that has them, and only
 use mathlib.Core.Path.{_≡_, refl, ap, sym, _∙_}
-use mathlib.Core.Bool.{Bool, true, false, _||_}
+use mathlib.Core.Bool.{Bool, true, false}
 use mathlib.Core.Logic.{_↔_, _⊎_, inl, inr}
 use mathlib.Core.List.{List, [], _∷_}
-use Prim.Native.Nat.{ℕ, zero, suc, _+_, _*_, _/_, _%_, _^_, _<_, _≤_}
+use Prim.Native.Nat.{ℕ, zero, suc, _+_, _*_, _^_, _<_, _≤_}
 use native.Mathlib.Omega.{arith}
 use native.Mathlib.Decide.{decLt}
-use lib.Arith.{digits-div, digits-mod}
 use lib.ListN.{length, getD, List·getD-eq-default}
 use borrow.Author.Tests.{lt-ltb, le-leb, ltb-true, leb-true}
-use Rattle.laws.specs.laws.Cases.{and-true}
+use Rattle.laws.specs.laws.Cases.{and-true, or-true, or-either}
 use Rattle.dct_select.specs.Transforms.{wide, high}
-use Rattle.layout.specs.laws.Grid.{grid-length, grid-at, Cell, cell-at}
+use Rattle.layout.specs.laws.Grid.{place-row, place-col, grid-length, grid-at, Cell, cell-at}
 use Rattle.layout.specs.Varblocks.{Varblock}
 use Rattle.layout.specs.Listed.{Among, first, later}
 use Rattle.coeff_group.specs.Group.{PerChannel}
 use Rattle.coeff_group.specs.PassGroup.{PassGroup, varblocks}
 use Rattle.coeff_call.specs.Call.{Lent}
-use Rattle.one_to_one.specs.Filling.{gridLength, cellAt, Low, LowKept, lowIn, lowInSome, isLow, Sized, Fixed, Filling, asked, gridWanted, wanted, Fills, Fails}
+use Rattle.one_to_one.specs.Filling.{gridLength, cellNumber, Low, LowKept, lowIn, lowInSome, isLow, Sized, Fixed, Filling, asked, gridWanted, wanted, Fills, Fails}
 use Rattle.coeff_group.specs.laws.Cells.{same-shape}
 use Rattle.one_to_one.specs.laws.OverCall.{shapes, start-sized}
 use Rattle.one_to_one.specs.laws.Demand3.{one-sequence, every-other}
 use Rattle.coeff_group.specs.Sequence.{inCell, theSequence}
 use Rattle.coeff_walk.specs.Sent.{Words}
 
--- two cells of a grid that are one
-same-cell : (w x y x′ y′ : ℕ) → x < w → x′ < w → y * w + x ≡ y′ * w + x′ → (x ≡ x′) × (y ≡ y′)
-same-cell w x y x′ y′ h h′ e =
-    (sym (digits-mod y h) ∙ ap (λ (n : ℕ). n % w) e ∙ digits-mod y′ h′, sym (digits-div y h) ∙ ap (λ (n : ℕ). n / w) e ∙ digits-div y′ h′)
-
 -- The test is what it says.
-or-true : (a b : Bool) → a || b ≡ true → (a ≡ true) ⊎ (b ≡ true)
-or-true true b e = inl refl
-or-true false b e = inr e
-
-or-either : (a b : Bool) → (a ≡ true) ⊎ (b ≡ true) → a || b ≡ true
-or-either true b h = refl
-or-either false b (inl e) = absurd (let z : _≡_ {A = ℕ} 0 1 = cc in omega arith)
-or-either false b (inr e) = e
-
 -- in the corner of v
 record In (x y : ℕ) (v : Varblock) : Type 0 where
   fromX : 8 * v .x ≤ x
@@ -81,7 +66,7 @@ module _ (x y : ℕ) where
   some-in (u ∷ vs) v (later i) h = or-either (lowIn x y u) (lowInSome x y vs) (inr (some-in vs v i h))
 
 -- of the cell p at (x, y)
-module _ (P : PassGroup) (p x y : ℕ) (inX : x < 8 * P .bw) (place : p ≡ cellAt P x y) where
+module _ (P : PassGroup) (p x y : ℕ) (inX : x < 8 * P .bw) (place : p ≡ cellNumber P x y) where
   pub is-low : isLow P x y ≡ true → Low P p
   unfolding isLow
   is-low e =
@@ -92,8 +77,10 @@ module _ (P : PassGroup) (p x y : ℕ) (inX : x < 8 * P .bw) (place : p ≡ cell
   pub low-is : Low P p → isLow P x y ≡ true
   unfolding isLow
   low-is l =
-      let s = same-cell (8 * P .bw) (l .x) (l .y) x y (l .inX) inX (sym (l .place) ∙ place) in
-      some-in x y (varblocks P) (l .of) (l .there) (rw (← (s .0), ← (s .1)) (record { fromX = l .fromX; toX = l .toX; fromY = l .fromY; toY = l .toY }))
+      let e = sym (l .place) ∙ place in
+      let ex = place-col (8 * P .bw) x y (l .x) (l .y) inX (l .inX) e in
+      let ey = place-row (8 * P .bw) x y (l .x) (l .y) inX (l .inX) e in
+      some-in x y (varblocks P) (l .of) (l .there) (rw (← ex, ← ey) (record { fromX = l .fromX; toX = l .toX; fromY = l .fromY; toY = l .toY }))
 
 -- The grids wanted.
 module _ (L : Lent) (f : ℕ → ℕ → ℕ) where
@@ -158,8 +145,8 @@ module _ (L : Lent) (fixed : Fixed L) (f : ℕ → ℕ → ℕ) (words : (c p : 
   small c p = go (decLt c 3) (decLt p (gridLength (L .passGroup)))
     where
       by : (x y : ℕ) (b : Bool) → isLow (L .passGroup) x y ≡ b → asked L f c x y < 2 ^ 32
-      by x y true e = rw e (fixed .rest .words c (cellAt (L .passGroup) x y))
-      by x y false e = rw e (words c (cellAt (L .passGroup) x y))
+      by x y true e = rw e (fixed .rest .words c (cellNumber (L .passGroup) x y))
+      by x y false e = rw e (words c (cellNumber (L .passGroup) x y))
 
       go : Dec (c < 3) → Dec (p < gridLength (L .passGroup)) → inCell (wanted L f) c p < 2 ^ 32
       go (yes a) (yes b) = let k = cell-of L f p b in rw (cell-is L f c p a k) (by (k .x) (k .y) (isLow (L .passGroup) (k .x) (k .y)) refl)
