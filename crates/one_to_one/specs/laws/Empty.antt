@@ -7,7 +7,8 @@ use Prim.Native.Nat.{ℕ, _*_}
 use native.Mathlib.Omega.{arith}
 use lib.ListN.{length}
 use borrow.Author.Tests.{eq-eqb}
-use Rattle.refusal.specs.Answer.{Answer, gives, refuses, answeredBy}
+use Rattle.refusal.specs.Said.{saidAt}
+use Rattle.refusal.specs.Answer.{Answer, gives, refuses, answeredBy, passed}
 use Rattle.layout.specs.Empty.{Empty}
 use Rattle.layout.specs.laws.Empty.{no-varblocks, no-cell, empty-layout}
 use Rattle.layout_call.specs.Call.{layoutOf}
@@ -22,14 +23,17 @@ use Rattle.coeff_group.specs.PassGroup.{varblocks, itemsOf}
 use Rattle.coeff_group.specs.Sequence.{theSequence}
 use Rattle.coeff_walk.specs.Sent.{Words, sent}
 use Rattle.coeff_preset.specs.Preset.{presetOf}
+use Rattle.layout.specs.laws.Theorems.{layout-check}
+use Rattle.coeff_checks.specs.Checks.{parametersFit}
+use Rattle.coeff_call.specs.laws.CallLaws.{checks-pass, call-bits, call-preset}
 use Rattle.coeff_call.specs.Call.{Lent, allLengthsFit, beforeWork, presetBits, reading, outcomeOf, refuse, call}
 use Rattle.one_to_one.specs.Filling.{Fixed, Filling, Fills, Given, untouched}
 use Rattle.one_to_one.specs.Plain.{store}
-use Rattle.one_to_one.specs.Witness.{stripGroup}
+use Rattle.one_to_one.specs.Witness.{stripOf, stripGroup}
 use Rattle.one_to_one.specs.laws.Demand3.{one-sequence}
 use Rattle.one_to_one.specs.laws.OverCall.{start-sized}
 use Rattle.one_to_one.specs.laws.Computes.{bits-compute, cells-below}
-use Rattle.one_to_one.specs.laws.Plain.{store-long, store-wrote}
+use Rattle.one_to_one.specs.laws.Plain.{store-long, store-fits, store-wrote}
 use Rattle.one_to_one.specs.laws.Witness.{fixed}
 
 module _ (L : Lent) (e : Empty (L .passGroup .bw) (L .passGroup .bh)) where
@@ -102,3 +106,24 @@ strip-filling = record { sized = start-sized stripGroup strip-fixed; words = str
 
 pub strip-filled : (s : List ℕ) → Words s → Fills stripGroup s (stripGroup .grids) ↔ (s ≡ [])
 strip-filled = one-empty stripGroup (inl refl) strip-fixed (stripGroup .grids) strip-filling
+
+-- Its preset is judged: of two presets with no bytes it is 3, of none 14, and nothing is written.
+module _ (presets : ℕ) (few : parametersFit 0 presets ≡ true) (lengths : allLengthsFit (stripOf presets) ≡ true) where
+  strip-passes : beforeWork (stripOf presets) ≡ passed
+  unfolding inLimits
+  strip-passes = checks-pass (stripOf presets) (record {
+    sides = refl;
+    parameters = few;
+    contexts = fixed .contexts;
+    lengths = lengths;
+    layout = layout-check 0 2 [] [] (empty-layout 0 2 (inl refl));
+    places = store-fits;
+  })
+
+pub strip-bits-end : call (stripOf 2) ≡ refuse (stripOf 2) (saidAt 3 0 0)
+unfolding bits-compute contextsOf
+strip-bits-end = call-bits (stripOf 2) (strip-passes 2 refl (rw (eq-eqb (length store) (2 * PLACES) store-long))) 0 refl
+
+pub strip-no-preset : call (stripOf 0) ≡ refuse (stripOf 0) (saidAt 14 0 0)
+unfolding bits-compute contextsOf
+strip-no-preset = call-preset (stripOf 0) (strip-passes 0 refl (rw (eq-eqb (length store) (2 * PLACES) store-long))) 0 0 refl (omega arith)
