@@ -23,7 +23,7 @@ use Rattle.lent_sides.specs.laws.Limits.{lengths-fit}
 use Rattle.lent_check.specs.GroupSides.{groupSides}
 use Rattle.lent_cut.specs.Calls.{Outcome, outcome, cutCheck, cutBy, cutOf}
 use Rattle.lent_check.specs.laws.Theorems.{checks}
-use Rattle.lent_cut.specs.laws.CutSteps.{Passed, passed, cut-size, cut-index, cut-done, cut-refused}
+use Rattle.lent_cut.specs.laws.CutSteps.{Passed, passed, cutDone, cut-size, cut-index, cut-done, cut-refused}
 
 -- The cut.
 module _ (bw bh : ℕ) (kinds hfMul : List ℕ) (g : ℕ) (outKinds outHfMul : List ℕ) where
@@ -42,44 +42,39 @@ module _ (bw bh : ℕ) (kinds hfMul : List ℕ) (g : ℕ) (outKinds outHfMul : L
       go true true true true true f z = let y : _≡_ {A = ℕ} 0 18 = z in omega arith
       go true true true true false f z = let y : _≡_ {A = ℕ} 0 1 = cc in omega arith
 
-  -- what an accepted cut wrote is a group that the check passes
+  -- an accepted cut has passed its checks, and hands back the sides of the group that it wrote
+  accepted : (r : GroupSides) → (cutOf bw bh kinds hfMul g outKinds outHfMul) .answer ≡ gives r
+      → Passed bw bh kinds hfMul g (length outKinds) (length outHfMul) × (cutOf bw bh kinds hfMul g outKinds outHfMul ≡ cutDone bw bh kinds hfMul g) × (groupSides (groupBw bw g) (groupBh bw bh g) ≡ r)
+  accepted r e = go (cutCheck bw bh kinds hfMul g (length outKinds) (length outHfMul)) refl
+    where
+      go : (a : Answer Unit) → cutCheck bw bh kinds hfMul g (length outKinds) (length outHfMul) ≡ a
+          → Passed bw bh kinds hfMul g (length outKinds) (length outHfMul) × (cutOf bw bh kinds hfMul g outKinds outHfMul ≡ cutDone bw bh kinds hfMul g) × (groupSides (groupBw bw g) (groupBh bw bh g) ≡ r)
+      go (refuses s) c = absurd (let d : refuses s ≡ gives r = ap (λ (o : Outcome). o .answer) (sym (cut-refused bw bh kinds hfMul g outKinds outHfMul s c)) ∙ e in let z : _≡_ {A = ℕ} 0 1 = cc in omega arith)
+      go (gives t) c =
+          let d = cut-done bw bh kinds hfMul g outKinds outHfMul c in
+          let q : gives (groupSides (groupBw bw g) (groupBh bw bh g)) ≡ gives r = ap (λ (o : Outcome). o .answer) (sym d) ∙ e in
+          (passed bw bh kinds hfMul g (length outKinds) (length outHfMul) c, d, cc)
+
+  -- what it wrote is a group that the check passes
   pub cut-checks : (r : GroupSides) → (cutOf bw bh kinds hfMul g outKinds outHfMul) .answer ≡ gives r
       → checkOf 32 (r .bw) (r .bh) ((cutOf bw bh kinds hfMul g outKinds outHfMul) .kinds) ((cutOf bw bh kinds hfMul g outKinds outHfMul) .hfMul) ≡ gives tt
-  cut-checks r e = go (cutCheck bw bh kinds hfMul g (length outKinds) (length outHfMul)) refl
+  cut-checks r e = let a = accepted r e in rw (← (a .2), a .1) (written (a .0))
     where
-      O : Outcome
-      O = cutOf bw bh kinds hfMul g outKinds outHfMul
-
       written : Passed bw bh kinds hfMul g (length outKinds) (length outHfMul) → checkOf 32 (groupBw bw g) (groupBh bw bh g) (cut bw bh g kinds) (cut bw bh g hfMul) ≡ gives tt
       written p =
           let l = lengths-fit bw bh (length kinds) (length hfMul) (p .lent) in
           let ok = layout-iff bw bh kinds hfMul (l .0) (l .1) .0 (p .layout) in
           let x = starts-x bw bh g (p .index) in
           let y = starts-y bw bh g (p .index) in
-          checks 32 (groupBw bw g) (groupBh bw bh g) (cut bw bh g kinds) (cut bw bh g hfMul)
-          (record { bwTo = omega arith; bhTo = omega arith }) (cut-layout bw bh g kinds hfMul ok)
-
-      go : (a : Answer Unit) → cutCheck bw bh kinds hfMul g (length outKinds) (length outHfMul) ≡ a → checkOf 32 (r .bw) (r .bh) (O .kinds) (O .hfMul) ≡ gives tt
-      go (refuses s) c = absurd (let d : refuses s ≡ gives r = ap (λ (o : Outcome). o .answer) (sym (cut-refused bw bh kinds hfMul g outKinds outHfMul s c)) ∙ e in let z : _≡_ {A = ℕ} 0 1 = cc in omega arith)
-      go (gives t) c =
-          let d = cut-done bw bh kinds hfMul g outKinds outHfMul c in
-          let q : gives (groupSides (groupBw bw g) (groupBh bw bh g)) ≡ gives r = ap (λ (o : Outcome). o .answer) (sym d) ∙ e in
-          let k : groupSides (groupBw bw g) (groupBh bw bh g) ≡ r = cc in
-          rw (← k, d) (written (passed bw bh kinds hfMul g (length outKinds) (length outHfMul) c))
+          checks 32 (groupBw bw g) (groupBh bw bh g) (cut bw bh g kinds) (cut bw bh g hfMul) (record { bwTo = omega arith; bhTo = omega arith }) (cut-layout bw bh g kinds hfMul ok)
 
   -- and has a block at least, so that no cut hands back a group without blocks (document 02, No. 2)
   pub cut-some : (r : GroupSides) → (cutOf bw bh kinds hfMul g outKinds outHfMul) .answer ≡ gives r → (1 ≤ r .bw) × (1 ≤ r .bh)
-  cut-some r e = go (cutCheck bw bh kinds hfMul g (length outKinds) (length outHfMul)) refl
-    where
-      go : (a : Answer Unit) → cutCheck bw bh kinds hfMul g (length outKinds) (length outHfMul) ≡ a → (1 ≤ r .bw) × (1 ≤ r .bh)
-      go (refuses s) c = absurd (let d : refuses s ≡ gives r = ap (λ (o : Outcome). o .answer) (sym (cut-refused bw bh kinds hfMul g outKinds outHfMul s c)) ∙ e in let z : _≡_ {A = ℕ} 0 1 = cc in omega arith)
-      go (gives t) c =
-          let d : gives (groupSides (groupBw bw g) (groupBh bw bh g)) ≡ gives r = ap (λ (o : Outcome). o .answer) (sym (cut-done bw bh kinds hfMul g outKinds outHfMul c)) ∙ e in
-          let k : groupSides (groupBw bw g) (groupBh bw bh g) ≡ r = cc in
-          let i = passed bw bh kinds hfMul g (length outKinds) (length outHfMul) c .index in
-          let x = starts-x bw bh g i in
-          let y = starts-y bw bh g i in
-          rw (← k) (omega arith, omega arith)
+  cut-some r e =
+      let a = accepted r e in
+      let x = starts-x bw bh g (a .0 .index) in
+      let y = starts-y bw bh g (a .0 .index) in
+      rw (← (a .2)) (omega arith, omega arith)
 
   -- every index of a layout without blocks is refused with 2, whatever else is lent, and nothing is written (document 02, No. 2)
   pub cut-empty : Empty bw bh → cutOf bw bh kinds hfMul g outKinds outHfMul ≡ outcome (refuses (saidAt 2 0 0)) outKinds outHfMul
