@@ -1,17 +1,19 @@
-// The natural order of a block size (`hf_pass.rs`).
+// The natural order of a block size, walked (`hf_pass.rs`). The lists have room behind the cells that are laid: a diagonal is
+// laid by eights, and what its last eight has beyond its end is laid over next.
+use order_copies::copy_twice;
 use order_sizes::block_size;
 ghost use mathlib.Core.Path.{_≡_};
 ghost use Prim.Native.Nat.{ℕ, _+_, _-_, _*_, _/_, _≤_, _<_};
 ghost use lib.ListN.{length};
-ghost use lib.Seq.{sets};
 ghost use Rattle.order_natural.specs.Places.{flat};
 ghost use Rattle.order_natural.specs.Natural.{rows, diagonal, square, keep, natural};
 ghost use Rattle.order_natural.specs.Order.{Size};
 ghost use Rattle.order_natural.specs.laws.Filling.{roomFor, filled};
+ghost use Rattle.order_natural.specs.laws.Laid.{Laid};
 ghost use Rattle.order_natural.specs.laws.Turns.{restOfRow};
 ghost use Rattle.order_natural.specs.laws.Slants.{multiples, ups, downs, near};
 
-// y / s; the constants spare a division for the ratios that the 13 sizes have.
+// y / s; the constants spare a division for the ratios that orders 7 to 12 have.
 fn quotient(y: usize, s: usize) -> usize
     requires { ⌜ 0 < s ⌝ }
     ensures { λ r. ⌜ r ≡ y / s ⌝ }
@@ -21,9 +23,6 @@ fn quotient(y: usize, s: usize) -> usize
     }
     if s == 2 {
         return y / 2;
-    }
-    if s == 4 {
-        return y / 4;
     }
     y / s
 }
@@ -42,6 +41,14 @@ fn multiples_below(u: usize, s: usize) -> usize
     quotient(u + (s - 1), s)
 }
 
+// The next multiple of 8.
+fn eights(n: usize) -> usize
+    requires { ⌜ n ≤ 1024 ⌝ }
+    ensures { λ r. ⌜ (n ≤ r) × (r ≤ n + 7) ⌝ }
+{
+    (n + 7) / 8 * 8
+}
+
 // x - s and x + s, where they are numbers; anything behind the last cell of a diagonal.
 fn less(x: u16, s: u16) -> u16
     ensures { λ r. ⌜ (s ≤ x → r ≡ x - s) ⌝ }
@@ -57,17 +64,18 @@ fn more(x: u16, s: u16) -> u16
 
 // Of the diagonal x + y = t the cells in n rows q * s, q upwards from `first`.
 fn put_up(list: &mut [u16], start: usize, t: u16, s: u16, first: u16, n: usize) -> usize
-    requires { ⌜ (start + 2 * n ≤ length (now list)) × (first + n ≤ 1024) × ((q : ℕ) → q < first + n → q * s ≤ t) ⌝ }
-    ensures { λ r. ⌜ (r ≡ start + 2 * n) × (now (list .exit) ≡ sets (now (list .entry)) start (flat (ups t s n first))) ⌝ }
+    requires { ⌜ (start + 2 * n + 14 ≤ length (now list)) × (first + n ≤ 1024) × ((q : ℕ) → q < first + n → q * s ≤ t) ⌝ }
+    ensures { λ r. ⌜ Laid (now (list .entry)) (now (list .exit)) start (flat (ups t s n first)) r ⌝ }
 {
     if n == 0 {
         return start;
     }
+    let m = eights(n);
     let mut at = start;
     let mut q = first;
     let mut x = t - q * s;
     let mut j = 0;
-    while j < n {
+    while j < m {
         list[at] = x;
         list[at + 1] = q;
         at += 2;
@@ -75,22 +83,23 @@ fn put_up(list: &mut [u16], start: usize, t: u16, s: u16, first: u16, n: usize) 
         x = less(x, s);
         j += 1;
     }
-    at
+    start + 2 * n
 }
 
 // The same downwards from below `end`.
 fn put_down(list: &mut [u16], start: usize, t: u16, s: u16, end: u16, n: usize) -> usize
-    requires { ⌜ (start + 2 * n ≤ length (now list)) × (n ≤ end) × (end ≤ 1024) × ((q : ℕ) → q < end → q * s ≤ t) ⌝ }
-    ensures { λ r. ⌜ (r ≡ start + 2 * n) × (now (list .exit) ≡ sets (now (list .entry)) start (flat (downs t s n end))) ⌝ }
+    requires { ⌜ (start + 2 * n + 14 ≤ length (now list)) × (n ≤ end) × (end ≤ 1024) × ((q : ℕ) → q < end → q * s ≤ t) ⌝ }
+    ensures { λ r. ⌜ Laid (now (list .entry)) (now (list .exit)) start (flat (downs t s n end)) r ⌝ }
 {
     if n == 0 {
         return start;
     }
+    let m = eights(n);
     let mut at = start;
     let mut row = end - 1;
     let mut x = t - row * s;
     let mut j = 0;
-    while j < n {
+    while j < m {
         list[at] = x;
         list[at + 1] = row;
         at += 2;
@@ -98,13 +107,13 @@ fn put_down(list: &mut [u16], start: usize, t: u16, s: u16, end: u16, n: usize) 
         x = more(x, s);
         j += 1;
     }
-    at
+    start + 2 * n
 }
 
 // A diagonal that crosses the corner: the rows on both sides of it.
 fn put_near(list: &mut [u16], start: usize, w: usize, s: usize, dist: usize) -> usize
-    requires { ⌜ (0 < s) × (s ≤ 256) × (0 < dist) × (w ≤ dist) × (dist < 512) × (start + length (flat (near w s dist)) ≤ length (now list)) ⌝ }
-    ensures { λ r. ⌜ (r ≡ start + length (flat (near w s dist))) × (now (list .exit) ≡ sets (now (list .entry)) start (flat (near w s dist))) ⌝ }
+    requires { ⌜ (0 < s) × (s ≤ 256) × (0 < dist) × (w ≤ dist) × (dist < 512) × (start + length (flat (near w s dist)) + 14 ≤ length (now list)) ⌝ }
+    ensures { λ r. ⌜ Laid (now (list .entry)) (now (list .exit)) start (flat (near w s dist)) r ⌝ }
 {
     let rest = multiples_below(dist - w, s);
     let lowest = multiples_below(w, s);
@@ -122,8 +131,8 @@ fn put_near(list: &mut [u16], start: usize, w: usize, s: usize, dist: usize) -> 
 
 // A diagonal that passes the corner: all its rows.
 fn put_far(list: &mut [u16], start: usize, w: usize, s: usize, b: usize, dist: usize) -> usize
-    requires { ⌜ (0 < s) × (s ≤ 256) × (2 * w ≤ dist) × (0 < dist) × (dist < 512) × (dist ≤ 2 * b) × (start + length (flat (keep w s (diagonal b dist))) ≤ length (now list)) ⌝ }
-    ensures { λ r. ⌜ (r ≡ start + length (flat (keep w s (diagonal b dist)))) × (now (list .exit) ≡ sets (now (list .entry)) start (flat (keep w s (diagonal b dist)))) ⌝ }
+    requires { ⌜ (0 < s) × (s ≤ 256) × (2 * w ≤ dist) × (0 < dist) × (dist < 512) × (dist ≤ 2 * b) × (start + length (flat (keep w s (diagonal b dist))) + 14 ≤ length (now list)) ⌝ }
+    ensures { λ r. ⌜ Laid (now (list .entry)) (now (list .exit)) start (flat (keep w s (diagonal b dist))) r ⌝ }
 {
     let m = margin(dist, b);
     let lowest = multiples_below(m, s);
@@ -138,8 +147,8 @@ fn put_far(list: &mut [u16], start: usize, w: usize, s: usize, b: usize, dist: u
 
 // A diagonal: in the corner there is nothing to write, and outside there is a place for each row divisible by s.
 fn put_diagonal(list: &mut [u16], start: usize, w: usize, s: usize, b: usize, dist: usize) -> usize
-    requires { ⌜ (0 < s) × (s ≤ 256) × (0 < w) × (2 * w ≤ b) × (b ≤ 256) × (0 < dist) × (dist < 512) × (dist ≤ 2 * b) × (start + length (flat (keep w s (diagonal b dist))) ≤ length (now list)) ⌝ }
-    ensures { λ r. ⌜ (r ≡ start + length (flat (keep w s (diagonal b dist)))) × (now (list .exit) ≡ sets (now (list .entry)) start (flat (keep w s (diagonal b dist)))) ⌝ }
+    requires { ⌜ (0 < s) × (s ≤ 256) × (0 < w) × (2 * w ≤ b) × (b ≤ 256) × (0 < dist) × (dist < 512) × (dist ≤ 2 * b) × (start + length (flat (keep w s (diagonal b dist))) + 14 ≤ length (now list)) ⌝ }
+    ensures { λ r. ⌜ Laid (now (list .entry)) (now (list .exit)) start (flat (keep w s (diagonal b dist))) r ⌝ }
 {
     if dist <= w {
         return start;
@@ -151,8 +160,8 @@ fn put_diagonal(list: &mut [u16], start: usize, w: usize, s: usize, b: usize, di
 }
 
 fn put_square(list: &mut [u16], start: usize, w: usize, s: usize, b: usize) -> usize
-    requires { ⌜ (0 < s) × (s ≤ 256) × (0 < w) × (2 * w ≤ b) × (b ≤ 256) × (start + length (flat (keep w s (square b))) ≤ length (now list)) ⌝ }
-    ensures { λ r. ⌜ (r ≡ start + length (flat (keep w s (square b)))) × (now (list .exit) ≡ sets (now (list .entry)) start (flat (keep w s (square b)))) ⌝ }
+    requires { ⌜ (0 < s) × (s ≤ 256) × (0 < w) × (2 * w ≤ b) × (b ≤ 256) × (start + length (flat (keep w s (square b))) + 14 ≤ length (now list)) ⌝ }
+    ensures { λ r. ⌜ Laid (now (list .entry)) (now (list .exit)) start (flat (keep w s (square b))) r ⌝ }
 {
     let mut at = start;
     let mut dist = 1;
@@ -166,7 +175,7 @@ fn put_square(list: &mut [u16], start: usize, w: usize, s: usize, b: usize) -> u
 
 fn put_row(list: &mut [u16], start: usize, w: usize, y: usize) -> usize
     requires { ⌜ (w < 512) × (y < 512) × (start + length (restOfRow w y 0) ≤ length (now list)) ⌝ }
-    ensures { λ r. ⌜ (r ≡ start + length (restOfRow w y 0)) × (now (list .exit) ≡ sets (now (list .entry)) start (restOfRow w y 0)) ⌝ }
+    ensures { λ r. ⌜ Laid (now (list .entry)) (now (list .exit)) start (restOfRow w y 0) r ⌝ }
 {
     let mut at = start;
     let mut x = 0;
@@ -181,7 +190,7 @@ fn put_row(list: &mut [u16], start: usize, w: usize, y: usize) -> usize
 
 fn put_corner(list: &mut [u16], start: usize, w: usize, h: usize) -> usize
     requires { ⌜ (w < 512) × (h < 512) × (start + length (flat (rows w h)) ≤ length (now list)) ⌝ }
-    ensures { λ r. ⌜ (r ≡ start + length (flat (rows w h))) × (now (list .exit) ≡ sets (now (list .entry)) start (flat (rows w h))) ⌝ }
+    ensures { λ r. ⌜ Laid (now (list .entry)) (now (list .exit)) start (flat (rows w h)) r ⌝ }
 {
     let mut at = start;
     let mut y = 0;
@@ -193,8 +202,8 @@ fn put_corner(list: &mut [u16], start: usize, w: usize, h: usize) -> usize
 }
 
 fn put_natural(list: &mut [u16], width: usize, height: usize)
-    requires { ⌜ (Size width height) × (width ≤ 256) × (length (now list) ≡ 2 * (width * height)) ⌝ }
-    ensures { λ r. ⌜ now (list .exit) ≡ flat (natural width height) ⌝ }
+    requires { ⌜ (Size width height) × (width ≤ 256) × (2 * (width * height) + 14 ≤ length (now list)) ⌝ }
+    ensures { λ r. ⌜ Laid (now (list .entry)) (now (list .exit)) 0 (flat (natural width height)) (2 * (width * height)) ⌝ }
 {
     let w = width / 8;
     let h = height / 8;
@@ -203,9 +212,10 @@ fn put_natural(list: &mut [u16], width: usize, height: usize)
     put_square(&mut list[..], at, w, s, width);
 }
 
-// The natural order of one of the 13 sizes; false, and nothing written, if there is no such order or the list is not as long.
-pub fn fill_natural_order(list: &mut [u16], order: usize) -> bool
-    ensures { λ r. ⌜ (r ≡ roomFor (now (list .entry)) order) × (now (list .exit) ≡ filled (now (list .entry)) order) ⌝ }
+// The natural order of one of the 13 sizes, in each of three lists; false, and nothing written, if there is no such order or
+// the lists are not as long.
+pub fn fill_natural_order(lists: &mut [u16], order: usize) -> bool
+    ensures { λ r. ⌜ (r ≡ roomFor (now (lists .entry)) order) × (now (lists .exit) ≡ filled (now (lists .entry)) order) ⌝ }
 {
     if 13 <= order {
         return false;
@@ -213,9 +223,10 @@ pub fn fill_natural_order(list: &mut [u16], order: usize) -> bool
     let size = block_size(order);
     let width = size.width;
     let height = size.height;
-    if list.len() != 2 * (width * height) {
+    if lists.len() != 3 * (2 * (width * height)) {
         return false;
     }
-    put_natural(&mut list[..], width, height);
+    put_natural(&mut lists[..], width, height);
+    copy_twice(&mut lists[..]);
     true
 }

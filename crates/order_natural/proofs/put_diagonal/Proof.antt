@@ -1,10 +1,10 @@
-use lib.Seq.{sets}
-use mathlib.Core.List.{List}
+use Rattle.order_natural.specs.Places.{flat}
+use Rattle.order_natural.specs.Natural.{diagonal, keep}
+use Rattle.order_natural.specs.laws.Laid.{laid-none}
 use Rattle.order_natural.specs.laws.Slants.{short-none, near-kept}
 use borrow.Author.Needs.{needs}
 use native.Mathlib.Omega.{arith}
-use mathlib.Core.Path.{_∙_, ap, sym}
-use Prim.Native.Nat.{ℕ, _-_, _+_}
+use mathlib.Core.Path.{ap}
 use lib.ListN.{length}
 use Rattle.order_natural.proofs.put_diagonal.Statement.{statement}
 use Rattle.order_natural.proofs.put_diagonal.Tie as tie
@@ -14,7 +14,7 @@ returns c =
     let a = c .before .before .args in
     let p = c .before .before .pre in
     let z = short-none (a .w) (a .s) (a .b) (a .dist) (p .0) (p .3) (p .2) (omega arith) in
-    (omega (arith, ap length z), rw z)
+    laid-none (a .list .now) (a .start) (flat (keep (a .w) (a .s) (diagonal (a .b) (a .dist)))) z
 
 put-near-requires : tie.Need-put-near-requires
 put-near-requires c κs =
@@ -28,7 +28,7 @@ returns-2 c =
     let a = c .before .before .before .before .before .before .before .args in
     let p = c .before .before .before .before .before .before .before .pre in
     let e = near-kept (a .w) (a .s) (a .b) (a .dist) (p .0) (p .3) (omega arith) (omega arith) in
-    (c .before .before .put-near .ensures .0 ∙ ap (λ (l : List ℕ). a .start + length l) (sym e), c .before .before .put-near .ensures .1 ∙ ap (λ (l : List ℕ). sets (a .list .now) (a .start) l) (sym e))
+    rw e (c .before .before .put-near .ensures)
 
 pub put-diagonal-spec : {M : Type 1} → statement M
 put-diagonal-spec =

@@ -1,9 +1,5 @@
 use borrow.Author.Needs.{needs}
 use native.Mathlib.Omega.{arith}
-use mathlib.Core.Path.{_∙_, ap, sym}
-use mathlib.Core.List.{List}
-use Prim.Native.Nat.{ℕ}
-use lib.Seq.{sets}
 use Rattle.order_natural.specs.laws.Slants.{Slant, slant}
 use Rattle.order_natural.proofs.put_far.Statement.{statement}
 use Rattle.order_natural.proofs.put_far.Tie as tie
@@ -20,7 +16,7 @@ put-up-requires c κs = let k = rows (c .before .before) in (omega (arith, c .be
 returns : tie.Need-returns
 returns c =
     let k = rows (c .before .before .before .before .before) in
-    (omega (arith, c .before .before .put-up .ensures .0, k .long), c .before .before .put-up .ensures .1 ∙ ap (λ (l : List ℕ). sets (c .before .before .before .before .before .before .before .before .before .args .list .now) (c .before .before .before .before .before .before .before .before .before .args .start) l) (sym (k .up (λ h. omega (arith, h, c .before .before .before .before .if1 .taken)))))
+    rw (k .up (λ h. omega (arith, h, c .before .before .before .before .if1 .taken))) (c .before .before .put-up .ensures)
 
 put-down-requires : tie.Need-put-down-requires
 put-down-requires c κs = let k = rows (c .before .before) in (omega (arith, c .before .before .before .before .before .before .pre .6, k .long), omega arith, omega (arith, k .most), k .rows)
@@ -28,7 +24,7 @@ put-down-requires c κs = let k = rows (c .before .before) in (omega (arith, c .
 returns-2 : tie.Need-returns-2
 returns-2 c =
     let k = rows (c .before .before .before .before .before) in
-    (omega (arith, c .before .before .put-down .ensures .0, k .long), c .before .before .put-down .ensures .1 ∙ ap (λ (l : List ℕ). sets (c .before .before .before .before .before .before .before .before .before .args .list .now) (c .before .before .before .before .before .before .before .before .before .args .start) l) (sym (k .down (omega (arith, c .before .before .before .before .if1 .left)))))
+    rw (k .down (omega (arith, c .before .before .before .before .if1 .left))) (c .before .before .put-down .ensures)
 
 pub put-far-spec : {M : Type 1} → statement M
 put-far-spec =

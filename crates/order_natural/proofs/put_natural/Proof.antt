@@ -1,14 +1,13 @@
 use native.Mathlib.Nat.{div-le-self}
-use Rattle.order_natural.specs.laws.Turns.{laid, natural-parts, natural-sum, natural-laid}
+use Rattle.order_natural.specs.laws.Laid.{Laid, laid-on}
+use Rattle.order_natural.specs.laws.Turns.{natural-parts, natural-sum, natural-numbers}
 use Rattle.order_natural.specs.laws.Sizes.{s-some, not-higher, width-eights}
 use Rattle.order_natural.specs.Natural.{rows, square, keep, natural}
 use Rattle.order_natural.specs.Places.{flat}
-use lib.Seq.{length-sets}
-use Prim.Native.Nat.{_/_, _-_}
+use Prim.Native.Nat.{_/_, _*_}
 use borrow.Author.Needs.{needs}
 use native.Mathlib.Omega.{arith}
-use mathlib.Core.Path.{_∙_, ap}
-use lib.ListN.{length}
+use mathlib.Core.Path.{_≡_}
 use Rattle.order_natural.proofs.put_natural.Statement.{statement}
 use Rattle.order_natural.proofs.put_natural.Tie as tie
 
@@ -31,7 +30,7 @@ put-square-requires c κs =
       omega (arith, pre .0 .width-some, width-eights (a .width) (a .height) (pre .0)),
       omega arith,
       omega arith,
-      omega (arith, r .ensures .0, ap length (r .ensures .1) ∙ length-sets (a .list .now) 0 (flat (rows (a .width / 8) (a .height / 8)))),
+      omega (arith, r .ensures .end, r .ensures .long),
     )
 
 returns : tie.Need-returns
@@ -42,8 +41,9 @@ returns c =
     let q = c .before .before .put-square in
     let corner = flat (rows (a .width / 8) (a .height / 8)) in
     let others = flat (keep (a .width / 8) (a .width / a .height) (square (a .width))) in
-    natural-laid (a .width) (a .height) (pre .0) (a .list .now) (q .last .0) (pre .2)
-    (q .ensures .1 ∙ laid (a .list .now) (r .last .0) 0 (r .result) corner others (flat (natural (a .width) (a .height))) (natural-parts (a .width) (a .height)) (r .ensures .0) (r .ensures .1))
+    let l : Laid (a .list .now) (q .last .0) 0 (flat (natural (a .width) (a .height))) (q .result) = laid-on (a .list .now) (r .last .0) (q .last .0) 0 (r .result) (q .result) corner others (flat (natural (a .width) (a .height))) (natural-parts (a .width) (a .height)) (r .ensures) (q .ensures) in
+    let e : q .result ≡ 2 * (a .width * a .height) = omega (arith, l .end, natural-numbers (a .width) (a .height) (pre .0)) in
+    rw e at l
 
 pub put-natural-spec : {M : Type 1} → statement M
 put-natural-spec =

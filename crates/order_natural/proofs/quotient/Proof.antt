@@ -6,4 +6,4 @@ use Rattle.order_natural.proofs.quotient.Tie as tie
 
 pub quotient-spec : {M : Type 1} → statement M
 quotient-spec =
-    tie.close (tie.spec (λ c. rw (c .if1 .taken) (omega arith)) (λ c. rw (c .if2 .taken)) (λ c. rw (c .if3 .taken)) (λ c. search needs) (λ c. search needs))
+    tie.close (tie.spec (λ c. rw (c .if1 .taken) (omega arith)) (λ c. rw (c .if2 .taken)) (λ c. search needs) (λ c. search needs))

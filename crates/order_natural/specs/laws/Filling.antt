@@ -1,7 +1,7 @@
--- What filling a lent list with a natural order answers and leaves (document 01, Orders), and the ways out of it.
-use mathlib.Core.Path.{_≡_}
+-- What filling three lent lists with a natural order answers and leaves (document 01, Orders), and the ways out of it.
+use mathlib.Core.Path.{_≡_, refl, sym, _∙_}
 use mathlib.Core.Bool.{true, false, Bool, cond, _&&_}
-use mathlib.Core.List.{List}
+use mathlib.Core.List.{List, _++_}
 use Prim.Native.Nat.{ℕ, _*_, _<_, _≤_}
 use lib.ListN.{length}
 use borrow.Author.Tests.{lt-ltb, le-ltb, eq-eqb, ne-eqb}
@@ -11,15 +11,25 @@ use Rattle.order_sizes.specs.laws.BlockSizes.{blockSize}
 use Rattle.order_natural.specs.Places.{flat}
 use Rattle.order_natural.specs.Natural.{natural}
 use Rattle.order_natural.specs.Order.{Size}
-use Rattle.order_natural.specs.laws.Sizes.{size-of, width-most, places-most}
+use Rattle.order_copies.specs.laws.Copies.{threeTimes, three-times}
+use Rattle.order_natural.specs.laws.Laid.{Laid}
+use Rattle.order_natural.specs.laws.Sizes.{size-of, width-most, places-most, places-least}
 use lib.Dec.{ltb, eqb}
 
--- one of the 13 orders, and a list of just as many places
+-- the three lists of an order
+unfoldable pub threeOf : ℕ → List ℕ
+threeOf k = let l = flat (natural (widthOf k) (heightOf k)) in l ++ (l ++ l)
+
+three-of : (k : ℕ) → let l = flat (natural (widthOf k) (heightOf k)) in l ++ (l ++ l) ≡ threeOf k
+unfolding threeOf
+three-of k = refl
+
+-- one of the 13 orders, and three lists of just as many places
 unfoldable pub roomFor : List ℕ → ℕ → Bool
-roomFor list order = ltb order 13 && eqb (length list) (2 * (widthOf order * heightOf order))
+roomFor lists order = ltb order 13 && eqb (length lists) (3 * (2 * (widthOf order * heightOf order)))
 
 unfoldable pub filled : List ℕ → ℕ → List ℕ
-filled list order = cond (roomFor list order) (flat (natural (widthOf order) (heightOf order))) list
+filled lists order = cond (roomFor lists order) (threeOf order) lists
 
 -- what the code knows of an order's sides
 pub record Sided (order : ℕ) (s : OrderSize) : Type 0 where
@@ -28,31 +38,43 @@ pub record Sided (order : ℕ) (s : OrderSize) : Type 0 where
   pub size : Size (s .width) (s .height)
   pub narrow : s .width ≤ 256
   pub small : s .width * s .height ≤ 65536
+  pub some : 64 ≤ s .width * s .height
 
 pub sided : (order : ℕ) (s : OrderSize) → s ≡ blockSize order → order < 13 → Sided order s
 sided order s e h =
-    record { width = rw e; height = rw e; size = rw e (size-of order h); narrow = rw e (width-most order h); small = rw e (places-most order h) }
+    record { width = rw e; height = rw e; size = rw e (size-of order h); narrow = rw e (width-most order h); small = rw e (places-most order h); some = rw e (places-least order h) }
 
-module _ (list : List ℕ) (order : ℕ) where
-  pub no-order : 13 ≤ order → (false ≡ roomFor list order) × (list ≡ filled list order)
+module _ (lists : List ℕ) (order : ℕ) where
+  pub no-order : 13 ≤ order → (false ≡ roomFor lists order) × (lists ≡ filled lists order)
   unfolding roomFor filled
   no-order h = (rw (le-ltb order 13 h), rw (le-ltb order 13 h))
 
   module _ (s : OrderSize) (e : s ≡ blockSize order) (h : order < 13) where
-    pub no-room : (length list ≡ 2 * (s .width * s .height) → ⊥) → (false ≡ roomFor list order) × (list ≡ filled list order)
-    unfolding roomFor filled
-    no-room n =
-        let n' : length list ≡ 2 * (widthOf order * heightOf order) → ⊥ = rw e at n in
-        (rw (lt-ltb order 13 h, ne-eqb (length list) (2 * (widthOf order * heightOf order)) n'), rw (lt-ltb order 13 h, ne-eqb (length list) (2 * (widthOf order * heightOf order)) n'))
+    abbrev n : ℕ
+    n = 3 * (2 * (widthOf order * heightOf order))
 
-    pub room : (m : List ℕ) → length list ≡ 2 * (s .width * s .height) → m ≡ flat (natural (s .width) (s .height)) → (true ≡ roomFor list order) × (m ≡ filled list order)
+    pub no-room : (length lists ≡ 3 * (2 * (s .width * s .height)) → ⊥) → (false ≡ roomFor lists order) × (lists ≡ filled lists order)
     unfolding roomFor filled
-    room m n f =
-        let n' : length list ≡ 2 * (widthOf order * heightOf order) = rw e at n in
-        let f' : m ≡ flat (natural (widthOf order) (heightOf order)) = rw e at f in
-        (rw (lt-ltb order 13 h, eq-eqb (length list) (2 * (widthOf order * heightOf order)) n'), rw (lt-ltb order 13 h, eq-eqb (length list) (2 * (widthOf order * heightOf order)) n') f')
+    no-room k =
+        let k' : length lists ≡ n → ⊥ = rw e at k in
+        (rw (lt-ltb order 13 h, ne-eqb (length lists) n k'), rw (lt-ltb order 13 h, ne-eqb (length lists) n k'))
 
--- a list of just as many places is filled
-pub room-for : (list : List ℕ) (order : ℕ) → order < 13 → length list ≡ 2 * (widthOf order * heightOf order) → filled list order ≡ flat (natural (widthOf order) (heightOf order))
+    has-room : length lists ≡ n → roomFor lists order ≡ true
+    unfolding roomFor
+    has-room k = rw (lt-ltb order 13 h, eq-eqb (length lists) n k)
+
+    is-filled : length lists ≡ n → filled lists order ≡ threeOf order
+    unfolding filled
+    is-filled k = rw (has-room k)
+
+    -- the first list laid, the others copied from it
+    pub room : (m m' : List ℕ) → length lists ≡ 3 * (2 * (s .width * s .height)) → Laid lists m 0 (flat (natural (s .width) (s .height))) (2 * (s .width * s .height)) → m' ≡ threeTimes m → (true ≡ roomFor lists order) × (m' ≡ filled lists order)
+    room m m' k l c =
+        let k' : length lists ≡ n = rw e at k in
+        let f : m' ≡ threeOf order = c ∙ three-times m (flat (natural (s .width) (s .height))) (2 * (s .width * s .height)) (l .long ∙ k) (l .front) ∙ rw e (three-of order) in
+        (sym (has-room k'), f ∙ sym (is-filled k'))
+
+-- three lists of just as many places are filled
+pub room-for : (lists : List ℕ) (order : ℕ) → order < 13 → length lists ≡ 3 * (2 * (widthOf order * heightOf order)) → filled lists order ≡ threeOf order
 unfolding roomFor filled
-room-for list order h n = rw (lt-ltb order 13 h, eq-eqb (length list) (2 * (widthOf order * heightOf order)) n)
+room-for lists order h n = rw (lt-ltb order 13 h, eq-eqb (length lists) (3 * (2 * (widthOf order * heightOf order))) n)

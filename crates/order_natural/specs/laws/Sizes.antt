@@ -52,6 +52,14 @@ pub places-most : (k : ℕ) → k < 13 → widthOf k * heightOf k ≤ 65536
 unfolding widthOf heightOf
 places-most k h = let s = getD BLOCK-SIZES k (0, 0) in leb→le (s .0 * s .1) 65536 (and-r (leb (s .0) 256) (leb (s .0 * s .1) 65536) (small-at k h))
 
+least-at : (k : ℕ) → k < 13 → T (leb 64 (getD BLOCK-SIZES k (0, 0) .0 * getD BLOCK-SIZES k (0, 0) .1))
+unfolding BLOCK-SIZES
+least-at k h = at-each (λ (s : Place). leb 64 (s .0 * s .1)) BLOCK-SIZES tt (0, 0) k h
+
+pub places-least : (k : ℕ) → k < 13 → 64 ≤ widthOf k * heightOf k
+unfolding widthOf heightOf
+places-least k h = leb→le 64 (getD BLOCK-SIZES k (0, 0) .0 * getD BLOCK-SIZES k (0, 0) .1) (least-at k h)
+
 -- the numbers of a size: s = width / height, k = height / 8, w = width / 8
 module _ (width height : ℕ) (z : Size width height) where
   pub width-by : width ≡ height * (width / height)

@@ -1,13 +1,11 @@
 -- Turns of the loops that write the natural order.
 use mathlib.Core.Path.{_≡_, refl, ap, sym, _∙_}
 use mathlib.Core.Bool.{Bool, true, false, cond}
-use mathlib.Core.List.{List, [], _∷_, _++_, append-nil}
+use mathlib.Core.List.{List, [], _∷_, _++_}
 use Prim.Native.Nat.{ℕ, suc, _+_, _*_, _-_, _/_, _<_, _≤_}
 use native.Mathlib.Numerals.{add-one}
 use native.Mathlib.Omega.{arith}
-use lib.ListN.{length, length-append, drop-of-length-le}
-use lib.Seq.{sets, sets-eq}
-use Rattle.laws.specs.laws.Lists.{sets-append}
+use lib.ListN.{length, length-append}
 use Rattle.order_natural.specs.Places.{Place, run, joins, flat}
 use Rattle.order_natural.specs.Natural.{inRow, diagonal, square, listed, keep, rows, natural}
 use Rattle.order_natural.specs.Order.{Size}
@@ -52,13 +50,6 @@ restOfRow w y x = flat (run (inRow y) (w - x) x)
 unfoldable pub restOfRows : ℕ → ℕ → ℕ → List ℕ
 restOfRows w h y = flat (joins (λ y. run (inRow y) w 0) (h - y) y)
 
--- a piece written, then the rest
-pub laid : (st st' : List ℕ) (at r : ℕ) (piece rest whole : List ℕ) → whole ≡ piece ++ rest → r ≡ at + length piece → st' ≡ sets st at piece → sets st' r rest ≡ sets st at whole
-laid st st' at r piece rest whole w er es = rw (er, es, w) (sym (sets-append piece rest st at))
-
-pub grown : (at r n : ℕ) (piece rest whole : List ℕ) → whole ≡ piece ++ rest → r ≡ at + length piece → at + length whole ≡ n → r + length rest ≡ n
-grown at r n piece rest whole w er en = omega (arith, ap length w, length-append piece rest)
-
 pub square-turn : (w s b d : ℕ) → d < 2 * b → restOfSquare w s b d ≡ flat (keep w s (diagonal b d)) ++ restOfSquare w s b (d + 1)
 unfolding restOfSquare
 square-turn w s b d h =
@@ -74,14 +65,6 @@ square-start w s b = refl
 pub square-end : (w s b d : ℕ) → 2 * b ≤ d → restOfSquare w s b d ≡ []
 unfolding restOfSquare
 square-end w s b d h = ap (λ (l : List Place). flat (keep w s l)) (joins-end (diagonal b) d (2 * b) h)
-
--- a piece of what is left fits
-pub piece-fits : (at n m : ℕ) (piece rest whole : List ℕ) → whole ≡ piece ++ rest → at + length whole ≡ n → n ≤ m → at + length piece ≤ m
-piece-fits at n m piece rest whole w en h = omega (arith, ap length w, length-append piece rest)
-
--- nothing is left
-pub all-laid : (st st₀ : List ℕ) (at start : ℕ) (rest whole : List ℕ) → rest ≡ [] → at + length rest ≡ start + length whole → sets st at rest ≡ sets st₀ start whole → (at ≡ start + length whole) × (st ≡ sets st₀ start whole)
-all-laid st st₀ at start rest whole e n s = (omega (arith, ap length e), rw e at s)
 
 pub row-turn : (w y x : ℕ) → x < w → restOfRow w y x ≡ (x ∷ y ∷ []) ++ restOfRow w y (x + 1)
 unfolding restOfRow
@@ -129,12 +112,3 @@ natural-sum width height z =
       ap length (natural-parts width height),
       length-append (flat (rows (width / 8) (height / 8))) (flat (keep (width / 8) (width / height) (square width))),
     )
-
-pub sets-all : (l vs : List ℕ) → length vs ≡ length l → sets l 0 vs ≡ vs
-sets-all l vs e =
-    let z : length l ≤ 0 + length vs = omega arith in
-    sets-eq vs l 0 (omega arith) ∙ ap (λ (r : List ℕ). vs ++ r) (drop-of-length-le l z) ∙ append-nil vs
-
--- the whole list is the natural order
-pub natural-laid : (width height : ℕ) → Size width height → (l m : List ℕ) → length l ≡ 2 * (width * height) → m ≡ sets l 0 (flat (natural width height)) → m ≡ flat (natural width height)
-natural-laid width height z l m n e = e ∙ sets-all l (flat (natural width height)) (natural-numbers width height z ∙ sym n)

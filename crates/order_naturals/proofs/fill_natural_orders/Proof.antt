@@ -1,11 +1,12 @@
 use Rattle.order_naturals.specs.Naturals.{naturals}
-use Rattle.order_naturals.specs.laws.Naturals.{part-length, fromOrder, order-start, order-at, order-laid, all-written, none-written}
+use Rattle.order_naturals.specs.laws.Naturals.{part-length, fromOrder, order-start, order-turn, order-at, order-laid, all-written, none-written}
+use Rattle.order_natural.specs.laws.Filling.{threeOf}
+use Rattle.order_natural.specs.laws.Laid.{Halfway, halfway-start, halfway-turn}
 use borrow.Rule.Slice.PartMut.{putMid}
 use mathlib.Core.Path.{refl, _≡_, _∙_, sym}
 use Rattle.order_store.specs.Store.{firstOf, stored}
 use Rattle.order_store.specs.laws.Offsets.{first-start}
 use Rattle.order_sizes.specs.BlockSizes.{BLOCK-SIZES}
-use lib.Seq.{sets}
 use borrow.Author.Needs.{needs}
 use native.Mathlib.Omega.{arith}
 use Prim.Native.Nat.{_≤_, _-_, _+_, _*_}
@@ -19,7 +20,7 @@ Inv-loop store₀ first₀ k₀ store first k =
     × (length store ≡ 787968)
     × (length store₀ ≡ 787968)
     × (first ≡ firstOf (3 * k))
-    × (sets store first (fromOrder k) ≡ sets store₀ 0 (stored (naturals BLOCK-SIZES)))
+    × Halfway store₀ store 0 (stored (naturals BLOCK-SIZES)) first (fromOrder k)
 
 abbrev μ-loop : tie.MeasureT-loop
 μ-loop store₀ first₀ k₀ store first k = 13 - k
@@ -28,7 +29,7 @@ returns : tie.Need-returns Inv-loop μ-loop
 returns c = none-written (c .before .before .args .store .now) (c .if1 .taken)
 
 loop-holds : tie.Need-loop-holds Inv-loop μ-loop
-loop-holds c = (omega arith, c .if1 .left, c .if1 .left, sym first-start, rw order-start)
+loop-holds c = (omega arith, c .if1 .left, c .if1 .left, sym first-start, rw order-start (halfway-start (c .before .before .args .store .now) 0 (stored (naturals BLOCK-SIZES))))
 
 -- the three lists of an order end inside the store
 room : (c : tie.After-block-size Inv-loop μ-loop) → let s = c .block-size .result in (c .before .before .loop .first + 3 * (2 * (s .width * s .height)) ≤ 787968) × (length (c .before .before .loop .store) ≡ 787968)
@@ -39,7 +40,7 @@ fill-order-requires c κs =
     let l = c .before .before .before .loop in
     let t = c .before .block-size in
     let o = order-at (l .k) (omega arith) (t .result) (t .ensures) (l .first) (l .inv .3) in
-    (omega arith, o .size, part-length (l .store) (l .first) (3 * (2 * (t .result .width * t .result .height))) (omega (arith, o .room, l .inv .1)))
+    (omega arith, part-length (l .store) (l .first) (3 * (2 * (t .result .width * t .result .height))) (omega (arith, o .room, l .inv .1)) ∙ omega (arith, o .size))
 
 loop-again : tie.Need-loop-again Inv-loop μ-loop
 loop-again c =
@@ -48,7 +49,9 @@ loop-again c =
     let o = order-at (l .k) (omega arith) (t .result) (t .ensures) (l .first) (l .inv .3) in
     let f = c .before .before .fill-order in
     let e = l .first + 3 * (2 * (t .result .width * t .result .height)) in
-    (omega arith, search needs, l .inv .2, o .next, order-laid (l .k) (omega arith) (t .result) (t .ensures) (l .first) (l .inv .3) (l .store) (putMid (l .first) (e - l .first) (l .store) (f .last .0)) (f .last .0) (l .inv .1) (f .ensures) refl ∙ l .inv .4)
+    let st = putMid (l .first) (e - l .first) (l .store) (f .last .0) in
+    let p = order-laid (l .k) (omega arith) (t .result) (t .ensures) (l .first) (l .inv .3) (l .store) st (l .inv .1) (f .last .0) (f .ensures) refl in
+    (omega arith, search needs, l .inv .2, o .next, halfway-turn (c .before .before .before .before .before .before .before .before .before .args .store .now) (l .store) st 0 (stored (naturals BLOCK-SIZES)) (l .first) e (threeOf (l .k)) (fromOrder (l .k + 1)) (fromOrder (l .k)) (order-turn (l .k) (omega arith)) (l .inv .4) p)
 
 returns-2 : tie.Need-returns-2 Inv-loop μ-loop
 returns-2 c =

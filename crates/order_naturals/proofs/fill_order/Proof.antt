@@ -1,22 +1,24 @@
-use Rattle.order_naturals.specs.laws.Naturals.{three-times}
-use borrow.Rule.Slice.PartMut.{putMid}
-use mathlib.Core.Path.{refl}
+use Rattle.order_natural.specs.laws.Filling.{room-for}
+use Rattle.order_small.specs.laws.Small.{small-room-for}
+use mathlib.Core.Path.{_∙_}
 use borrow.Author.Needs.{needs}
-use Prim.Native.Nat.{_-_}
 use Rattle.order_naturals.proofs.fill_order.Statement.{statement}
 use Rattle.order_naturals.proofs.fill_order.Tie as tie
 
+-- from the table
 returns : tie.Need-returns
 returns c =
-    let a = c .before .before .before .before .before .before .before .before .before .before .before .before .before .args in
-    let p = c .before .before .before .before .before .before .before .before .before .before .before .before .before .pre in
-    let f = c .before .before .before .before .before .before .before .before .before .before .fill-natural-order in
-    let s = c .before .before .before .before .before .before .copy-to in
-    let t = c .before .before .copy-to2 in
-    let one = putMid 0 (a .n - 0) (a .lists .now) (f .last .0) in
-    three-times (a .order) (a .n) (p .0) (p .1) (a .lists .now) one (s .last .0) (t .last .0) (p .2) (f .last .0) (f .ensures .1) refl (s .ensures) (t .ensures)
+    let a = c .before .before .before .before .before .before .args in
+    let p = c .before .before .before .before .before .before .pre in
+    c .before .before .fill-small-order .ensures .1 ∙ small-room-for (a .lists .now) (a .order) (c .before .before .before .before .if1 .taken) (p .1)
+
+-- walked
+returns-2 : tie.Need-returns-2
+returns-2 c =
+    let a = c .before .before .before .before .before .before .args in
+    let p = c .before .before .before .before .before .before .pre in
+    c .before .before .fill-natural-order .ensures .1 ∙ room-for (a .lists .now) (a .order) (p .0) (p .1)
 
 pub fill-order-spec : {M : Type 1} → statement M
 fill-order-spec =
-    tie.close (tie.spec (λ c. search needs) (λ c. search needs) (λ c. search needs) (λ c κs. search needs)
-    (λ c κs. search needs) (λ c. search needs) (λ c κs. search needs) (λ c. search needs) returns)
+    tie.close (tie.spec (λ c κs. search needs) (λ c. search needs) returns (λ c κs. search needs) (λ c. search needs) returns-2)

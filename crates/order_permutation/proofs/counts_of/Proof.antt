@@ -1,7 +1,6 @@
 use Prim.Native.Nat.{suc, _≤_, _-_, _+_}
-use Rattle.order_natural.specs.laws.Turns.{sets-all}
 use lib.ListN.{replicate}
-use Rattle.order_permutation.specs.laws.Blocks.{counts, counts-turn, counts-end, counts-length}
+use Rattle.order_permutation.specs.laws.Blocks.{counts, counts-turn, counts-end, counts-length, sets-all}
 use lib.Seq.{sets}
 use borrow.Author.Needs.{needs}
 use native.Mathlib.Omega.{arith}

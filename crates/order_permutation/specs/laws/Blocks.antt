@@ -1,13 +1,13 @@
 -- A list kept in blocks of m numbers, of which each block has lost some: what remains of it, and how one is taken out.
 use mathlib.Core.Path.{_≡_, refl, ap, sym, _∙_}
 use mathlib.Core.Logic.{_⊎_, inl, inr}
-use mathlib.Core.List.{List, [], _∷_, _++_, append-assoc}
+use mathlib.Core.List.{List, [], _∷_, _++_, append-assoc, append-nil}
 use Prim.Native.Nat.{ℕ, zero, suc, _+_, _*_, _-_, _<_, _≤_, min}
 use native.Mathlib.Nat.{not-suc-le-zero, le-of-suc-le-suc, suc-mul, zero-mul}
 use native.Mathlib.Numerals.{add-one}
 use native.Mathlib.Omega.{arith}
 use lib.ListN.{length, getD, take, drop, set, length-append, length-drop, take-append-drop, drop-of-length-le, List·getD-append}
-use lib.Seq.{sets, paste, paste-zero, paste-suc, take-paste, drop-paste, length-paste, drop-drop, take-add, drop-at, take-append-le, take-append-add, take-take, take-nil, length-take-le, getD-take, getD-drop, getD-append-add}
+use lib.Seq.{sets, sets-eq, paste, paste-zero, paste-suc, take-paste, drop-paste, length-paste, drop-drop, take-add, drop-at, take-append-le, take-append-add, take-take, take-nil, length-take-le, getD-take, getD-drop, getD-append-add}
 use Rattle.laws.specs.laws.Cases.{le-or-lt}
 use Rattle.order_permutation.specs.Digits.{without}
 
@@ -208,6 +208,12 @@ sum-back ns (suc b) d h k =
 pub total-end : (ns : List ℕ) (b : ℕ) → length ns ≤ b → total (drop b ns) ≡ 0
 unfolding total
 total-end ns b h = rw (drop-of-length-le ns h)
+
+-- a list written over
+pub sets-all : (l vs : List ℕ) → length vs ≡ length l → sets l 0 vs ≡ vs
+sets-all l vs e =
+    let z : length l ≤ 0 + length vs = omega arith in
+    sets-eq vs l 0 (omega arith) ∙ ap (λ (r : List ℕ). vs ++ r) (drop-of-length-le l z) ∙ append-nil vs
 
 pub counts-length : (m j free : ℕ) → length (counts m j free) ≡ j
 unfolding counts

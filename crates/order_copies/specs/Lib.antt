@@ -1,0 +1,2 @@
+-- the first of three lists, three times
+pub mod laws

@@ -1,0 +1,2 @@
+-- orders 0 to 6, from digits
+pub mod laws
