@@ -12,7 +12,7 @@ returns-2 : tie.Need-returns-2
 returns-2 c =
     let a = c .before .before .before .before .args in
     let b = c .before .block-size in
-    no-room (a .lists .now) (a .order) (b .result) (b .ensures) (omega arith) (c .if2 .taken)
+    no-room (a .lists .now) (a .order) (omega arith) (b .result) (b .ensures) (c .if2 .taken)
 
 put-natural-requires : tie.Need-put-natural-requires
 put-natural-requires c κs = let s = sides (c .before .before) in (s .size, s .narrow, omega (arith, s .some, c .before .if2 .left))
@@ -23,7 +23,7 @@ returns-3 c =
     let b = c .before .before .before .before .before .before .before .before .before .block-size in
     let p = c .before .before .before .before .before .before .put-natural in
     let t = c .before .before .copy-twice in
-    room (a .lists .now) (a .order) (b .result) (b .ensures) (omega arith) (p .last .0) (t .last .0) (c .before .before .before .before .before .before .before .before .if2 .left) (p .ensures) (t .ensures)
+    room (a .lists .now) (a .order) (omega arith) (b .result) (b .ensures) (p .last .0) (t .last .0) (c .before .before .before .before .before .before .before .before .if2 .left) (p .ensures) (t .ensures)
 
 pub fill-natural-order-spec : {M : Type 1} → statement M
 fill-natural-order-spec =

@@ -49,32 +49,28 @@ module _ (lists : List ℕ) (order : ℕ) where
   unfolding roomFor filled
   no-order h = (rw (le-ltb order 13 h), rw (le-ltb order 13 h))
 
-  module _ (s : OrderSize) (e : s ≡ blockSize order) (h : order < 13) where
+  module _ (h : order < 13) where
     abbrev n : ℕ
     n = 3 * (2 * (widthOf order * heightOf order))
-
-    pub no-room : (length lists ≡ 3 * (2 * (s .width * s .height)) → ⊥) → (false ≡ roomFor lists order) × (lists ≡ filled lists order)
-    unfolding roomFor filled
-    no-room k =
-        let k' : length lists ≡ n → ⊥ = rw e at k in
-        (rw (lt-ltb order 13 h, ne-eqb (length lists) n k'), rw (lt-ltb order 13 h, ne-eqb (length lists) n k'))
 
     has-room : length lists ≡ n → roomFor lists order ≡ true
     unfolding roomFor
     has-room k = rw (lt-ltb order 13 h, eq-eqb (length lists) n k)
 
-    is-filled : length lists ≡ n → filled lists order ≡ threeOf order
+    pub room-for : length lists ≡ n → filled lists order ≡ threeOf order
     unfolding filled
-    is-filled k = rw (has-room k)
+    room-for k = rw (has-room k)
 
-    -- the first list laid, the others copied from it
-    pub room : (m m' : List ℕ) → length lists ≡ 3 * (2 * (s .width * s .height)) → Laid lists m 0 (flat (natural (s .width) (s .height))) (2 * (s .width * s .height)) → m' ≡ threeTimes m → (true ≡ roomFor lists order) × (m' ≡ filled lists order)
-    room m m' k l c =
-        let k' : length lists ≡ n = rw e at k in
-        let f : m' ≡ threeOf order = c ∙ three-times m (flat (natural (s .width) (s .height))) (2 * (s .width * s .height)) (l .long ∙ k) (l .front) ∙ rw e (three-of order) in
-        (sym (has-room k'), f ∙ sym (is-filled k'))
+    module _ (s : OrderSize) (e : s ≡ blockSize order) where
+      pub no-room : (length lists ≡ 3 * (2 * (s .width * s .height)) → ⊥) → (false ≡ roomFor lists order) × (lists ≡ filled lists order)
+      unfolding roomFor filled
+      no-room k =
+          let k' : length lists ≡ n → ⊥ = rw e at k in
+          (rw (lt-ltb order 13 h, ne-eqb (length lists) n k'), rw (lt-ltb order 13 h, ne-eqb (length lists) n k'))
 
--- three lists of just as many places are filled
-pub room-for : (lists : List ℕ) (order : ℕ) → order < 13 → length lists ≡ 3 * (2 * (widthOf order * heightOf order)) → filled lists order ≡ threeOf order
-unfolding roomFor filled
-room-for lists order h n = rw (lt-ltb order 13 h, eq-eqb (length lists) (3 * (2 * (widthOf order * heightOf order))) n)
+      -- the first list laid, the others copied from it
+      pub room : (m m' : List ℕ) → length lists ≡ 3 * (2 * (s .width * s .height)) → Laid lists m 0 (flat (natural (s .width) (s .height))) (2 * (s .width * s .height)) → m' ≡ threeTimes m → (true ≡ roomFor lists order) × (m' ≡ filled lists order)
+      room m m' k l c =
+          let k' : length lists ≡ n = rw e at k in
+          let f : m' ≡ threeOf order = c ∙ three-times m (flat (natural (s .width) (s .height))) (2 * (s .width * s .height)) (l .long ∙ k) (l .front) ∙ rw e (three-of order) in
+          (sym (has-room k'), f ∙ sym (room-for k'))

@@ -18,7 +18,7 @@ returns-2 : tie.Need-returns-2
 returns-2 c =
     let a = c .before .before .before .before .args in
     let b = c .before .block-size in
-    as-any (a .lists .now) (a .order) (omega arith) false (a .lists .now) (no-room (a .lists .now) (a .order) (b .result) (b .ensures) (omega arith) (c .if2 .taken))
+    as-any (a .lists .now) (a .order) (omega arith) false (a .lists .now) (no-room (a .lists .now) (a .order) (omega arith) (b .result) (b .ensures) (c .if2 .taken))
 
 put-small-requires : tie.Need-put-small-requires
 put-small-requires c κs =
@@ -34,7 +34,7 @@ returns-3 c =
     let b = i .before .block-size in
     let a = i .before .before .before .before .args in
     let l = first-laid (a .lists .now) (a .order) (b .result) (b .ensures) (omega arith) (i .if2 .left) (p .put-small .last .0) _ (p .put-small .ensures .0) refl in
-    as-any (a .lists .now) (a .order) (omega arith) true (t .last .0) (room (a .lists .now) (a .order) (b .result) (b .ensures) (omega arith) _ (t .last .0) (i .if2 .left) l (t .ensures))
+    as-any (a .lists .now) (a .order) (omega arith) true (t .last .0) (room (a .lists .now) (a .order) (omega arith) (b .result) (b .ensures) _ (t .last .0) (i .if2 .left) l (t .ensures))
 
 pub fill-small-order-spec : {M : Type 1} → statement M
 fill-small-order-spec =
