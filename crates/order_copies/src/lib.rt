@@ -1,4 +1,4 @@
-// The first of three lists, copied to the other two, block by block: what was just read is still near when it is read again.
+// The first of three lists, copied to the other two piece by piece: what was just read is still near when it is read again.
 ghost use mathlib.Core.Path.{_≡_};
 ghost use Prim.Native.Nat.{_+_, _≤_, min};
 ghost use lib.ListN.{length, drop};
@@ -19,7 +19,7 @@ fn copy_to(list: &mut [u16], from: usize, to: usize, m: usize)
 }
 
 // At most 4,096 numbers at a time.
-fn block_of(n: usize) -> usize
+fn piece_of(n: usize) -> usize
     ensures { λ r. ⌜ r ≡ min n 4096 ⌝ }
 {
     if n < 4096 { n } else { 4096 }
@@ -32,7 +32,7 @@ pub fn copy_twice(lists: &mut [u16])
     let n = lists.len() / 3;
     let mut b = 0;
     while b < n {
-        let m = block_of(n - b);
+        let m = piece_of(n - b);
         copy_to(&mut lists[..], b, n + b, m);
         copy_to(&mut lists[..], b, 2 * n + b, m);
         b += m;

@@ -1,7 +1,7 @@
 -- The natural order (document 01, Orders; `fill_natural_order`).
 use mathlib.Core.Bool.{Bool, cond, _&&_, not}
 use mathlib.Core.List.{List, [], _∷_, _++_}
-use Prim.Native.Nat.{ℕ, _+_, _*_, _-_, _/_, _%_}
+use Prim.Native.Nat.{ℕ, _*_, _-_, _/_, _%_}
 use lib.Dec.{ltb, eqb}
 use Rattle.order_natural.specs.Places.{Place, run, joins}
 

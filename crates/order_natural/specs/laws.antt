@@ -9,7 +9,6 @@ pub mod Whole
 pub mod Listing
 pub mod Order
 pub mod Beyond
-pub mod Laid
 pub mod Turns
 pub mod Flat
 pub mod Filling

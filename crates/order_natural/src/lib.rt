@@ -1,5 +1,5 @@
-// The natural order of a block size, walked (`hf_pass.rs`). The lists have room behind the cells that are laid: a diagonal is
-// laid by eights, and what its last eight has beyond its end is laid over next.
+// The natural order of a block size, walked (`hf_pass.rs`). A diagonal is laid by eights: up to seven cells, 14 numbers, behind
+// its end are written too, and laid over next. So there is that much room behind what is laid.
 use order_copies::copy_twice;
 use order_sizes::block_size;
 ghost use mathlib.Core.Path.{_≡_};
@@ -9,7 +9,7 @@ ghost use Rattle.order_natural.specs.Places.{flat};
 ghost use Rattle.order_natural.specs.Natural.{rows, diagonal, square, keep, natural};
 ghost use Rattle.order_natural.specs.Order.{Size};
 ghost use Rattle.order_natural.specs.laws.Filling.{roomFor, filled};
-ghost use Rattle.order_natural.specs.laws.Laid.{Laid};
+ghost use Rattle.laws.specs.laws.Laid.{Laid};
 ghost use Rattle.order_natural.specs.laws.Turns.{restOfRow};
 ghost use Rattle.order_natural.specs.laws.Slants.{multiples, ups, downs, near};
 
@@ -41,10 +41,10 @@ fn multiples_below(u: usize, s: usize) -> usize
     quotient(u + (s - 1), s)
 }
 
-// The next multiple of 8.
-fn eights(n: usize) -> usize
+// The least multiple of 8 that is not below n.
+fn up_to_eights(n: usize) -> usize
     requires { ⌜ n ≤ 1024 ⌝ }
-    ensures { λ r. ⌜ (n ≤ r) × (r ≤ n + 7) ⌝ }
+    ensures { λ r. ⌜ r ≡ (n + 7) / 8 * 8 ⌝ }
 {
     (n + 7) / 8 * 8
 }
@@ -62,7 +62,7 @@ fn more(x: u16, s: u16) -> u16
     std::num::wrapping_add_u16(x, s)
 }
 
-// Of the diagonal x + y = t the cells in n rows q * s, q upwards from `first`.
+// Of the diagonal x + y = t the cells in n rows q * s, q upwards from `first`, and others behind them.
 fn put_up(list: &mut [u16], start: usize, t: u16, s: u16, first: u16, n: usize) -> usize
     requires { ⌜ (start + 2 * n + 14 ≤ length (now list)) × (first + n ≤ 1024) × ((q : ℕ) → q < first + n → q * s ≤ t) ⌝ }
     ensures { λ r. ⌜ Laid (now (list .entry)) (now (list .exit)) start (flat (ups t s n first)) r ⌝ }
@@ -70,7 +70,7 @@ fn put_up(list: &mut [u16], start: usize, t: u16, s: u16, first: u16, n: usize) 
     if n == 0 {
         return start;
     }
-    let m = eights(n);
+    let m = up_to_eights(n);
     let mut at = start;
     let mut q = first;
     let mut x = t - q * s;
@@ -94,7 +94,7 @@ fn put_down(list: &mut [u16], start: usize, t: u16, s: u16, end: u16, n: usize) 
     if n == 0 {
         return start;
     }
-    let m = eights(n);
+    let m = up_to_eights(n);
     let mut at = start;
     let mut row = end - 1;
     let mut x = t - row * s;

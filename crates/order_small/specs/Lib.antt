@@ -1,2 +1,2 @@
--- orders 0 to 6, from digits
+-- orders 0 to 6, from a table
 pub mod laws

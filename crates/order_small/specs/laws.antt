@@ -1,3 +1,3 @@
 -- what is proved from the definitions
-pub mod Digits
+pub mod Coordinates
 pub mod Small

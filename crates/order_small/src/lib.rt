@@ -19,24 +19,24 @@ ghost use Rattle.order_sizes.specs.BlockSizes.{widthOf, heightOf};
 ghost use Rattle.order_natural.specs.Places.{flat, paired};
 ghost use Rattle.order_natural.specs.Natural.{natural};
 ghost use Rattle.order_natural.specs.Order.{Facts};
-ghost use Rattle.order_small.specs.laws.Digits.{digitOf};
+ghost use Rattle.order_small.specs.laws.Coordinates.{coordinateOf};
 ghost use Rattle.order_small.specs.laws.Small.{smallRoom, smallFilled};
 
-// A digit to the base 32: 0 to 9, then a to v.
-fn digit(c: u8) -> u8
-    ensures { λ r. ⌜ r ≡ digitOf c ⌝ }
+// What a digit to the base 32 stands for: 0 to 9, then a to v.
+fn coordinate(c: u8) -> u8
+    ensures { λ r. ⌜ r ≡ coordinateOf c ⌝ }
 {
     if c < 64 { c % 16 } else { c % 32 + 9 }
 }
 
-// The numbers that digits stand for.
-fn put_digits(list: &mut [u16], digits: &[u8])
-    requires { ⌜ length (now list) ≡ length (now digits) ⌝ }
-    ensures { λ r. ⌜ now (list .exit) ≡ map digitOf (now (digits .entry)) ⌝ }
+// A stretch of the table, as numbers.
+fn put_stretch(list: &mut [u16], stretch: &[u8])
+    requires { ⌜ length (now list) ≡ length (now stretch) ⌝ }
+    ensures { λ r. ⌜ now (list .exit) ≡ map coordinateOf (now (stretch .entry)) ⌝ }
 {
     let mut j = 0;
     while j < list.len() {
-        list[j] = digit(digits[j]) as u16;
+        list[j] = coordinate(stretch[j]) as u16;
         j += 1;
     }
 }
@@ -47,13 +47,13 @@ fn put_small(list: &mut [u16], order: usize)
     ensures { λ r. ⌜ (now (list .exit) ≡ flat (natural (widthOf order) (heightOf order))) × (Facts (widthOf order) (heightOf order) (paired (now (list .exit)))) ⌝ }
 {
     match order {
-        0 => put_digits(&mut list[..], &ORDER_0),
-        1 => put_digits(&mut list[..], &ORDER_1),
-        2 => put_digits(&mut list[..], &ORDER_2),
-        3 => put_digits(&mut list[..], &ORDER_3),
-        4 => put_digits(&mut list[..], &ORDER_4),
-        5 => put_digits(&mut list[..], &ORDER_5),
-        _ => put_digits(&mut list[..], &ORDER_6),
+        0 => put_stretch(&mut list[..], &ORDER_0),
+        1 => put_stretch(&mut list[..], &ORDER_1),
+        2 => put_stretch(&mut list[..], &ORDER_2),
+        3 => put_stretch(&mut list[..], &ORDER_3),
+        4 => put_stretch(&mut list[..], &ORDER_4),
+        5 => put_stretch(&mut list[..], &ORDER_5),
+        _ => put_stretch(&mut list[..], &ORDER_6),
     }
 }
 

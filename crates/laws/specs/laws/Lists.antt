@@ -1,10 +1,10 @@
 -- Laws: Lists.
 use mathlib.Core.Path.{_≡_, refl, ap, _∙_}
-use mathlib.Core.List.{List, [], _∷_, _++_, map}
-use Prim.Native.Nat.{ℕ, zero, suc, _+_, _-_, _<_}
+use mathlib.Core.List.{List, [], _∷_, _++_, map, append-nil}
+use Prim.Native.Nat.{ℕ, zero, suc, _+_, _-_, _<_, _≤_}
 use native.Mathlib.Omega.{arith}
-use lib.ListN.{length, getD, set, take, drop, length-drop}
-use lib.Seq.{sets, take-all}
+use lib.ListN.{length, getD, set, take, drop, length-drop, drop-of-length-le}
+use lib.Seq.{sets, sets-eq, take-all, length-take-le}
 use Rattle.laws.specs.Lists.{tabulate}
 
 -- a list of no elements
@@ -24,6 +24,16 @@ sets-append [] t d i = let e : i ≡ i + 0 = omega arith in ap (λ (k : ℕ). se
 sets-append (a ∷ s) t d i =
     let e : suc i + length s ≡ i + suc (length s) = omega arith in
     sets-append s t (set d i a) (suc i) ∙ ap (λ (k : ℕ). sets (sets (set d i a) (suc i) s) k t) e
+
+-- a list written over
+pub sets-all : (l vs : List ℕ) → length vs ≡ length l → sets l 0 vs ≡ vs
+sets-all l vs e =
+    let z : length l ≤ 0 + length vs = omega arith in
+    sets-eq vs l 0 (omega arith) ∙ ap (λ (r : List ℕ). vs ++ r) (drop-of-length-le l z) ∙ append-nil vs
+
+-- a part, as it is lent
+pub part-long : (l : List ℕ) (start end : ℕ) → start ≤ end → end ≤ length l → length (take (end - start) (drop start l)) ≡ end - start
+part-long l start end a b = length-take-le (end - start) (drop start l) (omega (arith, length-drop start l))
 
 -- what lies from k on, as it is lent
 pub tail-all : (l : List ℕ) (k : ℕ) → take (length l - k) (drop k l) ≡ drop k l

@@ -27,7 +27,7 @@ part-read-list-end : tie.Need-part-read-list-end
 part-read-list-end c = omega (arith, list c .room, c .before .before .before .before .pre .0 .size)
 
 read-list-requires : tie.Need-read-list-requires
-read-list-requires c κs = let s = list (c .before) in (s .sides .size, s .sides .narrow, s .sides .small, c .before .before .before .before .before .pre .0 .within, s .part)
+read-list-requires c κs = let s = list (c .before) in (s .size .size, s .size .narrow, s .size .most, c .before .before .before .before .before .pre .0 .within, s .part)
 
 returns : tie.Need-returns
 returns c =

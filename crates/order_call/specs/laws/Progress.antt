@@ -17,7 +17,7 @@ use Rattle.order_natural.specs.Natural.{natural}
 use Rattle.order_natural.specs.laws.Sizes.{size-of}
 use Rattle.order_natural.specs.laws.Turns.{flat-length, natural-numbers}
 use Rattle.order_natural.specs.laws.Listing.{listing-length}
-use Rattle.order_natural.specs.laws.Filling.{Sided, sided}
+use Rattle.order_natural.specs.laws.Filling.{SizeKnown, size-known}
 use Rattle.order_store.specs.Store.{stored, PLACES, firstOf}
 use Rattle.order_store.specs.laws.Offsets.{first-start, first-step, first-most, first-end, sizes-13, third, places-by}
 use Rattle.order_naturals.specs.Naturals.{naturals}
@@ -172,7 +172,7 @@ module _ (used : ℕ) (symbols store : List ℕ) (i at : ℕ) (p : Progress used
   pub record ListAt : Type 0 where
     pub next : first + 2 * (s .width * s .height) ≡ firstOf (i + 1)
     pub room : first + 2 * (s .width * s .height) ≤ 787968
-    pub sides : Sided (i / 3) s
+    pub size : SizeKnown s
     pub part : take (first + 2 * (s .width * s .height) - first) (drop first store) ≡ flat (natural (s .width) (s .height))
 
   pub list-at : ListAt
@@ -186,7 +186,7 @@ module _ (used : ℕ) (symbols store : List ℕ) (i at : ℕ) (p : Progress used
       record {
         next = n;
         room = omega (arith, first-most (i + 1) (omega arith));
-        sides = sided (i / 3) s e (omega arith);
+        size = size-known (i / 3) s e (omega arith);
         part = rw (e, z, b) q;
       }
 

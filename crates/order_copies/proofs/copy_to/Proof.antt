@@ -1,5 +1,5 @@
-use Rattle.order_copies.specs.laws.Copies.{copy-turn, copy-start}
-use lib.Seq.{paste}
+use Rattle.order_copies.specs.laws.Copies.{copy-turn}
+use lib.Seq.{paste, paste-zero}
 use borrow.Author.Needs.{needs}
 use native.Mathlib.Omega.{arith}
 use mathlib.Core.Path.{_≡_, _∙_, ap}
@@ -15,7 +15,7 @@ abbrev μ-loop : tie.MeasureT-loop
 μ-loop list₀ from to m j₀ list j = m - j
 
 loop-holds : tie.Need-loop-holds Inv-loop μ-loop
-loop-holds c = (omega arith, omega arith, copy-start (c .args .list .now) (c .args .from) (c .args .to))
+loop-holds c = (omega arith, omega arith, paste-zero (c .args .list .now) (c .args .to) (drop (c .args .from) (c .args .list .now)))
 
 loop-again : tie.Need-loop-again Inv-loop μ-loop
 loop-again c =

@@ -1,4 +1,4 @@
-use Rattle.order_copies.specs.laws.Copies.{Copied, none-copied, block-copied, all-copied}
+use Rattle.order_copies.specs.laws.Copies.{Copied, none-copied, piece-copied, all-copied}
 use borrow.Author.Needs.{needs}
 use native.Mathlib.Omega.{arith}
 use mathlib.Core.Path.{_≡_, refl}
@@ -25,11 +25,11 @@ loop-again c =
     let l = k .before .before .loop in
     let a = k .before .before .before .before .args .lists .now in
     let n = length a / 3 in
-    let m = k .block-of .result in
+    let m = k .piece-of .result in
     let one = c .before .before .before .before .before .before .copy-to in
     let two = c .before .before .copy-to2 in
     let h : l .b + m ≤ n = omega arith in
-    (omega arith, omega arith, block-copied a n (omega arith) (l .lists) (one .last .0) (two .last .0) (l .b) m (l .inv .2) h (one .ensures) (two .ensures))
+    (omega arith, omega arith, piece-copied a n (omega arith) (l .lists) (one .last .0) (two .last .0) (l .b) m (l .inv .2) h (one .ensures) (two .ensures))
 
 returns : tie.Need-returns Inv-loop μ-loop
 returns c =

@@ -1,46 +1,18 @@
 -- The first of three lists, three times (document 01, Orders).
 use mathlib.Core.Path.{_≡_, refl, ap, sym, _∙_}
 use mathlib.Core.Logic.{_⊎_, inl, inr}
-use mathlib.Core.List.{List, _++_, append-assoc, append-nil}
+use mathlib.Core.List.{List, _++_, append-nil}
 use Prim.Native.Nat.{ℕ, _+_, _*_, _-_, _/_, _<_, _≤_}
 use native.Mathlib.Numerals.{add-one}
 use native.Mathlib.Omega.{arith}
-use lib.ListN.{length, getD, take, drop, set, length-drop, take-append-drop, drop-of-length-le, List·getD-append}
-use lib.Seq.{paste, paste-suc, paste-zero, length-paste, length-take-le, getD-take, getD-drop, getD-append-add, drop-paste, drop-drop, ext-getD}
+use lib.ListN.{length, getD, take, drop, set, length-drop, take-append-drop, drop-of-length-le}
+use lib.Seq.{paste, paste-suc, length-paste, length-take-le, getD-take, getD-drop, drop-drop, ext-getD}
 use Rattle.laws.specs.laws.Cases.{le-or-lt}
+use Rattle.laws.specs.laws.Pastes.{before-paste, in-paste, behind-paste}
 
 -- the first third in each of the three; what is left of a length that is no multiple of three stays
 unfoldable pub threeTimes : List ℕ → List ℕ
 threeTimes l = let t = take (length l / 3) l in t ++ (t ++ (t ++ drop (3 * (length l / 3)) l))
-
--- m numbers of s, written into d from `at` on
-module _ (d : List ℕ) (at : ℕ) (s : List ℕ) (m : ℕ) (r : at + m ≤ length d) (o : m ≤ length s) where
-  front : length (take at d) ≡ at
-  front = length-take-le at d (omega arith)
-
-  pub before-paste : (i : ℕ) → i < at → getD (paste d at s m) i 0 ≡ getD d i 0
-  before-paste i h =
-      ap (λ (l : List ℕ). getD l i 0) (append-assoc (take at d) (take m s) (drop (at + m) d))
-      ∙ List·getD-append (take at d) (take m s ++ drop (at + m) d) 0 i (omega (arith, front))
-      ∙ getD-take at d i 0 h
-
-  pub in-paste : (j : ℕ) → j < m → getD (paste d at s m) (at + j) 0 ≡ getD s j 0
-  in-paste j h =
-      let e : at + j ≡ length (take at d) + j = omega (arith, front) in
-      ap (λ (l : List ℕ). getD l (at + j) 0) (append-assoc (take at d) (take m s) (drop (at + m) d))
-      ∙ ap (λ (k : ℕ). getD (take at d ++ (take m s ++ drop (at + m) d)) k 0) e
-      ∙ getD-append-add (take at d) (take m s ++ drop (at + m) d) j 0
-      ∙ List·getD-append (take m s) (drop (at + m) d) 0 j (omega (arith, length-take-le m s o))
-      ∙ getD-take m s j 0 h
-
-  pub behind-paste : (i : ℕ) → at + m ≤ i → getD (paste d at s m) i 0 ≡ getD d i 0
-  behind-paste i h =
-      let e : i ≡ at + m + (i - (at + m)) = omega arith in
-      ap (λ (k : ℕ). getD (paste d at s m) k 0) e
-      ∙ sym (getD-drop (at + m) (paste d at s m) (i - (at + m)) 0)
-      ∙ ap (λ (l : List ℕ). getD l (i - (at + m)) 0) (drop-paste d at s m (omega arith) o)
-      ∙ getD-drop (at + m) d (i - (at + m)) 0
-      ∙ ap (λ (k : ℕ). getD d k 0) (sym e)
 
 -- one more number copied
 pub copy-turn : (l₀ l : List ℕ) (from to m j : ℕ) → from + m ≤ to → to + m ≤ length l₀ → j < m → l ≡ paste l₀ to (drop from l₀) j
@@ -50,10 +22,22 @@ copy-turn l₀ l from to m j a b h e =
     let g : getD l (from + j) 0 ≡ getD (drop from l₀) j 0 = ap (λ (k : List ℕ). getD k (from + j) 0) e ∙ before-paste l₀ to (drop from l₀) j (omega arith) (omega arith) (from + j) (omega arith) ∙ sym (getD-drop from l₀ j 0) in
     rw (g, e, add-one j) (paste-suc l₀ to (drop from l₀) j 0 (omega arith) s)
 
-pub copy-start : (l : List ℕ) (from to : ℕ) → l ≡ paste l to (drop from l) 0
-copy-start l from to = paste-zero l to (drop from l)
+-- m numbers copied: they are the same, and all others stay
+module _ (d e : List ℕ) (from to m : ℕ) (p : e ≡ paste d to (drop from d) m) (r : to + m ≤ length d) (f : from + m ≤ length d) where
+  many : m ≤ length (drop from d)
+  many = omega (arith, length-drop from d)
 
--- of each list the first b of n numbers are those of the first list
+  long : length e ≡ length d
+  long = ap length p ∙ length-paste d to (drop from d) m r many
+
+  kept : (i : ℕ) → (i < to) ⊎ (to + m ≤ i) → getD e i 0 ≡ getD d i 0
+  kept i (inl k) = ap (λ (t : List ℕ). getD t i 0) p ∙ before-paste d to (drop from d) m r many i k
+  kept i (inr k) = ap (λ (t : List ℕ). getD t i 0) p ∙ behind-paste d to (drop from d) m r many i k
+
+  copied : (j : ℕ) → j < m → getD e (to + j) 0 ≡ getD d (from + j) 0
+  copied j k = ap (λ (t : List ℕ). getD t (to + j) 0) p ∙ in-paste d to (drop from d) m r many j k ∙ getD-drop from d j 0
+
+-- the first b of n numbers are copied to the second and to the third list; the first list, and what is behind the three, stays
 pub record Copied (l₀ : List ℕ) (n : ℕ) (l : List ℕ) (b : ℕ) : Type 0 where
   pub long : length l ≡ length l₀
   pub first : (i : ℕ) → i < n → getD l i 0 ≡ getD l₀ i 0
@@ -65,57 +49,55 @@ module _ (l₀ : List ℕ) (n : ℕ) (r : 3 * n ≤ length l₀) where
   pub none-copied : Copied l₀ n l₀ 0
   none-copied = record { long = refl; first = λ i h. refl; second = λ i h. absurd (omega arith); third = λ i h. absurd (omega arith); rest = λ i h. refl }
 
-  -- a block of m numbers more, first into the second list, then into the third
+  -- a piece of m numbers more, first into the second list, then into the third
   module _ (l one two : List ℕ) (b m : ℕ) (c : Copied l₀ n l b) (h : b + m ≤ n) (p : one ≡ paste l (n + b) (drop b l) m) (q : two ≡ paste one (2 * n + b) (drop b one) m) where
     room : 3 * n ≤ length l
     room = omega (arith, c .long)
 
     long-one : length one ≡ length l
-    long-one = ap length p ∙ length-paste l (n + b) (drop b l) m (omega (arith, room)) (omega (arith, room, length-drop b l))
+    long-one = long l one b (n + b) m p (omega (arith, room)) (omega (arith, room))
 
-    long-two : length two ≡ length one
-    long-two = ap length q ∙ length-paste one (2 * n + b) (drop b one) m (omega (arith, room, long-one)) (omega (arith, room, long-one, length-drop b one))
+    kept-one : (i : ℕ) → (i < n + b) ⊎ (n + b + m ≤ i) → getD one i 0 ≡ getD l i 0
+    kept-one = kept l one b (n + b) m p (omega (arith, room)) (omega (arith, room))
 
-    one-at : (i : ℕ) → (i < n + b) ⊎ (n + b + m ≤ i) → getD one i 0 ≡ getD l i 0
-    one-at i (inl k) = ap (λ (t : List ℕ). getD t i 0) p ∙ before-paste l (n + b) (drop b l) m (omega (arith, room)) (omega (arith, room, length-drop b l)) i k
-    one-at i (inr k) = ap (λ (t : List ℕ). getD t i 0) p ∙ behind-paste l (n + b) (drop b l) m (omega (arith, room)) (omega (arith, room, length-drop b l)) i k
-
-    two-at : (i : ℕ) → (i < 2 * n + b) ⊎ (2 * n + b + m ≤ i) → getD two i 0 ≡ getD one i 0
-    two-at i (inl k) = ap (λ (t : List ℕ). getD t i 0) q ∙ before-paste one (2 * n + b) (drop b one) m (omega (arith, room, long-one)) (omega (arith, room, long-one, length-drop b one)) i k
-    two-at i (inr k) = ap (λ (t : List ℕ). getD t i 0) q ∙ behind-paste one (2 * n + b) (drop b one) m (omega (arith, room, long-one)) (omega (arith, room, long-one, length-drop b one)) i k
-
-    into-second : (j : ℕ) → j < m → getD one (n + b + j) 0 ≡ getD l (b + j) 0
-    into-second j k = ap (λ (t : List ℕ). getD t (n + b + j) 0) p ∙ in-paste l (n + b) (drop b l) m (omega (arith, room)) (omega (arith, room, length-drop b l)) j k ∙ getD-drop b l j 0
-
-    into-third : (j : ℕ) → j < m → getD two (2 * n + b + j) 0 ≡ getD one (b + j) 0
-    into-third j k = ap (λ (t : List ℕ). getD t (2 * n + b + j) 0) q ∙ in-paste one (2 * n + b) (drop b one) m (omega (arith, room, long-one)) (omega (arith, room, long-one, length-drop b one)) j k ∙ getD-drop b one j 0
+    kept-two : (i : ℕ) → (i < 2 * n + b) ⊎ (2 * n + b + m ≤ i) → getD two i 0 ≡ getD one i 0
+    kept-two = kept one two b (2 * n + b) m q (omega (arith, room, long-one)) (omega (arith, room, long-one))
 
     second-now : (i : ℕ) → i < b + m → (b ≤ i) ⊎ (i < b) → getD two (n + i) 0 ≡ getD l₀ i 0
-    second-now i k (inr o) = two-at (n + i) (inl (omega arith)) ∙ one-at (n + i) (inl (omega arith)) ∙ c .second i o
+    second-now i k (inr o) = kept-two (n + i) (inl (omega arith)) ∙ kept-one (n + i) (inl (omega arith)) ∙ c .second i o
     second-now i k (inl o) =
         let e : n + i ≡ n + b + (i - b) = omega arith in
         let f : b + (i - b) ≡ i = omega arith in
-        two-at (n + i) (inl (omega arith)) ∙ ap (λ (t : ℕ). getD one t 0) e ∙ into-second (i - b) (omega arith) ∙ ap (λ (t : ℕ). getD l t 0) f ∙ c .first i (omega arith)
+        kept-two (n + i) (inl (omega arith))
+        ∙ ap (λ (t : ℕ). getD one t 0) e
+        ∙ copied l one b (n + b) m p (omega (arith, room)) (omega (arith, room)) (i - b) (omega arith)
+        ∙ ap (λ (t : ℕ). getD l t 0) f
+        ∙ c .first i (omega arith)
 
     third-now : (i : ℕ) → i < b + m → (b ≤ i) ⊎ (i < b) → getD two (2 * n + i) 0 ≡ getD l₀ i 0
-    third-now i k (inr o) = two-at (2 * n + i) (inl (omega arith)) ∙ one-at (2 * n + i) (inr (omega arith)) ∙ c .third i o
+    third-now i k (inr o) = kept-two (2 * n + i) (inl (omega arith)) ∙ kept-one (2 * n + i) (inr (omega arith)) ∙ c .third i o
     third-now i k (inl o) =
         let e : 2 * n + i ≡ 2 * n + b + (i - b) = omega arith in
         let f : b + (i - b) ≡ i = omega arith in
-        ap (λ (t : ℕ). getD two t 0) e ∙ into-third (i - b) (omega arith) ∙ ap (λ (t : ℕ). getD one t 0) f ∙ one-at i (inl (omega arith)) ∙ c .first i (omega arith)
+        ap (λ (t : ℕ). getD two t 0) e
+        ∙ copied one two b (2 * n + b) m q (omega (arith, room, long-one)) (omega (arith, room, long-one)) (i - b) (omega arith)
+        ∙ ap (λ (t : ℕ). getD one t 0) f
+        ∙ kept-one i (inl (omega arith))
+        ∙ c .first i (omega arith)
 
-    pub block-copied : Copied l₀ n two (b + m)
-    block-copied = record {
-      long = long-two ∙ long-one ∙ c .long;
-      first = λ i k. two-at i (inl (omega arith)) ∙ one-at i (inl (omega arith)) ∙ c .first i k;
-      second = λ i k. second-now i k (le-or-lt b i);
-      third = λ i k. third-now i k (le-or-lt b i);
-      rest = λ i k. two-at i (inr (omega arith)) ∙ one-at i (inr (omega arith)) ∙ c .rest i k;
-    }
+    pub piece-copied : Copied l₀ n two (b + m)
+    piece-copied =
+        record {
+          long = long one two b (2 * n + b) m q (omega (arith, room, long-one)) (omega (arith, room, long-one)) ∙ long-one ∙ c .long;
+          first = λ i k. kept-two i (inl (omega arith)) ∙ kept-one i (inl (omega arith)) ∙ c .first i k;
+          second = λ i k. second-now i k (le-or-lt b i);
+          third = λ i k. third-now i k (le-or-lt b i);
+          rest = λ i k. kept-two i (inr (omega arith)) ∙ kept-one i (inr (omega arith)) ∙ c .rest i k;
+        }
 
   -- n numbers from k on that are the first n of l₀
-  piece : (l : List ℕ) (k : ℕ) → k + n ≤ length l → ((i : ℕ) → i < n → getD l (k + i) 0 ≡ getD l₀ i 0) → take n (drop k l) ≡ take n l₀
-  piece l k a e =
+  part : (l : List ℕ) (k : ℕ) → k + n ≤ length l → ((i : ℕ) → i < n → getD l (k + i) 0 ≡ getD l₀ i 0) → take n (drop k l) ≡ take n l₀
+  part l k a e =
       let p : length (take n (drop k l)) ≡ n = length-take-le n (drop k l) (omega (arith, length-drop k l)) in
       let q : length (take n l₀) ≡ n = length-take-le n l₀ (omega arith) in
       ext-getD 0 (take n (drop k l)) (take n l₀) (p ∙ sym q) (λ i h. getD-take n (drop k l) i 0 (omega arith) ∙ getD-drop k l i 0 ∙ e i (omega arith) ∙ sym (getD-take n l₀ i 0 (omega arith)))
@@ -140,9 +122,9 @@ module _ (l₀ : List ℕ) (n : ℕ) (r : 3 * n ≤ length l₀) where
   unfolding threeTimes
   all-copied l e c =
       let z : 0 + n ≤ length l = omega (arith, c .long) in
-      let a : take n (drop 0 l) ≡ take n l₀ = piece l 0 z (λ i h. let y : 0 + i ≡ i = omega arith in ap (λ (k : ℕ). getD l k 0) y ∙ c .first i h) in
-      let b : take n (drop n l) ≡ take n l₀ = piece l n (omega (arith, c .long)) (c .second) in
-      let d : take n (drop (2 * n) l) ≡ take n l₀ = piece l (2 * n) (omega (arith, c .long)) (c .third) in
+      let a : take n (drop 0 l) ≡ take n l₀ = part l 0 z (λ i h. let y : 0 + i ≡ i = omega arith in ap (λ (k : ℕ). getD l k 0) y ∙ c .first i h) in
+      let b : take n (drop n l) ≡ take n l₀ = part l n (omega (arith, c .long)) (c .second) in
+      let d : take n (drop (2 * n) l) ≡ take n l₀ = part l (2 * n) (omega (arith, c .long)) (c .third) in
       in-pieces l ∙ rw (a, b, d, behind l c, sym e)
 
 -- three lists of n numbers

@@ -1,7 +1,6 @@
 use Rattle.order_natural.specs.laws.Slants.{multiples-div}
 use borrow.Author.Needs.{needs}
 use mathlib.Core.Path.{_∙_}
-use Prim.Native.Nat.{_-_}
 use Rattle.order_natural.proofs.multiples_below.Statement.{statement}
 use Rattle.order_natural.proofs.multiples_below.Tie as tie
 

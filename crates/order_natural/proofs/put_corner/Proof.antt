@@ -1,6 +1,6 @@
 use Rattle.order_natural.specs.Natural.{rows}
 use Rattle.order_natural.specs.Places.{flat}
-use Rattle.order_natural.specs.laws.Laid.{Halfway, halfway-start, halfway-turn, halfway-room, halfway-end}
+use Rattle.laws.specs.laws.Laid.{Halfway, halfway-start, halfway-turn, halfway-room, halfway-end}
 use Rattle.order_natural.specs.laws.Turns.{restOfRow, restOfRows, rows-turn, rows-start, rows-end}
 use borrow.Author.Needs.{needs}
 use native.Mathlib.Omega.{arith}

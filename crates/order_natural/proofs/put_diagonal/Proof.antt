@@ -1,6 +1,6 @@
 use Rattle.order_natural.specs.Places.{flat}
 use Rattle.order_natural.specs.Natural.{diagonal, keep}
-use Rattle.order_natural.specs.laws.Laid.{laid-none}
+use Rattle.laws.specs.laws.Laid.{laid-none}
 use Rattle.order_natural.specs.laws.Slants.{short-none, near-kept}
 use borrow.Author.Needs.{needs}
 use native.Mathlib.Omega.{arith}

@@ -4,7 +4,7 @@ use native.Mathlib.Omega.{arith}
 use Prim.Native.Nat.{_≤_, _<_, _-_, _+_, _*_}
 use lib.ListN.{length, length-set}
 use Rattle.order_natural.specs.Places.{flat}
-use Rattle.order_natural.specs.laws.Laid.{Laying, laid-none, laying-start, laying-turn}
+use Rattle.laws.specs.laws.Laid.{LaidPairs, laid-none, pairs-start, pairs-turn}
 use Rattle.order_natural.specs.laws.Slants.{downs, downs-turn, downs-end, next-row}
 use Rattle.order_natural.proofs.put_down.Statement.{statement}
 use Rattle.order_natural.proofs.put_down.Tie as tie
@@ -14,7 +14,7 @@ Inv-loop list₀ start t s end n m at₀ row₀ x₀ j₀ list at row x j =
     (j ≤ m)
     × (at ≡ start + 2 * j)
     × (length list ≡ length list₀)
-    × Laying list₀ list start (flat (downs t s n end)) n j at (flat (downs t s (n - j) (end - j)))
+    × LaidPairs list₀ list start (flat (downs t s n end)) n j at (flat (downs t s (n - j) (end - j)))
     × (j < n → row ≡ end - j - 1)
     × (j < n → x ≡ t - row * s)
 
@@ -32,7 +32,7 @@ loop-holds c =
     let a = c .before .before .before .args in
     let z : a .n - 0 ≡ a .n = omega arith in
     let y : a .end - 0 ≡ a .end = omega arith in
-    (omega arith, omega arith, refl, rw (z, y) (laying-start (a .list .now) (a .start) (flat (downs (a .t) (a .s) (a .n) (a .end))) (a .n) (omega arith)), λ h. omega arith, λ h. refl)
+    (omega arith, omega arith, refl, rw (z, y) (pairs-start (a .list .now) (a .start) (flat (downs (a .t) (a .s) (a .n) (a .end))) (a .n) (omega arith)), λ h. omega arith, λ h. refl)
 
 loop-again : tie.Need-loop-again Inv-loop μ-loop
 loop-again c =
@@ -45,7 +45,7 @@ loop-again c =
       omega arith,
       omega arith,
       search needs,
-      laying-turn (a .list .now) (l .list) (a .start) cells (a .n) (l .j) (l .at) left (l .x) (l .row) later (omega arith) (omega arith) (λ h. rw (l .inv .5 h, l .inv .4 h, d) (downs-turn (a .t) (a .s) (a .n) (a .end - l .j) (l .j) h)) (downs-end (a .t) (a .s) (a .n) (a .end - (l .j + 1)) (l .j + 1)) (l .inv .3),
+      pairs-turn (a .list .now) (l .list) (a .start) cells (a .n) (l .j) (l .at) left (l .x) (l .row) later (omega arith) (omega arith) (λ h. rw (l .inv .5 h, l .inv .4 h, d) (downs-turn (a .t) (a .s) (a .n) (a .end - l .j) (l .j) h)) (downs-end (a .t) (a .s) (a .n) (a .end - (l .j + 1)) (l .j + 1)) (l .inv .3),
       λ h. let r = l .inv .4 (omega arith) in c .before .less .ensures (omega (arith, r)) ∙ omega (arith, r),
       λ h.
           let r = l .inv .4 (omega arith) in

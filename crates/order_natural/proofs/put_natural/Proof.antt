@@ -1,5 +1,5 @@
 use native.Mathlib.Nat.{div-le-self}
-use Rattle.order_natural.specs.laws.Laid.{Laid, laid-on}
+use Rattle.laws.specs.laws.Laid.{Laid, laid-on}
 use Rattle.order_natural.specs.laws.Turns.{natural-parts, natural-sum, natural-numbers}
 use Rattle.order_natural.specs.laws.Sizes.{s-some, not-higher, width-eights}
 use Rattle.order_natural.specs.Natural.{rows, square, keep, natural}

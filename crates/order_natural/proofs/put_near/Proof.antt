@@ -2,7 +2,7 @@ use borrow.Author.Needs.{needs}
 use native.Mathlib.Omega.{arith}
 use Prim.Native.Nat.{_-_}
 use Rattle.order_natural.specs.Places.{flat}
-use Rattle.order_natural.specs.laws.Laid.{laid-on}
+use Rattle.laws.specs.laws.Laid.{laid-on}
 use Rattle.order_natural.specs.laws.Slants.{ups, downs, near, Near, near-at, ups-long, downs-long}
 use Rattle.order_natural.proofs.put_near.Statement.{statement}
 use Rattle.order_natural.proofs.put_near.Tie as tie

@@ -1,6 +1,6 @@
 use mathlib.Core.List.{[], _∷_}
 use lib.ListN.{length, set, length-set}
-use Rattle.order_natural.specs.laws.Laid.{Halfway, halfway-start, halfway-turn, halfway-room, halfway-end, laid-two}
+use Rattle.laws.specs.laws.Laid.{Halfway, halfway-start, halfway-turn, halfway-room, halfway-end, laid-two}
 use Rattle.order_natural.specs.laws.Turns.{restOfRow, row-turn, row-end}
 use borrow.Author.Needs.{needs}
 use native.Mathlib.Omega.{arith}

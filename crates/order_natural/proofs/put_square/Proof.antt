@@ -1,6 +1,6 @@
 use Rattle.order_natural.specs.Natural.{diagonal, square, keep}
 use Rattle.order_natural.specs.Places.{flat}
-use Rattle.order_natural.specs.laws.Laid.{Halfway, halfway-start, halfway-turn, halfway-room, halfway-end}
+use Rattle.laws.specs.laws.Laid.{Halfway, halfway-start, halfway-turn, halfway-room, halfway-end}
 use Rattle.order_natural.specs.laws.Turns.{restOfSquare, square-turn, square-start, square-end}
 use borrow.Author.Needs.{needs}
 use native.Mathlib.Omega.{arith}

@@ -4,7 +4,7 @@ use native.Mathlib.Omega.{arith}
 use Prim.Native.Nat.{_≤_, _<_, _-_, _+_, _*_}
 use lib.ListN.{length, length-set}
 use Rattle.order_natural.specs.Places.{flat}
-use Rattle.order_natural.specs.laws.Laid.{Laying, laid-none, laying-start, laying-turn}
+use Rattle.laws.specs.laws.Laid.{LaidPairs, laid-none, pairs-start, pairs-turn}
 use Rattle.order_natural.specs.laws.Slants.{ups, ups-turn, ups-end, next-row}
 use Rattle.order_natural.proofs.put_up.Statement.{statement}
 use Rattle.order_natural.proofs.put_up.Tie as tie
@@ -15,7 +15,7 @@ Inv-loop list₀ start t s first n m at₀ q₀ x₀ j₀ list at q x j =
     × (q ≡ first + j)
     × (at ≡ start + 2 * j)
     × (length list ≡ length list₀)
-    × Laying list₀ list start (flat (ups t s n first)) n j at (flat (ups t s (n - j) q))
+    × LaidPairs list₀ list start (flat (ups t s n first)) n j at (flat (ups t s (n - j) q))
     × (j < n → x ≡ t - q * s)
 
 abbrev μ-loop : tie.MeasureT-loop
@@ -31,7 +31,7 @@ loop-holds : tie.Need-loop-holds Inv-loop μ-loop
 loop-holds c =
     let a = c .before .before .before .args in
     let z : a .n - 0 ≡ a .n = omega arith in
-    (omega arith, omega arith, omega arith, refl, rw z (laying-start (a .list .now) (a .start) (flat (ups (a .t) (a .s) (a .n) (a .first))) (a .n) (omega arith)), λ h. refl)
+    (omega arith, omega arith, omega arith, refl, rw z (pairs-start (a .list .now) (a .start) (flat (ups (a .t) (a .s) (a .n) (a .first))) (a .n) (omega arith)), λ h. refl)
 
 loop-again : tie.Need-loop-again Inv-loop μ-loop
 loop-again c =
@@ -44,7 +44,7 @@ loop-again c =
       omega arith,
       omega arith,
       search needs,
-      laying-turn (a .list .now) (l .list) (a .start) cells (a .n) (l .j) (l .at) left (l .x) (l .q) later (omega arith) (omega arith) (λ h. rw (l .inv .5 h) (ups-turn (a .t) (a .s) (a .n) (l .q) (l .j) h)) (ups-end (a .t) (a .s) (a .n) (l .q + 1) (l .j + 1)) (l .inv .4),
+      pairs-turn (a .list .now) (l .list) (a .start) cells (a .n) (l .j) (l .at) left (l .x) (l .q) later (omega arith) (omega arith) (λ h. rw (l .inv .5 h) (ups-turn (a .t) (a .s) (a .n) (l .q) (l .j) h)) (ups-end (a .t) (a .s) (a .n) (l .q + 1) (l .j + 1)) (l .inv .4),
       λ h.
           let e = l .inv .5 (omega arith) in
           let m = next-row (l .q) (a .s) in

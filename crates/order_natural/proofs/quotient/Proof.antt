@@ -1,6 +1,5 @@
 use borrow.Author.Needs.{needs}
 use native.Mathlib.Omega.{arith}
-use Prim.Native.Nat.{_-_}
 use Rattle.order_natural.proofs.quotient.Statement.{statement}
 use Rattle.order_natural.proofs.quotient.Tie as tie
 

@@ -12,7 +12,7 @@ use Rattle.order_natural.specs.Places.{flat}
 use Rattle.order_natural.specs.Natural.{natural}
 use Rattle.order_natural.specs.Order.{Size}
 use Rattle.order_copies.specs.laws.Copies.{threeTimes, three-times}
-use Rattle.order_natural.specs.laws.Laid.{Laid}
+use Rattle.laws.specs.laws.Laid.{Laid}
 use Rattle.order_natural.specs.laws.Sizes.{size-of, width-most, places-most, places-least}
 use lib.Dec.{ltb, eqb}
 
@@ -31,18 +31,15 @@ roomFor lists order = ltb order 13 && eqb (length lists) (3 * (2 * (widthOf orde
 unfoldable pub filled : List ℕ → ℕ → List ℕ
 filled lists order = cond (roomFor lists order) (threeOf order) lists
 
--- what the code knows of an order's sides
-pub record Sided (order : ℕ) (s : OrderSize) : Type 0 where
-  pub width : s .width ≡ widthOf order
-  pub height : s .height ≡ heightOf order
+-- what the code knows of the size of an order
+pub record SizeKnown (s : OrderSize) : Type 0 where
   pub size : Size (s .width) (s .height)
   pub narrow : s .width ≤ 256
-  pub small : s .width * s .height ≤ 65536
-  pub some : 64 ≤ s .width * s .height
+  pub most : s .width * s .height ≤ 65536
+  pub least : 64 ≤ s .width * s .height
 
-pub sided : (order : ℕ) (s : OrderSize) → s ≡ blockSize order → order < 13 → Sided order s
-sided order s e h =
-    record { width = rw e; height = rw e; size = rw e (size-of order h); narrow = rw e (width-most order h); small = rw e (places-most order h); some = rw e (places-least order h) }
+pub size-known : (order : ℕ) (s : OrderSize) → s ≡ blockSize order → order < 13 → SizeKnown s
+size-known order s e h = record { size = rw e (size-of order h); narrow = rw e (width-most order h); most = rw e (places-most order h); least = rw e (places-least order h) }
 
 module _ (lists : List ℕ) (order : ℕ) where
   pub no-order : 13 ≤ order → (false ≡ roomFor lists order) × (lists ≡ filled lists order)
@@ -50,27 +47,27 @@ module _ (lists : List ℕ) (order : ℕ) where
   no-order h = (rw (le-ltb order 13 h), rw (le-ltb order 13 h))
 
   module _ (h : order < 13) where
-    abbrev n : ℕ
-    n = 3 * (2 * (widthOf order * heightOf order))
+    abbrev all : ℕ
+    all = 3 * (2 * (widthOf order * heightOf order))
 
-    has-room : length lists ≡ n → roomFor lists order ≡ true
+    has-room : length lists ≡ all → roomFor lists order ≡ true
     unfolding roomFor
-    has-room k = rw (lt-ltb order 13 h, eq-eqb (length lists) n k)
+    has-room k = rw (lt-ltb order 13 h, eq-eqb (length lists) all k)
 
-    pub room-for : length lists ≡ n → filled lists order ≡ threeOf order
+    pub filled-is : length lists ≡ all → filled lists order ≡ threeOf order
     unfolding filled
-    room-for k = rw (has-room k)
+    filled-is k = rw (has-room k)
 
     module _ (s : OrderSize) (e : s ≡ blockSize order) where
       pub no-room : (length lists ≡ 3 * (2 * (s .width * s .height)) → ⊥) → (false ≡ roomFor lists order) × (lists ≡ filled lists order)
       unfolding roomFor filled
       no-room k =
-          let k' : length lists ≡ n → ⊥ = rw e at k in
-          (rw (lt-ltb order 13 h, ne-eqb (length lists) n k'), rw (lt-ltb order 13 h, ne-eqb (length lists) n k'))
+          let k' : length lists ≡ all → ⊥ = rw e at k in
+          (rw (lt-ltb order 13 h, ne-eqb (length lists) all k'), rw (lt-ltb order 13 h, ne-eqb (length lists) all k'))
 
       -- the first list laid, the others copied from it
-      pub room : (m m' : List ℕ) → length lists ≡ 3 * (2 * (s .width * s .height)) → Laid lists m 0 (flat (natural (s .width) (s .height))) (2 * (s .width * s .height)) → m' ≡ threeTimes m → (true ≡ roomFor lists order) × (m' ≡ filled lists order)
-      room m m' k l c =
-          let k' : length lists ≡ n = rw e at k in
+      pub laid-filled : (m m' : List ℕ) → length lists ≡ 3 * (2 * (s .width * s .height)) → Laid lists m 0 (flat (natural (s .width) (s .height))) (2 * (s .width * s .height)) → m' ≡ threeTimes m → (true ≡ roomFor lists order) × (m' ≡ filled lists order)
+      laid-filled m m' k l c =
+          let k' : length lists ≡ all = rw e at k in
           let f : m' ≡ threeOf order = c ∙ three-times m (flat (natural (s .width) (s .height))) (2 * (s .width * s .height)) (l .long ∙ k) (l .front) ∙ rw e (three-of order) in
-          (sym (has-room k'), f ∙ sym (room-for k'))
+          (sym (has-room k'), f ∙ sym (filled-is k'))

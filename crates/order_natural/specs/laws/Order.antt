@@ -1,6 +1,6 @@
 -- Laws: An order of width × height: a listing of its cells, the corner first.
 use mathlib.Core.Path.{_≡_, ap, sym, _∙_}
-use Prim.Native.Nat.{ℕ, _*_, _-_, _/_}
+use Prim.Native.Nat.{ℕ, _*_, _/_}
 use native.Mathlib.Nat.{mul-div-cancel, mul-assoc}
 use native.Mathlib.Omega.{arith}
 use Rattle.order_natural.specs.Natural.{natural}

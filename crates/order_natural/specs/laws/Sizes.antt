@@ -37,20 +37,20 @@ unfolding BLOCK-SIZES widthOf heightOf
 size-of k h = of-right (getD BLOCK-SIZES k (0, 0)) (at-each right BLOCK-SIZES all-right (0, 0) k h)
 
 -- how large they get
-abbrev small : Place → Bool
-small s = leb (s .0) 256 && leb (s .0 * s .1) 65536
+abbrev most : Place → Bool
+most s = leb (s .0) 256 && leb (s .0 * s .1) 65536
 
-small-at : (k : ℕ) → k < 13 → T (small (getD BLOCK-SIZES k (0, 0)))
+most-at : (k : ℕ) → k < 13 → T (most (getD BLOCK-SIZES k (0, 0)))
 unfolding BLOCK-SIZES
-small-at k h = at-each small BLOCK-SIZES tt (0, 0) k h
+most-at k h = at-each most BLOCK-SIZES tt (0, 0) k h
 
 pub width-most : (k : ℕ) → k < 13 → widthOf k ≤ 256
 unfolding widthOf
-width-most k h = let s = getD BLOCK-SIZES k (0, 0) in leb→le (s .0) 256 (and-l (leb (s .0) 256) (leb (s .0 * s .1) 65536) (small-at k h))
+width-most k h = let s = getD BLOCK-SIZES k (0, 0) in leb→le (s .0) 256 (and-l (leb (s .0) 256) (leb (s .0 * s .1) 65536) (most-at k h))
 
 pub places-most : (k : ℕ) → k < 13 → widthOf k * heightOf k ≤ 65536
 unfolding widthOf heightOf
-places-most k h = let s = getD BLOCK-SIZES k (0, 0) in leb→le (s .0 * s .1) 65536 (and-r (leb (s .0) 256) (leb (s .0 * s .1) 65536) (small-at k h))
+places-most k h = let s = getD BLOCK-SIZES k (0, 0) in leb→le (s .0 * s .1) 65536 (and-r (leb (s .0) 256) (leb (s .0 * s .1) 65536) (most-at k h))
 
 least-at : (k : ℕ) → k < 13 → T (leb 64 (getD BLOCK-SIZES k (0, 0) .0 * getD BLOCK-SIZES k (0, 0) .1))
 unfolding BLOCK-SIZES

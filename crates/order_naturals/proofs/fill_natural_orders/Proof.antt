@@ -1,7 +1,8 @@
 use Rattle.order_naturals.specs.Naturals.{naturals}
-use Rattle.order_naturals.specs.laws.Naturals.{part-length, fromOrder, order-start, order-turn, order-at, order-laid, all-written, none-written}
+use Rattle.order_naturals.specs.laws.Naturals.{fromOrder, order-start, order-turn, order-at, order-laid, all-written, none-written}
 use Rattle.order_natural.specs.laws.Filling.{threeOf}
-use Rattle.order_natural.specs.laws.Laid.{Halfway, halfway-start, halfway-turn}
+use Rattle.laws.specs.laws.Lists.{part-long}
+use Rattle.laws.specs.laws.Laid.{Halfway, halfway-start, halfway-turn}
 use borrow.Rule.Slice.PartMut.{putMid}
 use mathlib.Core.Path.{refl, _≡_, _∙_, sym}
 use Rattle.order_store.specs.Store.{firstOf, stored}
@@ -40,7 +41,7 @@ fill-order-requires c κs =
     let l = c .before .before .before .loop in
     let t = c .before .block-size in
     let o = order-at (l .k) (omega arith) (t .result) (t .ensures) (l .first) (l .inv .3) in
-    (omega arith, part-length (l .store) (l .first) (3 * (2 * (t .result .width * t .result .height))) (omega (arith, o .room, l .inv .1)) ∙ omega (arith, o .size))
+    (omega arith, part-long (l .store) (l .first) (l .first + 3 * (2 * (t .result .width * t .result .height))) (omega arith) (omega (arith, o .room, l .inv .1)) ∙ omega (arith, o .size))
 
 loop-again : tie.Need-loop-again Inv-loop μ-loop
 loop-again c =

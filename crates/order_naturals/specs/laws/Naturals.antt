@@ -1,16 +1,17 @@
 -- Laws: A store of natural orders (document 01, Orders).
 use mathlib.Core.Path.{_≡_, refl, ap, sym, _∙_}
 use mathlib.Core.Bool.{Bool, true, false, cond}
-use mathlib.Core.List.{List, [], _∷_, _++_, append-assoc, append-nil}
+use mathlib.Core.List.{List, [], _∷_, _++_, append-assoc}
 use Prim.Native.Nat.{ℕ, suc, _+_, _*_, _-_, _/_, _<_, _≤_}
 use native.Mathlib.Numerals.{add-one}
 use native.Mathlib.Omega.{arith}
 use lib.Dec.{T, eqb}
 use lib.Ieee.Fits.{and-l, and-r}
-use lib.ListN.{length, getD, take, drop, length-append, length-drop, drop-of-length-le}
-use lib.Seq.{drop-cons, take-all, length-take-le}
+use lib.ListN.{length, getD, take, drop, length-append, drop-of-length-le}
+use lib.Seq.{drop-cons, take-all}
 use borrow.Author.Tests.{eq-eqb, ne-eqb}
 use Rattle.laws.specs.Tables.{every}
+use Rattle.laws.specs.laws.Laid.{Laid, Halfway, halfway-end, laid-part}
 use Rattle.order_sizes.specs.declared.OrderSize.{OrderSize}
 use Rattle.order_sizes.specs.BlockSizes.{BLOCK-SIZES, widthOf, heightOf}
 use Rattle.order_sizes.specs.laws.BlockSizes.{blockSize}
@@ -18,7 +19,6 @@ use Rattle.order_natural.specs.Places.{Place, flat}
 use Rattle.order_natural.specs.Natural.{natural}
 use Rattle.order_natural.specs.laws.Sizes.{right, of-right, all-right, size-of}
 use Rattle.order_natural.specs.laws.Turns.{natural-numbers}
-use Rattle.order_natural.specs.laws.Laid.{Laid, Halfway, halfway-end, laid-part}
 use Rattle.order_natural.specs.laws.Filling.{threeOf}
 use Rattle.order_store.specs.Store.{PLACES, stored, thrice, before, firstOf}
 use Rattle.order_store.specs.laws.Offsets.{first-step, first-most, first-channel, sizes-13, store-places, places-by}
@@ -33,7 +33,7 @@ naturalStore store = cond (wholeStore store) (stored (naturals BLOCK-SIZES)) sto
 list-long : (k : ℕ) → k < 13 → length (flat (natural (widthOf k) (heightOf k))) ≡ 2 * (widthOf k * heightOf k)
 list-long k h = natural-numbers (widthOf k) (heightOf k) (size-of k h)
 
-pub three-long : (k : ℕ) → k < 13 → length (threeOf k) ≡ 3 * (2 * (widthOf k * heightOf k))
+three-long : (k : ℕ) → k < 13 → length (threeOf k) ≡ 3 * (2 * (widthOf k * heightOf k))
 unfolding threeOf
 three-long k h =
     let l = flat (natural (widthOf k) (heightOf k)) in
@@ -109,9 +109,6 @@ all-written st st₀ k first h n w =
 pub none-written : (st : List ℕ) → (length st ≡ 787968 → ⊥) → (false ≡ wholeStore st) × (st ≡ naturalStore st)
 unfolding wholeStore naturalStore
 none-written st n = (rw (ne-eqb (length st) (2 * PLACES) (λ e. n (e ∙ places-by))), rw (ne-eqb (length st) (2 * PLACES) (λ e. n (e ∙ places-by))))
-
-pub part-length : (s : List ℕ) (a n : ℕ) → a + n ≤ length s → length (take (a + n - a) (drop a s)) ≡ n
-part-length s a n h = let e : a + n - a ≡ n = omega arith in rw e (length-take-le n (drop a s) (omega (arith, length-drop a s)))
 
 pub natural-store : (store : List ℕ) → length store ≡ 787968 → naturalStore store ≡ stored (naturals BLOCK-SIZES)
 unfolding wholeStore naturalStore

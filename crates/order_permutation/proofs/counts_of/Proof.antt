@@ -1,6 +1,7 @@
 use Prim.Native.Nat.{suc, _≤_, _-_, _+_}
 use lib.ListN.{replicate}
-use Rattle.order_permutation.specs.laws.Blocks.{counts, counts-turn, counts-end, counts-length, sets-all}
+use Rattle.order_permutation.specs.laws.Blocks.{counts, counts-turn, counts-end, counts-length}
+use Rattle.laws.specs.laws.Lists.{sets-all}
 use lib.Seq.{sets}
 use borrow.Author.Needs.{needs}
 use native.Mathlib.Omega.{arith}

@@ -1,5 +1,5 @@
-use Rattle.order_permutation.specs.laws.Blocks.{lay-turn, lay-start}
-use lib.Seq.{paste}
+use Rattle.order_permutation.specs.laws.Blocks.{lay-turn}
+use lib.Seq.{paste, paste-zero}
 use borrow.Author.Needs.{needs}
 use native.Mathlib.Omega.{arith}
 use mathlib.Core.Path.{_≡_, _∙_, ap}
@@ -15,7 +15,7 @@ abbrev μ-loop : tie.MeasureT-loop
 μ-loop list₀ start at n j₀ list j = n - j
 
 loop-holds : tie.Need-loop-holds Inv-loop μ-loop
-loop-holds c = (omega arith, omega arith, lay-start (c .args .list .now) (c .args .start) (c .args .at))
+loop-holds c = (omega arith, omega arith, paste-zero (c .args .list .now) (c .args .at) (drop (c .args .start) (c .args .list .now)))
 
 add-v : tie.Need-add-v Inv-loop μ-loop
 add-v c = let q = c .before .before .pre .1 (omega arith) in omega (arith, c .before .loop .inv .1)

@@ -1,13 +1,13 @@
 -- A list kept in blocks of m numbers, of which each block has lost some: what remains of it, and how one is taken out.
 use mathlib.Core.Path.{_≡_, refl, ap, sym, _∙_}
 use mathlib.Core.Logic.{_⊎_, inl, inr}
-use mathlib.Core.List.{List, [], _∷_, _++_, append-assoc, append-nil}
+use mathlib.Core.List.{List, [], _∷_, _++_, append-assoc}
 use Prim.Native.Nat.{ℕ, zero, suc, _+_, _*_, _-_, _<_, _≤_, min}
 use native.Mathlib.Nat.{not-suc-le-zero, le-of-suc-le-suc, suc-mul, zero-mul}
 use native.Mathlib.Numerals.{add-one}
 use native.Mathlib.Omega.{arith}
 use lib.ListN.{length, getD, take, drop, set, length-append, length-drop, take-append-drop, drop-of-length-le, List·getD-append}
-use lib.Seq.{sets, sets-eq, paste, paste-zero, paste-suc, take-paste, drop-paste, length-paste, drop-drop, take-add, drop-at, take-append-le, take-append-add, take-take, take-nil, length-take-le, getD-take, getD-drop, getD-append-add}
+use lib.Seq.{sets, paste, paste-suc, take-paste, drop-paste, length-paste, drop-drop, take-add, drop-at, take-append-le, take-append-add, take-take, take-nil, length-take-le, getD-take, getD-drop, getD-append-add}
 use Rattle.laws.specs.laws.Cases.{le-or-lt}
 use Rattle.order_permutation.specs.Digits.{without}
 
@@ -209,12 +209,6 @@ pub total-end : (ns : List ℕ) (b : ℕ) → length ns ≤ b → total (drop b 
 unfolding total
 total-end ns b h = rw (drop-of-length-le ns h)
 
--- a list written over
-pub sets-all : (l vs : List ℕ) → length vs ≡ length l → sets l 0 vs ≡ vs
-sets-all l vs e =
-    let z : length l ≤ 0 + length vs = omega arith in
-    sets-eq vs l 0 (omega arith) ∙ ap (λ (r : List ℕ). vs ++ r) (drop-of-length-le l z) ∙ append-nil vs
-
 pub counts-length : (m j free : ℕ) → length (counts m j free) ≡ j
 unfolding counts
 counts-length m zero free = refl
@@ -239,9 +233,6 @@ lay-turn l₀ l start at n j a b h e =
     let g : getD l (start + j) 0 ≡ getD s j 0 =
     ap (λ (i : ℕ). getD l i 0) (sym k) ∙ sym (getD-drop (at + j) l (start - at) 0) ∙ ap (λ (m : List ℕ). getD m (start - at) 0) d ∙ getD-drop (at + j) l₀ (start - at) 0 ∙ ap (λ (i : ℕ). getD l₀ i 0) k ∙ sym (getD-drop start l₀ j 0) in
     rw (g, e, add-one j) (paste-suc l₀ at s j 0 (omega arith) (omega arith))
-
-pub lay-start : (l : List ℕ) (start at : ℕ) → l ≡ paste l at (drop start l) 0
-lay-start l start at = paste-zero l at (drop start l)
 
 -- the counts, one by one
 pub counts-turn : (m j left n : ℕ) (c : List ℕ) (i : ℕ) → n ≡ min left m → sets c i (counts m (suc j) left) ≡ sets (set c i n) (i + 1) (counts m j (left - n))

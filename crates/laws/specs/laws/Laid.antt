@@ -76,7 +76,7 @@ laid-two l at x y h =
     }
 
 -- what is laid stays when two numbers behind it are stored
-pub laid-stays : (l₀ l : List ℕ) (start : ℕ) (numbers : List ℕ) (r at x y : ℕ) → r ≤ at → Laid l₀ l start numbers r → Laid l₀ (set (set l at x) (at + 1) y) start numbers r
+laid-stays : (l₀ l : List ℕ) (start : ℕ) (numbers : List ℕ) (r at x y : ℕ) → r ≤ at → Laid l₀ l start numbers r → Laid l₀ (set (set l at x) (at + 1) y) start numbers r
 laid-stays l₀ l start numbers r at x y h p =
     record {
       end = p .end;
@@ -85,20 +85,20 @@ laid-stays l₀ l start numbers r at x y h p =
     }
 
 -- n pairs of numbers are laid one by one, j so far; from n on others are stored behind them
-pub record Laying (l₀ l : List ℕ) (start : ℕ) (numbers : List ℕ) (n j at : ℕ) (rest : List ℕ) : Type 0 where
+pub record LaidPairs (l₀ l : List ℕ) (start : ℕ) (numbers : List ℕ) (n j at : ℕ) (rest : List ℕ) : Type 0 where
   pub due : j ≤ n → Halfway l₀ l start numbers at rest
   pub done : n ≤ j → Laid l₀ l start numbers (start + 2 * n)
 
-pub laying-start : (l : List ℕ) (start : ℕ) (numbers : List ℕ) (n : ℕ) → 0 < n → Laying l l start numbers n 0 start numbers
-laying-start l start numbers n h = record { due = λ z. halfway-start l start numbers; done = λ z. absurd (omega arith) }
+pub pairs-start : (l : List ℕ) (start : ℕ) (numbers : List ℕ) (n : ℕ) → 0 < n → LaidPairs l l start numbers n 0 start numbers
+pairs-start l start numbers n h = record { due = λ z. halfway-start l start numbers; done = λ z. absurd (omega arith) }
 
 module _ (l₀ l : List ℕ) (start : ℕ) (numbers : List ℕ) (n j at : ℕ) (rest : List ℕ) (x y : ℕ) (rest' : List ℕ) where
   abbrev l' : List ℕ
   l' = set (set l at x) (at + 1) y
 
-  pub laying-turn : at ≡ start + 2 * j → at + 2 ≤ length l → (j < n → rest ≡ (x ∷ y ∷ []) ++ rest') → (n ≤ j + 1 → rest' ≡ [])
-      → Laying l₀ l start numbers n j at rest → Laying l₀ l' start numbers n (j + 1) (at + 2) rest'
-  laying-turn e room turn end i = record { due = λ h. pair (omega arith); done = λ h. go h (decLt j n) }
+  pub pairs-turn : at ≡ start + 2 * j → at + 2 ≤ length l → (j < n → rest ≡ (x ∷ y ∷ []) ++ rest') → (n ≤ j + 1 → rest' ≡ [])
+      → LaidPairs l₀ l start numbers n j at rest → LaidPairs l₀ l' start numbers n (j + 1) (at + 2) rest'
+  pairs-turn e room turn end i = record { due = λ h. pair (omega arith); done = λ h. go h (decLt j n) }
     where
       pair : j < n → Halfway l₀ l' start numbers (at + 2) rest'
       pair h = halfway-turn l₀ l l' start numbers at (at + 2) (x ∷ y ∷ []) rest' rest (turn h) (i .due (omega arith)) (laid-two l at x y room)
