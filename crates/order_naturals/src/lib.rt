@@ -10,12 +10,13 @@ ghost use Rattle.order_sizes.specs.BlockSizes.{widthOf, heightOf};
 ghost use Rattle.order_natural.specs.laws.Filling.{threeOf};
 ghost use Rattle.order_naturals.specs.laws.Naturals.{wholeStore, naturalStore};
 
-// The natural order of a size, for channels 0, 1, 2: from the table if it has the order, else walked.
+// The natural order of a size, for channels 0, 1, 2: orders 0 to 6 from the table, the others walked.
 fn fill_order(lists: &mut [u16], order: usize)
     requires { ⌜ (order < 13) × (length (now lists) ≡ 3 * (2 * (widthOf order * heightOf order))) ⌝ }
     ensures { λ r. ⌜ now (lists .exit) ≡ threeOf order ⌝ }
 {
-    if fill_small_order(&mut lists[..], order) {
+    if order < 7 {
+        fill_small_order(&mut lists[..], order);
         return;
     }
     fill_natural_order(&mut lists[..], order);

@@ -50,7 +50,7 @@ module _ (lists : List ℕ) (order : ℕ) where
     abbrev all : ℕ
     all = 3 * (2 * (widthOf order * heightOf order))
 
-    has-room : length lists ≡ all → roomFor lists order ≡ true
+    pub has-room : length lists ≡ all → roomFor lists order ≡ true
     unfolding roomFor
     has-room k = rw (lt-ltb order 13 h, eq-eqb (length lists) all k)
 

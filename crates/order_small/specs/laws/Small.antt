@@ -1,6 +1,6 @@
 -- What filling three lent lists with one of orders 0 to 6 answers and leaves (document 02, No. 3), and the ways out of it.
-use mathlib.Core.Path.{_≡_, ap, sym, _∙_}
-use mathlib.Core.Bool.{true, false, Bool, cond, _&&_}
+use mathlib.Core.Path.{_≡_, ap, _∙_}
+use mathlib.Core.Bool.{false, Bool, cond, _&&_}
 use mathlib.Core.List.{List, _++_}
 use Prim.Native.Nat.{ℕ, _*_, _-_, _<_, _≤_}
 use native.Mathlib.Omega.{arith}
@@ -20,7 +20,7 @@ use Rattle.order_natural.specs.laws.Flat.{paired-flat}
 use Rattle.order_natural.specs.laws.Order.{natural-facts}
 use Rattle.order_natural.specs.laws.Sizes.{size-of}
 use Rattle.order_natural.specs.laws.Turns.{natural-numbers}
-use Rattle.order_natural.specs.laws.Filling.{threeOf, roomFor, filled}
+use Rattle.order_natural.specs.laws.Filling.{threeOf, roomFor, filled, has-room}
 
 -- one of orders 0 to 6, and three lists of just as many places
 unfoldable pub smallRoom : List ℕ → ℕ → Bool
@@ -50,14 +50,9 @@ module _ (lists : List ℕ) (order : ℕ) where
   unfolding smallRoom smallFilled filled
   as-any h b l e = (rw (lt-ltb order 7 h) (e .0), rw (lt-ltb order 7 h) (e .1))
 
-  -- and not filled at all, or wholly
-  pub none-filled : false ≡ smallRoom lists order → smallFilled lists order ≡ lists
-  unfolding smallFilled
-  none-filled e = rw (sym e)
-
-  pub all-filled : true ≡ smallRoom lists order → smallFilled lists order ≡ threeOf order
-  unfolding smallFilled
-  all-filled e = rw (sym e)
+  pub small-filled-is : order < 7 → length lists ≡ 3 * (2 * (widthOf order * heightOf order)) → smallFilled lists order ≡ threeOf order
+  unfolding smallRoom smallFilled
+  small-filled-is h n = rw (lt-ltb order 7 h, has-room lists order (omega arith) n)
 
   -- the first of the three lists as the table has it
   module _ (s : OrderSize) (e : s ≡ blockSize order) (h : order < 7) (long : length lists ≡ 3 * (2 * (s .width * s .height))) where
