@@ -1,10 +1,12 @@
 -- Laws: Numbers written over others.
 use mathlib.Core.Path.{_≡_, ap, sym, _∙_}
+use mathlib.Core.Logic.{_⊎_, inl, inr}
 use mathlib.Core.List.{List, _++_, append-assoc}
 use Prim.Native.Nat.{ℕ, _+_, _-_, _<_, _≤_}
+use native.Mathlib.Numerals.{add-one}
 use native.Mathlib.Omega.{arith}
-use lib.ListN.{length, getD, take, drop, List·getD-append}
-use lib.Seq.{paste, length-take-le, getD-take, getD-drop, getD-append-add, drop-paste}
+use lib.ListN.{length, getD, take, drop, set, length-drop, List·getD-append}
+use lib.Seq.{paste, paste-suc, length-take-le, getD-take, getD-drop, getD-append-add, drop-paste}
 
 -- m numbers of s, written into d from `at` on
 module _ (d : List ℕ) (at : ℕ) (s : List ℕ) (m : ℕ) (r : at + m ≤ length d) (o : m ≤ length s) where
@@ -34,3 +36,15 @@ module _ (d : List ℕ) (at : ℕ) (s : List ℕ) (m : ℕ) (r : at + m ≤ leng
       ∙ ap (λ (l : List ℕ). getD l (i - (at + m)) 0) (drop-paste d at s m (omega arith) o)
       ∙ getD-drop (at + m) d (i - (at + m)) 0
       ∙ ap (λ (k : ℕ). getD d k 0) (sym e)
+
+-- one more number copied within a list, forwards: it was not written over, since it stands before all that was written, or behind
+pub copy-turn : (l₀ l : List ℕ) (from to j : ℕ) → (from + j < to) ⊎ (to ≤ from) → from + j < length l₀ → to + j < length l₀ → l ≡ paste l₀ to (drop from l₀) j
+    → set l (to + j) (getD l (from + j) 0) ≡ paste l₀ to (drop from l₀) (j + 1)
+copy-turn l₀ l from to j w a b e =
+    let s : j < length (drop from l₀) = omega (arith, length-drop from l₀) in
+    let g : getD l (from + j) 0 ≡ getD (drop from l₀) j 0 = ap (λ (k : List ℕ). getD k (from + j) 0) e ∙ stands w ∙ sym (getD-drop from l₀ j 0) in
+    rw (g, e, add-one j) (paste-suc l₀ to (drop from l₀) j 0 b s)
+  where
+    stands : (from + j < to) ⊎ (to ≤ from) → getD (paste l₀ to (drop from l₀) j) (from + j) 0 ≡ getD l₀ (from + j) 0
+    stands (inl h) = before-paste l₀ to (drop from l₀) j (omega arith) (omega (arith, length-drop from l₀)) (from + j) h
+    stands (inr h) = behind-paste l₀ to (drop from l₀) j (omega arith) (omega (arith, length-drop from l₀)) (from + j) (omega arith)

@@ -1,4 +1,5 @@
-use Rattle.order_copies.specs.laws.Copies.{copy-turn}
+use Rattle.laws.specs.laws.Pastes.{copy-turn}
+use mathlib.Core.Logic.{inl}
 use lib.Seq.{paste, paste-zero}
 use borrow.Author.Needs.{needs}
 use native.Mathlib.Omega.{arith}
@@ -21,7 +22,7 @@ loop-again : tie.Need-loop-again Inv-loop μ-loop
 loop-again c =
     let a = c .before .before .before .args in
     let l = c .before .before .loop in
-    (omega arith, search needs, copy-turn (a .list .now) (l .list) (a .from) (a .to) (a .m) (l .j) (omega arith) (omega arith) (omega arith) (l .inv .2))
+    (omega arith, search needs, copy-turn (a .list .now) (l .list) (a .from) (a .to) (l .j) (inl (omega arith)) (omega arith) (omega arith) (l .inv .2))
 
 returns : tie.Need-returns Inv-loop μ-loop
 returns c =

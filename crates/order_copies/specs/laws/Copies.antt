@@ -3,24 +3,15 @@ use mathlib.Core.Path.{_≡_, refl, ap, sym, _∙_}
 use mathlib.Core.Logic.{_⊎_, inl, inr}
 use mathlib.Core.List.{List, _++_, append-nil}
 use Prim.Native.Nat.{ℕ, _+_, _*_, _-_, _/_, _<_, _≤_}
-use native.Mathlib.Numerals.{add-one}
 use native.Mathlib.Omega.{arith}
-use lib.ListN.{length, getD, take, drop, set, length-drop, take-append-drop, drop-of-length-le}
-use lib.Seq.{paste, paste-suc, length-paste, length-take-le, getD-take, getD-drop, drop-drop, ext-getD}
+use lib.ListN.{length, getD, take, drop, length-drop, take-append-drop, drop-of-length-le}
+use lib.Seq.{paste, length-paste, length-take-le, getD-take, getD-drop, drop-drop, ext-getD}
 use Rattle.laws.specs.laws.Cases.{le-or-lt}
 use Rattle.laws.specs.laws.Pastes.{before-paste, in-paste, behind-paste}
 
 -- the first third in each of the three; what is left of a length that is no multiple of three stays
 unfoldable pub threeTimes : List ℕ → List ℕ
 threeTimes l = let t = take (length l / 3) l in t ++ (t ++ (t ++ drop (3 * (length l / 3)) l))
-
--- one more number copied
-pub copy-turn : (l₀ l : List ℕ) (from to m j : ℕ) → from + m ≤ to → to + m ≤ length l₀ → j < m → l ≡ paste l₀ to (drop from l₀) j
-    → set l (to + j) (getD l (from + j) 0) ≡ paste l₀ to (drop from l₀) (j + 1)
-copy-turn l₀ l from to m j a b h e =
-    let s : j < length (drop from l₀) = omega (arith, length-drop from l₀) in
-    let g : getD l (from + j) 0 ≡ getD (drop from l₀) j 0 = ap (λ (k : List ℕ). getD k (from + j) 0) e ∙ before-paste l₀ to (drop from l₀) j (omega arith) (omega arith) (from + j) (omega arith) ∙ sym (getD-drop from l₀ j 0) in
-    rw (g, e, add-one j) (paste-suc l₀ to (drop from l₀) j 0 (omega arith) s)
 
 -- m numbers copied: they are the same, and all others stay
 module _ (d e : List ℕ) (from to m : ℕ) (p : e ≡ paste d to (drop from d) m) (r : to + m ≤ length d) (f : from + m ≤ length d) where

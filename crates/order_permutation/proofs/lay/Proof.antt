@@ -1,4 +1,5 @@
-use Rattle.order_permutation.specs.laws.Blocks.{lay-turn}
+use Rattle.laws.specs.laws.Pastes.{copy-turn}
+use mathlib.Core.Logic.{inr}
 use lib.Seq.{paste, paste-zero}
 use borrow.Author.Needs.{needs}
 use native.Mathlib.Omega.{arith}
@@ -40,7 +41,7 @@ loop-again c =
     let a = c .before .before .before .args in
     let l = c .before .before .loop in
     let q = c .before .before .before .pre .1 (omega arith) in
-    (omega arith, search needs, lay-turn (a .list .now) (l .list) (a .start) (a .at) (a .n) (l .j) (omega arith) q (omega arith) (l .inv .2))
+    (omega arith, search needs, copy-turn (a .list .now) (l .list) (a .start) (a .at) (l .j) (inr (omega arith)) (omega (arith, q)) (omega (arith, q)) (l .inv .2))
 
 returns : tie.Need-returns Inv-loop μ-loop
 returns c =

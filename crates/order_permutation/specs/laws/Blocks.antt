@@ -7,7 +7,7 @@ use native.Mathlib.Nat.{not-suc-le-zero, le-of-suc-le-suc, suc-mul, zero-mul}
 use native.Mathlib.Numerals.{add-one}
 use native.Mathlib.Omega.{arith}
 use lib.ListN.{length, getD, take, drop, set, length-append, length-drop, take-append-drop, drop-of-length-le, List·getD-append}
-use lib.Seq.{sets, paste, paste-suc, take-paste, drop-paste, length-paste, drop-drop, take-add, drop-at, take-append-le, take-append-add, take-take, take-nil, length-take-le, getD-take, getD-drop, getD-append-add}
+use lib.Seq.{sets, paste, take-paste, drop-paste, length-paste, drop-drop, take-add, drop-at, take-append-le, take-append-add, take-take, take-nil, length-take-le, getD-take, getD-drop, getD-append-add}
 use Rattle.laws.specs.laws.Cases.{le-or-lt}
 use Rattle.order_permutation.specs.Digits.{without}
 
@@ -221,18 +221,6 @@ some-left ns b d l h = go (le-or-lt (length ns) b)
     go : (length ns ≤ b) ⊎ (b < length ns) → b < length ns
     go (inl k) = absurd (omega (arith, total-end ns b k, sum-split ns b))
     go (inr k) = k
-
--- one more number laid
-pub lay-turn : (l₀ l : List ℕ) (start at n j : ℕ) → at ≤ start → start + n ≤ length l₀ → j < n → l ≡ paste l₀ at (drop start l₀) j
-    → set l (at + j) (getD l (start + j) 0) ≡ paste l₀ at (drop start l₀) (j + 1)
-lay-turn l₀ l start at n j a b h e =
-    let s = drop start l₀ in
-    let ls = length-drop start l₀ in
-    let d : drop (at + j) l ≡ drop (at + j) l₀ = ap (drop (at + j)) e ∙ drop-paste l₀ at s j (omega arith) (omega arith) in
-    let k : at + j + (start - at) ≡ start + j = omega arith in
-    let g : getD l (start + j) 0 ≡ getD s j 0 =
-    ap (λ (i : ℕ). getD l i 0) (sym k) ∙ sym (getD-drop (at + j) l (start - at) 0) ∙ ap (λ (m : List ℕ). getD m (start - at) 0) d ∙ getD-drop (at + j) l₀ (start - at) 0 ∙ ap (λ (i : ℕ). getD l₀ i 0) k ∙ sym (getD-drop start l₀ j 0) in
-    rw (g, e, add-one j) (paste-suc l₀ at s j 0 (omega arith) (omega arith))
 
 -- the counts, one by one
 pub counts-turn : (m j left n : ℕ) (c : List ℕ) (i : ℕ) → n ≡ min left m → sets c i (counts m (suc j) left) ≡ sets (set c i n) (i + 1) (counts m j (left - n))
