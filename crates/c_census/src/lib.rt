@@ -1,3 +1,4 @@
+#![tactic(auto)]
 // C interface: the context of a coefficient.
 ghost use Rattle.std.specs.Prelude.{◌≡◌};
 ghost use Rattle.refusal.specs.Said.{said_at};

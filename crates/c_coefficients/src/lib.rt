@@ -1,3 +1,4 @@
+#![tactic(auto)]
 // C interface: the coefficient call.
 ghost use Rattle.refusal.specs.Said.{said_at};
 ghost use Rattle.refusal.specs.Handed.{with};

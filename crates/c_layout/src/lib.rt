@@ -1,3 +1,4 @@
+#![tactic(auto)]
 // C interface: the layout of an LF group with its filter strengths, and its column count.
 ghost use Rattle.std.specs.Prelude.{◌≡◌, [], ◌∷◌};
 ghost use Rattle.refusal.specs.Said.{said_at};

@@ -1,3 +1,4 @@
+#![tactic(auto)]
 // C interface: the order call, and where its lists lie in the store.
 ghost use Rattle.std.specs.Prelude.{◌≡◌, length};
 ghost use Rattle.refusal.specs.Said.{said_at};

@@ -1,3 +1,4 @@
+#![tactic(auto)]
 // C interface: reads of the bit reader, one at a time.
 ghost use Rattle.std.specs.Prelude.{◌≡◌, min};
 ghost use Rattle.refusal.specs.Said.{said_at};

@@ -1,3 +1,4 @@
+#![tactic(auto)]
 // The coefficients of a pass group (`hf_coeff.rs`).
 use crate::group::read_group;
 use coeff_checks::before_work;

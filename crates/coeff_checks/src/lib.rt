@@ -1,3 +1,4 @@
+#![tactic(auto)]
 // What the coefficient call looks at before work: sides, parameters, contexts, lengths, layout and stored places.
 use crate::checks::{layout_fits, other_lengths_fit, parameters_fit, read_fits};
 use context_record::HfBlockContext;

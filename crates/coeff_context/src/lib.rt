@@ -1,3 +1,4 @@
+#![tactic(auto)]
 // The context of a coefficient (`hf_coeff.rs`), and the call that tells it of a situation (document 02, No. 9).
 use crate::tables::{COEFF_FREQ_CONTEXT, COEFF_NUM_NONZERO_CONTEXT};
 use refusal::Refusal;

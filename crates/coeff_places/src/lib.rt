@@ -1,3 +1,4 @@
+#![tactic(auto)]
 // The places of one channel of a varblock: the coefficients behind its count (`hf_coeff.rs`).
 use crate::walk::walk_places;
 use coeff_context::tables::{COEFF_FREQ_CONTEXT, COEFF_NUM_NONZERO_CONTEXT};

@@ -1,3 +1,4 @@
+#![tactic(auto)]
 // The preset number: as many bits as number the presets.
 ghost use Rattle.std.specs.Prelude.{◌≡◌};
 ghost use Rattle.bits.specs.Bits.{read_bits};

@@ -1,3 +1,4 @@
+#![tactic(auto)]
 // One varblock: the counts and coefficients of its three channels (`hf_coeff.rs`).
 use crate::channel::read_in_grid;
 use crate::count::count_over;

@@ -1,3 +1,4 @@
+#![tactic(auto)]
 // One channel of a varblock: what its reading means (`hf_coeff.rs`), and how it ended. The reading's code is in
 // `coeff_places` and `coeff_varblock`.
 use refusal::Refusal;

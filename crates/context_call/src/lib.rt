@@ -1,3 +1,4 @@
+#![tactic(auto)]
 // The context call (`HfBlockContext::parse` of `lf.rs`).
 mod judge;
 mod map;

@@ -1,3 +1,4 @@
+#![tactic(auto)]
 // The context census as a page, docs/CENSUS.md, if there is an argument: the numbers of all contexts of coefficients, with the
 // entries and the flag that each is made of and the situations of one block that have it. Without one: how many numbers occur.
 ghost use Rattle.std.specs.Prelude.{◌≤◌};

@@ -1,3 +1,4 @@
+#![tactic(auto)]
 // The block contexts of a varblock (`write_hf_coeff` of `hf_coeff.rs`).
 ghost use Rattle.std.specs.Prelude.{◌≡◌, ◌+◌, ◌*◌, ◌<◌, ◌≤◌, cond, length, take, drop, if◌then◌else◌, slice_index, slice_index_or};
 ghost use Rattle.context_index.specs.Contexts.{above, greater, lf_index_in, entry_of};

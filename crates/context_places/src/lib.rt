@@ -1,3 +1,4 @@
+#![tactic(auto)]
 // The places of a record: lists of thresholds one behind the other, and a context map.
 ghost use Rattle.std.specs.Prelude.{◌≡◌, ◌++◌, ◌+◌, ◌≤◌, length, take};
 ghost use Rattle.std.proofs.Math.Seq.{paste};

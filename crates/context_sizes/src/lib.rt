@@ -1,3 +1,4 @@
+#![tactic(auto)]
 // How many places of a record are in use. A length above 15 counts as 15.
 ghost use Rattle.std.specs.Prelude.{◌≡◌, min, ◌+◌, ◌*◌, ◌≤◌, get_or};
 ghost use Rattle.context_sizes.specs.laws.Sizes.{capped_bsize};

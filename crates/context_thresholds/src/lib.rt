@@ -1,3 +1,4 @@
+#![tactic(auto)]
 // Lists of thresholds, read from bits.
 ghost use Rattle.std.specs.Prelude.{◌≡◌, ◌+◌, ◌<◌, ◌≤◌};
 ghost use Rattle.bits.specs.Reads.{bits_before, got_of};

@@ -1,3 +1,4 @@
+#![tactic(auto)]
 // The layout of an LF group and its filter strengths (`hf_metadata.rs`).
 ghost use Rattle.std.specs.Prelude.{◌≡◌};
 ghost use Rattle.layout_call.specs.Call.{inputs, leaves, layout_of};

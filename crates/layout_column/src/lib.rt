@@ -1,3 +1,4 @@
+#![tactic(auto)]
 // A column of a layout by itself (`hf_metadata.rs`).
 ghost use Rattle.std.specs.Prelude.{◌≡◌};
 ghost use Rattle.layout_column.specs.Columns.{hf_mul_of};

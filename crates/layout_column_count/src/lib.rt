@@ -1,3 +1,4 @@
+#![tactic(auto)]
 // How many columns an LF group's layout has (`HfMetadata::parse`, `nb_blocks`).
 ghost use Rattle.std.specs.Prelude.{◌≡◌};
 ghost use Rattle.layout_column_count.specs.Count.{counted, count_of};

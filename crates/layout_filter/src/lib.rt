@@ -1,3 +1,4 @@
+#![tactic(auto)]
 // Filter strength: the sigma of a block (document 01, Layout and filter strength).
 ghost use Rattle.std.specs.Prelude.{◌≡◌, pos};
 ghost use Rattle.std.specs.Float.{binary32};

@@ -1,3 +1,4 @@
+#![tactic(auto)]
 // Runs the lister on recorded jobs: each a 16-bit length, the lower byte first, and that many bytes.
 ghost use Rattle.std.specs.Prelude.{◌≡◌, ◌<◌};
 

@@ -1,1 +1,2 @@
+#![tactic(auto)]
 // Likeness of layouts that the layout call accepted. No code.

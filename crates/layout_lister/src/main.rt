@@ -1,3 +1,4 @@
+#![tactic(auto)]
 // Layout lister: reads a job from standard input, and not a byte behind its end, and lists its
 // layout.
 ghost use Rattle.std.specs.Prelude.{◌≡◌, ◌≤◌, length};

@@ -1,3 +1,4 @@
+#![tactic(auto)]
 // An LF group: its size in pixels and in blocks, and the lengths lent for its layout (document 01, Layout and filter strength).
 ghost use Rattle.std.specs.Prelude.{◌≡◌};
 ghost use Rattle.layout_sizes.specs.Blocks.{size_fits, modes_fit, is_either, any_either, blocks, even_if, counts_fit};

@@ -1,3 +1,4 @@
+#![tactic(auto)]
 // A cell of a lent layout by itself: what is wrong with its kind and hf_mul, and of how many blocks it is the corner.
 ghost use Rattle.std.specs.Prelude.{◌≡◌, ◌≤◌, ltb};
 ghost use Rattle.lent_cells.specs.laws.Cells.{flag_of, flaw_of, within_of, larger_of, gap_of};

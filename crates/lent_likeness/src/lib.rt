@@ -1,3 +1,4 @@
+#![tactic(auto)]
 // Likeness of two lent layouts: the same varblocks, transform numbers and hf_mul included, and the same sigma.
 ghost use Rattle.std.specs.Prelude.{◌≡◌, ◌&&◌, ◌*◌, eqb};
 ghost use Rattle.layout.specs.Empty.{is_empty};

@@ -1,3 +1,4 @@
+#![tactic(auto)]
 // The layout lister: from a job's bytes to the printed bytes (document 01, The lister).
 ghost use Rattle.std.specs.Prelude.{◌≡◌, ◌++◌, ◌*◌, ◌≤◌, length, get_or, drop, replicate};
 ghost use Rattle.text.specs.Text.{Puts};

@@ -1,3 +1,4 @@
+#![tactic(auto)]
 // A job of the lister: size, columns, end.
 ghost use Rattle.std.specs.Prelude.{◌≡◌, ◌+◌, ◌≤◌, ◌<◌, length};
 ghost use Rattle.lister_job.specs.Job.{number16 as number16Of, number32 as number32Of, column_place, has_size, size_needs, column_needs, needed as neededOf};

@@ -1,3 +1,4 @@
+#![tactic(auto)]
 // The order call (`hf_pass.rs`): which orders are used is read from bits, their lists from symbols.
 ghost use Rattle.std.specs.Prelude.{◌≡◌, ◌+◌, ◌*◌, ◌-◌, ◌/◌, ◌≤◌, ◌<◌, min, length, drop};
 ghost use Rattle.bits.specs.Reads.{got_of};

@@ -1,3 +1,4 @@
+#![tactic(auto)]
 // The first of three lists, copied to the other two piece by piece: what was just read is still near when it is read again.
 ghost use Rattle.std.specs.Prelude.{◌≡◌, ◌+◌, ◌≤◌, min, length, drop};
 ghost use Rattle.std.proofs.Math.Seq.{paste};

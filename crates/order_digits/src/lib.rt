@@ -1,3 +1,4 @@
+#![tactic(auto)]
 // Digits of a permutation: each is below what remains (`read_permutation`).
 ghost use Rattle.std.specs.Prelude.{◌≡◌};
 ghost use Rattle.order_digits.specs.laws.Leading.{leading};

@@ -1,3 +1,4 @@
+#![tactic(auto)]
 // The natural order of a block size, walked (`hf_pass.rs`). A diagonal is laid by eights: up to seven cells, 14 numbers, behind
 // its end are written too, and laid over next. So there is that much room behind what is laid.
 ghost use Rattle.std.specs.Prelude.{◌≡◌, ℕ, ◌+◌, ◌-◌, ◌*◌, ◌/◌, ◌<◌, ◌≤◌, length};

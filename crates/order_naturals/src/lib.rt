@@ -1,3 +1,4 @@
+#![tactic(auto)]
 // Natural orders for a whole store (`hf_pass.rs`).
 ghost use Rattle.std.specs.Prelude.{◌≡◌, ◌*◌, ◌<◌, length};
 ghost use Rattle.order_sizes.specs.BlockSizes.{width_of, height_of};

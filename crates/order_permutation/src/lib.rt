@@ -1,3 +1,4 @@
+#![tactic(auto)]
 // Digits that put a list of places in order, in place (`read_permutation`).
 ghost use Rattle.std.specs.Prelude.{◌≡◌, true, ◌&&◌, ◌++◌, ◌+◌, ◌-◌, ◌*◌, ◌≤◌, ◌<◌, min, ltb, length, get_or, take, drop};
 ghost use Rattle.std.proofs.Math.Seq.{paste};

@@ -1,3 +1,4 @@
+#![tactic(auto)]
 // The check of stored places (refusal 13 of the coefficient call).
 ghost use Rattle.std.specs.Prelude.{◌≡◌, length};
 ghost use Rattle.order_store.specs.Store.{inside_all, places_fit};

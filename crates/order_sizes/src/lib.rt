@@ -1,3 +1,4 @@
+#![tactic(auto)]
 // The sizes of the 13 orders (`hf_pass.rs`).
 ghost use Rattle.std.specs.Prelude.{◌≡◌};
 ghost use Rattle.order_sizes.specs.laws.BlockSizes.{block_size};

@@ -1,3 +1,4 @@
+#![tactic(auto)]
 // Natural orders 0 to 6 from a constant table (document 02, No. 3).
 use crate::table::{ORDER_0, ORDER_1, ORDER_2, ORDER_3, ORDER_4, ORDER_5, ORDER_6};
 use order_copies::copy_twice;

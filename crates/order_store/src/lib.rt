@@ -1,3 +1,4 @@
+#![tactic(auto)]
 // The store of the orders, and a list looked up in it (`hf_pass.rs`).
 ghost use Rattle.std.specs.Prelude.{◌≡◌, ◌+◌, ◌*◌, ◌<◌};
 ghost use Rattle.order_sizes.specs.BlockSizes.{width_of, height_of};

@@ -1,3 +1,4 @@
+#![tactic(auto)]
 // The planes of a group: what a channel's shift, 0 or 1, makes of sides and blocks (document 02, No. 4).
 ghost use Rattle.std.specs.Prelude.{◌≡◌};
 ghost use Rattle.planes.specs.Planes.{halved, half, is_first};

@@ -1,3 +1,4 @@
+#![tactic(auto)]
 // What a call gave: digests of its lists, and the comparison with what was recorded (compare/RECORD.md).
 pub mod digest;
 

@@ -1,3 +1,4 @@
+#![tactic(auto)]
 // The numbers, lists and records of a recorded list of answers (compare/RECORD.md).
 ghost use Rattle.std.specs.Prelude.{◌≡◌, ◌<◌};
 

@@ -1,3 +1,4 @@
+#![tactic(auto)]
 // The bytes of a file as numbers of four bytes, lowest byte first.
 ghost use Rattle.std.specs.Prelude.{◌≡◌, ◌++◌, ◌+◌, ◌*◌, ◌<◌, ◌≤◌, length, drop};
 ghost use Rattle.recorded_words.specs.Words.{word_at, word_count, words_of};

@@ -1,3 +1,4 @@
+#![tactic(auto)]
 // Makes the calls of a recorded list again, and compares the answers with those that were recorded
 // (compare/RECORD.md). The list is the file `answers.bin`.
 ghost use Rattle.io.specs.Counts.{IsPrefixLen};

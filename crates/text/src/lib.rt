@@ -1,3 +1,4 @@
+#![tactic(auto)]
 // Text written into lent bytes, as much of it as fits.
 ghost use Rattle.std.specs.Prelude.{◌≡◌, [], ◌∷◌, ◌++◌, min};
 ghost use Rattle.text.specs.Text.{Puts, decimal};
