@@ -4,7 +4,7 @@ ghost use Rattle.std.specs.Prelude.{◌≡◌};
 ghost use Rattle.order_sizes.specs.laws.BlockSizes.{block_size};
 
 // Width and height of an order, in cells.
-#[derive(Drop)]
+#[derive(Clone, Copy)]
 pub struct OrderSize {
     pub width: usize,
     pub height: usize,
