@@ -5,18 +5,11 @@ use Rattle.context_thresholds.specs.declared.ListStep.TheVariants as list_step
 use Rattle.context_thresholds.specs.laws.Steps.{read_value, counted}
 use Rattle.context_thresholds.specs.laws.Halfway.{Half, half_start, half_step, half_short, half_done}
 use Rattle.std.proofs.Common.{◌≡◌, ℕ, ◌+◌, ◌-◌, ◌%◌, ◌^◌, ◌≤◌, replicate, sym, ap, ◌∙◌, arith, rules}
-use Rattle.context_thresholds.proofs.read_values.Statement.{statement}
-use Rattle.context_thresholds.proofs.read_values.Tie as tie
+use Rattle.context_thresholds.proofs.read_values.Goals as goal
 
-abbrev invariant_loop : tie.invariant-loop
-invariant_loop bytes start kind n end values₀ p₀ k₀ values p k = (k ≤ n) × Half (read_value kind bytes) n (bits_before p₀) values p k
-
-abbrev decreases_loop : tie.decreases-loop
-decreases_loop bytes start kind n end values₀ p₀ k₀ values p k = n - k
-
-loop_holds : tie.Need-loop-init invariant_loop decreases_loop
-loop_holds c =
-    let a = c.before.args in
+pub loop-k-init : goal.loop-k-init
+loop-k-init c =
+    let a = c.args in
     (omega arith, half_start (read_value a.kind a.bytes.now) a.n (bits_before a.from) a.from (sym (at_before a.from (omega arith))))
 
 -- What the bits that ended tell.
@@ -28,29 +21,29 @@ module _ (c : tie.After-wrapping-sub-usize invariant_loop decreases_loop) where
       let a = c.before.before.before.before.before.before.before.before.before.before.args in
       let l = c.before.before.before.before.before.before.before.before.loop in
       let g = c.before.before.before.before.got.given in
-      was_end (bits_before l.p) (read_value a.kind a.bytes.now (bits_before l.p)) g.0.0 (sym c.before.before.before.before.before.before.read-value.ensures ∙ g.1)
+      was_end (bits_before l.p) (read_value a.kind a.bytes.now (bits_before l.p)) g.0.0 (sym c.before.before.before.before.before.before.read_value.ensures ∙ g.1)
 
   taken : let a = c.before.before.before.before.before.before.before.before.before.before.args in
-      (c.wrapping-sub-usize.result + c.before.before.before.before.got.given.0.0 ≡ ends.at - bits_before a.start) × (ends.at - bits_before a.start ≤ 516)
+      (c.wrapping_sub_usize.result + c.before.before.before.before.got.given.0.0 ≡ ends.at - bits_before a.start) × (ends.at - bits_before a.start ≤ 516)
   taken =
       let s = c.before.before.before.before.before.before.before.before.before.before in
       let a = s.args in
       let l = c.before.before.before.before.before.before.before.before.loop in
       let h = l.invariant.1 in
-      let w = c.wrapping-sub-usize in
+      let w = c.wrapping_sub_usize in
       let t : bits_before l.p ≡ h.at = ap bits_before h.place ∙ before_at h.at in
       let n = (value_near a.bytes.now (λ i. (c.before.before.before.before.before.before.before.before.before.shared-slice-known.given i).fits) a.kind (bits_before l.p)).end ends.at ends.is in
       counted (bits_before a.start) (bits_before l.p) ends.at w.result c.before.before.before.before.got.given.0.0
       (omega (arith, t, h.past, s.requires.2)) (omega (arith, t, h.near, l.invariant.0, s.requires.0, s.requires.2)) n.0 n.1 ends.taken (omega (arith, w.type-inv))
-      (ap (λ (x : ℕ). (w.result + x) % 2 ^ 64) (sym c.before.bits-read2.ensures) ∙ w.ensures ∙ c.before.before.bits-read.ensures)
+      (ap (λ (x : ℕ). (w.result + x) % 2 ^ 64) (sym c.before.bits-read2.ensures) ∙ w.ensures ∙ c.before.before.bits_read.ensures)
 
-add_t17 : tie.Need-overflow-add-t17 invariant_loop decreases_loop
-add_t17 c = omega (arith, taken c)
+pub overflow_add-result : goal.overflow_add-result
+overflow_add-result c = omega (arith, taken c)
 
-returns : tie.Need-returns invariant_loop decreases_loop
-returns c =
-    let a = c.before.before.before.before.before.before.before.before.before.before.args in
-    let l = c.before.before.before.before.before.before.before.before.loop in
+pub returns-in-End : goal.returns-in-End
+returns-in-End c =
+    let a = c.args in
+    let l = c.loop-k in
     let h = l.invariant.1 in
     let e = ends c in
     let read = read_value a.kind a.bytes.now in
@@ -58,30 +51,22 @@ returns c =
     ∙ half_short read a.n (bits_before a.from) l.values l.p l.k h (omega arith) (bits_before a.start) e.at
     (ap read (sym (ap bits_before h.place ∙ before_at h.at)) ∙ e.is)
 
-loop_again : tie.Need-loop-preserved invariant_loop decreases_loop
-loop_again c =
-    let a = c.before.before.before.before.before.before.before.args in
-    let l = c.before.before.before.before.before.loop in
+pub loop-k-preserved : goal.loop-k-preserved
+loop-k-preserved c =
+    let a = c.args in
+    let l = c.loop-k in
     let h = l.invariant.1 in
-    let g = c.before.got2.given in
     let read = read_value a.kind a.bytes.now in
-    let w = was_value (bits_before l.p) (read (bits_before l.p)) g.0.0 g.0.1.0 (sym c.before.before.before.read-value.ensures ∙ g.1) in (
+    let w = was_value (bits_before l.p) (read (bits_before l.p)) c.in-Value.v c.in-Value.next (sym c.read_value-got.ensures ∙ c.in-Value.is) in (
       omega arith,
-      half_step read a.n (bits_before a.from) l.values l.p l.k h (omega arith) g.0.0 w.at g.0.1.0 (omega arith)
-          (λ v b e. let t = (value_near a.bytes.now (λ i. (c.before.before.before.before.before.before.shared-slice-known.given i).fits) a.kind h.at).value v b e in (t.2, t.1))
+      half_step read a.n (bits_before a.from) l.values l.p l.k h (omega arith) c.in-Value.v w.at c.in-Value.next (omega arith)
+          (λ v b e. let t = (value_near a.bytes.now (λ i. (c.shared_slice_known-1.given i).fits) a.kind h.at).value v b e in (t.2, t.1))
           (ap read (sym (ap bits_before h.place ∙ before_at h.at)) ∙ w.is)
           w.place,
     )
 
-returns_2 : tie.Need-returns-2 invariant_loop decreases_loop
-returns_2 c =
-    let a = c.before.before.before.args in
-    let l = c.before.loop in
+pub returns : goal.returns
+returns c =
+    let a = c.args in
+    let l = c.loop-k in
     half_done (read_value a.kind a.bytes.now) a.n (bits_before a.from) (bits_before a.start) l.values l.p l.k l.invariant.1 (omega arith)
-
-pub read_values_spec : {M : Type 1} → statement M
-read_values_spec =
-    tie.close (tie.spec invariant_loop decreases_loop loop_holds (λ c κs. search rules) (λ c. search rules) (λ c κs. search rules)
-    (λ c κs. search rules) (λ c κs. search rules) (λ c. search rules) add_t17 returns
-    (λ c. search rules) (λ c. search rules) (λ c. search rules) (λ c. search rules) (λ c. search rules)
-    loop_again returns_2)
