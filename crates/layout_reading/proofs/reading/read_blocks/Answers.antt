@@ -37,7 +37,7 @@ returns-in_default c =
     let a = c.args in
     let o = c.loop-y in
     let l = c.loop-x in
-    sym (loop_start (visit (job_with a.bw a.bh a.types.now a.muls.now a.sharpness.now a.filter a.lookups.now)) a.bw a.bh (Going (state_of 0 a.kinds.now a.hf_mul.now a.sigma.now)) ∙ o.inv.4 ∙ loop_enter (visit (job_with a.bw a.bh a.types.now a.muls.now a.sharpness.now a.filter a.lookups.now)) a.bw a.bh o.y (Going (state_of o.used o.kinds o.hf_mul o.sigma)) c.loop-y-test.true ∙ l.inv.4 ∙ loop_stop (visit (job_with a.bw a.bh a.types.now a.muls.now a.sharpness.now a.filter a.lookups.now)) a.bw a.bh o.y l.x (Going (state_of l.used l.kinds l.hf_mul l.sigma)) (stepped c.visit-step.result c.visit-step.new.kinds c.visit-step.new.hf_mul c.visit-step.new.sigma) (stop_stays (job_with a.bw a.bh a.types.now a.muls.now a.sharpness.now a.filter a.lookups.now) c.visit-step.result _ _ c.visit-step.new.kinds c.visit-step.new.hf_mul c.visit-step.new.sigma c.in_default.is) c.loop-x-test.true c.visit-step.ensures)
+    sym (loop_start (visit (job_with a.bw a.bh a.types.now a.muls.now a.sharpness.now a.filter a.lookups.now)) a.bw a.bh (Going (state_of 0 a.kinds.now a.hf_mul.now a.sigma.now)) ∙ o.invariant.4 ∙ loop_enter (visit (job_with a.bw a.bh a.types.now a.muls.now a.sharpness.now a.filter a.lookups.now)) a.bw a.bh o.y (Going (state_of o.used o.kinds o.hf_mul o.sigma)) c.loop-y-test.true ∙ l.invariant.4 ∙ loop_stop (visit (job_with a.bw a.bh a.types.now a.muls.now a.sharpness.now a.filter a.lookups.now)) a.bw a.bh o.y l.x (Going (state_of l.used l.kinds l.hf_mul l.sigma)) (stepped c.visit-step.result c.visit-step.new.kinds c.visit-step.new.hf_mul c.visit-step.new.sigma) (stop_stays (job_with a.bw a.bh a.types.now a.muls.now a.sharpness.now a.filter a.lookups.now) c.visit-step.result _ _ c.visit-step.new.kinds c.visit-step.new.hf_mul c.visit-step.new.sigma c.in_default.is) c.loop-x-test.true c.visit-step.ensures)
 
 pub overflow_add-x : goal.overflow_add-x
 overflow_add-x c = omega (arith, c.loop-x-test.true, c.requires.5)
@@ -48,14 +48,14 @@ loop-x-preserved c =
     let o = c.loop-y in
     let l = c.loop-x in
     let n = sym (ap (λ (z : Step). stepped z c.visit-step.new.kinds c.visit-step.new.hf_mul c.visit-step.new.sigma) c.in-Going.is) ∙ c.visit-step.ensures in
-    (omega (arith, c.loop-x-test.true), c.kinds-1.given ∙ l.inv.1, c.hf_mul-1.given ∙ l.inv.2, c.sigma-1.given ∙ l.inv.3, l.inv.4 ∙ loop_next (visit (job_with a.bw a.bh a.types.now a.muls.now a.sharpness.now a.filter a.lookups.now)) a.bw a.bh o.y l.x (Going (state_of l.used l.kinds l.hf_mul l.sigma)) _ c.loop-x-test.true n)
+    (omega (arith, c.loop-x-test.true), c.kinds-1.given ∙ l.invariant.1, c.hf_mul-1.given ∙ l.invariant.2, c.sigma-1.given ∙ l.invariant.3, l.invariant.4 ∙ loop_next (visit (job_with a.bw a.bh a.types.now a.muls.now a.sharpness.now a.filter a.lookups.now)) a.bw a.bh o.y l.x (Going (state_of l.used l.kinds l.hf_mul l.sigma)) _ c.loop-x-test.true n)
 
 pub loop-y-preserved : goal.loop-y-preserved
 loop-y-preserved c =
     let a = c.args in
     let o = c.loop-y in
     let l = c.loop-x in
-    (omega (arith, c.loop-y-test.true), l.invariant.1, l.invariant.2, l.invariant.3, o.inv.4 ∙ loop_enter (visit (job_with a.bw a.bh a.types.now a.muls.now a.sharpness.now a.filter a.lookups.now)) a.bw a.bh o.y (Going (state_of o.used o.kinds o.hf_mul o.sigma)) c.loop-y-test.true ∙ l.invariant.4 ∙ loop_leave (visit (job_with a.bw a.bh a.types.now a.muls.now a.sharpness.now a.filter a.lookups.now)) a.bw a.bh o.y l.x (Going (state_of l.used l.kinds l.hf_mul l.sigma)) c.loop-x-test.false)
+    (omega (arith, c.loop-y-test.true), l.invariant.1, l.invariant.2, l.invariant.3, o.invariant.4 ∙ loop_enter (visit (job_with a.bw a.bh a.types.now a.muls.now a.sharpness.now a.filter a.lookups.now)) a.bw a.bh o.y (Going (state_of o.used o.kinds o.hf_mul o.sigma)) c.loop-y-test.true ∙ l.invariant.4 ∙ loop_leave (visit (job_with a.bw a.bh a.types.now a.muls.now a.sharpness.now a.filter a.lookups.now)) a.bw a.bh o.y l.x (Going (state_of l.used l.kinds l.hf_mul l.sigma)) c.loop-x-test.false)
 
 pub returns : goal.returns
 returns c =

@@ -31,14 +31,14 @@ loop-dx-preserved c =
     let l = c.loop-dx in
     let e = taken_is c.take_cell-cell.result (sym c.refuses.ensures ∙ c.if-refuses.false) in
     let t = sym (ap (λ (z : Scanned). scanned z c.take_cell-cell.new.kinds c.take_cell-cell.new.sigma) e) ∙ c.take_cell-cell.ensures in
-    (omega (arith, c.loop-dx-test.true), l.inv.1, c.kinds-1.given ∙ l.inv.2, c.sigma-1.given ∙ l.inv.3, l.inv.4 ∙ loop_next (cell_at a.bw a.bh a.divided a.lookups.now a.sharpness.now a.x a.y) a.w a.h o.dy l.dx (Taking l.kinds l.sigma) (Taking c.take_cell-cell.new.kinds c.take_cell-cell.new.sigma) c.loop-dx-test.true t)
+    (omega (arith, c.loop-dx-test.true), l.invariant.1, c.kinds-1.given ∙ l.invariant.2, c.sigma-1.given ∙ l.invariant.3, l.invariant.4 ∙ loop_next (cell_at a.bw a.bh a.divided a.lookups.now a.sharpness.now a.x a.y) a.w a.h o.dy l.dx (Taking l.kinds l.sigma) (Taking c.take_cell-cell.new.kinds c.take_cell-cell.new.sigma) c.loop-dx-test.true t)
 
 pub rows-preserved : goal.rows-preserved
 rows-preserved c =
     let a = c.args in
     let o = c.rows in
     let l = c.loop-dx in
-    (omega (arith, c.rows-test.true), l.invariant.1, l.invariant.2, l.invariant.3, o.inv.4 ∙ loop_enter (cell_at a.bw a.bh a.divided a.lookups.now a.sharpness.now a.x a.y) a.w a.h o.dy (Taking o.kinds o.sigma) c.rows-test.true ∙ l.invariant.4 ∙ loop_leave (cell_at a.bw a.bh a.divided a.lookups.now a.sharpness.now a.x a.y) a.w a.h o.dy l.dx (Taking l.kinds l.sigma) c.loop-dx-test.false)
+    (omega (arith, c.rows-test.true), l.invariant.1, l.invariant.2, l.invariant.3, o.invariant.4 ∙ loop_enter (cell_at a.bw a.bh a.divided a.lookups.now a.sharpness.now a.x a.y) a.w a.h o.dy (Taking o.kinds o.sigma) c.rows-test.true ∙ l.invariant.4 ∙ loop_leave (cell_at a.bw a.bh a.divided a.lookups.now a.sharpness.now a.x a.y) a.w a.h o.dy l.dx (Taking l.kinds l.sigma) c.loop-dx-test.false)
 
 pub returns-after-rows : goal.returns-after-rows
 returns-after-rows c =
@@ -52,7 +52,7 @@ returns-then-refuses c =
     let o = c.rows in
     let l = c.loop-dx in
     let e = sym c.refuses.ensures ∙ c.if-refuses.true in
-    sym (scan_start a.bw a.bh a.divided a.lookups.now a.sharpness.now a.x a.y a.w a.h (Taking a.kinds.now a.sigma.now) ∙ o.inv.4 ∙ loop_enter (cell_at a.bw a.bh a.divided a.lookups.now a.sharpness.now a.x a.y) a.w a.h o.dy (Taking o.kinds o.sigma) c.rows-test.true ∙ l.inv.4 ∙ loop_stop (cell_at a.bw a.bh a.divided a.lookups.now a.sharpness.now a.x a.y) a.w a.h o.dy l.dx (Taking l.kinds l.sigma) (scanned c.take_cell-cell.result c.take_cell-cell.new.kinds c.take_cell-cell.new.sigma) (refused_stays a.bw a.bh a.divided a.lookups.now a.sharpness.now c.take_cell-cell.result c.take_cell-cell.new.kinds c.take_cell-cell.new.sigma e a.x a.y) c.loop-dx-test.true c.take_cell-cell.ensures)
+    sym (scan_start a.bw a.bh a.divided a.lookups.now a.sharpness.now a.x a.y a.w a.h (Taking a.kinds.now a.sigma.now) ∙ o.invariant.4 ∙ loop_enter (cell_at a.bw a.bh a.divided a.lookups.now a.sharpness.now a.x a.y) a.w a.h o.dy (Taking o.kinds o.sigma) c.rows-test.true ∙ l.invariant.4 ∙ loop_stop (cell_at a.bw a.bh a.divided a.lookups.now a.sharpness.now a.x a.y) a.w a.h o.dy l.dx (Taking l.kinds l.sigma) (scanned c.take_cell-cell.result c.take_cell-cell.new.kinds c.take_cell-cell.new.sigma) (refused_stays a.bw a.bh a.divided a.lookups.now a.sharpness.now c.take_cell-cell.result c.take_cell-cell.new.kinds c.take_cell-cell.new.sigma e a.x a.y) c.loop-dx-test.true c.take_cell-cell.ensures)
 
 pub rows-init : goal.rows-init
 rows-init c = let h = c.requires in (omega arith, refl, h.0, h.1, refl)
