@@ -12,7 +12,7 @@ use Rattle.order_permutation.proofs.draw.Goals as goal
 pub loop-k-init : goal.loop-k-init
 loop-k-init c =
     let a = c.args in
-    (draw_start a.span a.size a.skip a.digits.now a.list.now c.requires.0 c.requires.1 c.requires.2 c.requires.3 c.requires.4 c.Counts-of.result c.Counts-of.ensures, omega arith, sym (sum_start c.Counts-of.result))
+    (draw_start a.span a.size a.skip a.digits.now a.list.now c.requires.0 c.requires.1 c.requires.2 c.requires.3 c.requires.4 c.counts_of-count.result c.counts_of-count.ensures, omega arith, sym (sum_start c.counts_of-count.result))
 
 pub slice_bounds-take_out-count : goal.slice_bounds-take_out-count
 slice_bounds-take_out-count c = omega (arith, c.loop-k.invariant.0.long, c.requires.3)

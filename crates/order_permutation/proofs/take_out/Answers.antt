@@ -6,7 +6,7 @@ use native.Mathlib.Omega.{arith}
 use lib.ListN.{length, get_or}
 use Rattle.order_permutation.specs.laws.Blocks.{sum_set}
 use Rattle.order_permutation.specs.laws.Drawing.{spot_room, spot_end, spot_closed, is_out, is_closed, tail_length}
-use Rattle.order_permutation.proofs.take_out.Goals.{After-at_most-end, After-find-s, After-way_told-1}
+use Rattle.order_permutation.proofs.take_out.Goals.{After-at_most-end, After-find-s}
 use Rattle.order_permutation.proofs.take_out.Goals as goal
 
 -- the block has room for its numbers
@@ -26,28 +26,28 @@ ends c =
     spot_end a.span a.count.now a.rest.now a.d c.requires.0 c.requires.3 s.block (a.d - s.before) f.0 (omega (arith, f.2, f.3)) (omega (arith, f.1, f.2)) c.short_to_usize-n.result c.at_most-end.result c.short_to_usize-n.ensures c.at_most-end.ensures
 
 pub overflow_mul-start : goal.overflow_mul-start
-overflow_mul-start c = omega (arith, (room (goal.at.overflow_mul-start c).After-way_told-1).0)
+overflow_mul-start c = omega (arith, (room (goal.at.overflow_mul-start c).After-find-s).0)
 
 pub overflow_add-value : goal.overflow_add-value
-overflow_add-value c = omega (arith, c.find-s.ensures.2, c.find-s.ensures.3, (room (goal.at.overflow_add-value c).After-way_told-1).0)
+overflow_add-value c = omega (arith, c.find-s.ensures.2, c.find-s.ensures.3, (room (goal.at.overflow_add-value c).After-find-s).0)
 
 pub offset_bounds-rest-start : goal.offset_bounds-rest-start
-offset_bounds-rest-start c = omega (arith, c.find-s.ensures.2, c.find-s.ensures.3, (room (goal.at.offset_bounds-rest-start c).After-way_told-1).0)
+offset_bounds-rest-start c = omega (arith, c.find-s.ensures.2, c.find-s.ensures.3, (room (goal.at.offset_bounds-rest-start c).After-find-s).0)
 
 pub bounds-rest-start : goal.bounds-rest-start
-bounds-rest-start c = omega (arith, c.find-s.ensures.2, c.find-s.ensures.3, (room (goal.at.bounds-rest-start c).After-way_told-1).0)
+bounds-rest-start c = omega (arith, c.find-s.ensures.2, c.find-s.ensures.3, (room (goal.at.bounds-rest-start c).After-find-s).0)
 
 pub overflow_add-start : goal.overflow_add-start
-overflow_add-start c = let q = room (goal.at.overflow_add-start c).After-way_told-1 in omega (arith, q.0, q.2)
+overflow_add-start c = let q = room (goal.at.overflow_add-start c).After-find-s in omega (arith, q.0, q.2)
 
 pub offset_bounds-rest-start-2 : goal.offset_bounds-rest-start-2
-offset_bounds-rest-start-2 c = omega (arith, (room (goal.at.offset_bounds-rest-start-2 c).After-way_told-1).0)
+offset_bounds-rest-start-2 c = omega (arith, (room (goal.at.offset_bounds-rest-start-2 c).After-find-s).0)
 
 pub slice_bounds-close-count : goal.slice_bounds-close-count
-slice_bounds-close-count c = omega (arith, (room (goal.at.slice_bounds-close-count c).After-way_told-1).0)
+slice_bounds-close-count c = omega (arith, (room (goal.at.slice_bounds-close-count c).After-find-s).0)
 
 pub slice_bounds-close-start : goal.slice_bounds-close-start
-slice_bounds-close-start c = omega (arith, (room (goal.at.slice_bounds-close-start c).After-way_told-1).0)
+slice_bounds-close-start c = omega (arith, (room (goal.at.slice_bounds-close-start c).After-find-s).0)
 
 pub overflow_sub-end : goal.overflow_sub-end
 overflow_sub-end c = omega (arith, (ends (goal.at.overflow_sub-end c).After-at_most-end).0)
@@ -67,7 +67,7 @@ pub overflow_sub-count : goal.overflow_sub-count
 overflow_sub-count c = let f = c.find-s.ensures in omega (arith, f.2, f.3, c.short_to_usize-n.ensures)
 
 pub overflow_cast-count : goal.overflow_cast-count
-overflow_cast-count c = let q = room (goal.at.overflow_cast-count c).After-way_told-1 in omega (arith, c.short_to_usize-n.ensures, q.1, q.2)
+overflow_cast-count c = let q = room (goal.at.overflow_cast-count c).After-find-s in omega (arith, c.short_to_usize-n.ensures, q.1, q.2)
 
 pub returns : goal.returns
 returns c =
