@@ -93,12 +93,6 @@ shape_of-grid-then-symbols-at c = c.loop-left.invariant.4
 pub bounds-symbols-at : goal.bounds-symbols-at
 bounds-symbols-at c = c.if-symbols-at.false
 
-pub overflow_add-at : goal.overflow_add-at
-overflow_add-at c = omega (arith, c.if-symbols-at.false, c.good.1.1.1.1.0.0)
-
-pub overflow_add-k : goal.overflow_add-k
-overflow_add-k c = omega (arith, c.if-end-k.false, c.good.1.1.0.0)
-
 pub shape_of-log : goal.shape_of-log
 shape_of-log c = c.loop-left.invariant.3
 

@@ -39,6 +39,9 @@ nonzeros_at-entry-requires c = (c.requires.0, c.requires.2.exponent, (turning (g
 pub slice_bounds-zeros_from-count : goal.slice_bounds-zeros_from-count
 slice_bounds-zeros_from-count c = omega (arith, entry (goal.at.slice_bounds-zeros_from-count c).After-nonzeros_at-entry, (turning (goal.at.slice_bounds-zeros_from-count c).Else-left-eq0).entry)
 
+pub slice_bounds-zeros_from-start : goal.slice_bounds-zeros_from-start
+slice_bounds-zeros_from-start c = omega (arith, entry (goal.at.slice_bounds-zeros_from-start c).After-nonzeros_at-entry, (turning (goal.at.slice_bounds-zeros_from-start c).Else-left-eq0).entry)
+
 pub zeros_from-k-requires : goal.zeros_from-k-requires
 zeros_from-k-requires c = (c.requires.1, zeros_ready c.loop-k.invariant c.requires.2 (turning (goal.at.zeros_from-k-requires c).Else-left-eq0) c.coeff_context-context.ensures (entry (goal.at.zeros_from-k-requires c).After-nonzeros_at-entry) c.loop-k-test.true)
 
