@@ -19,7 +19,7 @@ ghost use Rattle.coeff_call.specs.Call.{lent, leaves, call};
 ghost use Rattle.coeff_call.specs.laws.CallSteps.{answer_by};
 
 // Symbols read, or a refusal.
-#[derive(Drop)]
+#[derive(Clone, Copy)]
 pub enum CoeffAnswer {
     Accepted(usize),
     Refused(Refusal),

@@ -9,7 +9,7 @@ ghost use Rattle.std.specs.Prelude.{◌≡◌, ◌≤◌};
 ghost use Rattle.coeff_context.specs.Census.{is_power, situation, InCensus, context_of, speaks_of, census_of, answered};
 
 // The number of a context, or a refusal.
-#[derive(Drop)]
+#[derive(Clone, Copy)]
 pub enum CensusAnswer {
     Context(u32),
     Refused(Refusal),

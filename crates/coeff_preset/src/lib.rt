@@ -9,7 +9,7 @@ ghost use Rattle.coeff_preset.specs.laws.PresetLaws.{answered};
 use bits::{BitPlace, Got};
 use refusal::Refusal;
 
-#[derive(Drop)]
+#[derive(Clone, Copy)]
 pub enum PresetAnswer {
     Number(u32),
     Refused(Refusal),

@@ -50,7 +50,7 @@ fn list_of(store: &[u16], lists: Stretch, c: usize) -> &[u16]
 }
 
 // How the reading of a channel ended, and what its count comes to over the varblock's blocks; 0 where it was stopped.
-#[derive(Drop)]
+#[derive(Clone, Copy)]
 struct ChannelRead {
     walk: WalkEnd,
     count_over: u32,
@@ -107,7 +107,7 @@ fn read_channel<'a>(
 
 // How the reading of a varblock ended, and what the counts of channels 0, 1, 2 come to over its blocks; 0 where it was
 // stopped.
-#[derive(Drop)]
+#[derive(Clone, Copy)]
 pub struct VarblockRead {
     pub walk: WalkEnd,
     pub counts_over: [u32; 3],

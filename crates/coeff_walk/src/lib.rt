@@ -8,7 +8,7 @@ pub mod spot;
 pub mod walked;
 
 // How a reading ended: done, or stopped by a refusal.
-#[derive(Drop)]
+#[derive(Clone, Copy)]
 pub enum WalkEnd {
     // Symbols read so far.
     Done(usize),

@@ -20,7 +20,7 @@ use judge::{default_contexts, judge, refuse};
 use refusal::Refusal;
 
 // Accepted: the bits read.
-#[derive(Drop)]
+#[derive(Clone, Copy)]
 pub enum ContextAnswer {
     Accepted(usize),
     Refused(Refusal),
@@ -34,7 +34,7 @@ pub struct ContextResult {
 }
 
 // The answer and the record, but for the lists and the map; all zero beside a refusal.
-#[derive(Drop)]
+#[derive(Clone, Copy)]
 pub struct ContextParts {
     pub answer: ContextAnswer,
     pub num_block_clusters: u32,

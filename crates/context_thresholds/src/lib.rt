@@ -7,21 +7,21 @@ ghost use Rattle.context_thresholds.specs.laws.Steps.{read_value, thresholds_of}
 
 use bits::{BitPlace, Got, U32Specifier};
 
-#[derive(Drop)]
+#[derive(Clone, Copy)]
 pub enum Kind {
     Lf,
     Qf,
 }
 
 // A list's length and the place behind the list, or the bits of the list that were read where they end.
-#[derive(Drop)]
+#[derive(Clone, Copy)]
 pub enum ListStep {
     Listed(u32, BitPlace),
     End(usize),
 }
 
 // Unused places are 0; all are where the bits end.
-#[derive(Drop)]
+#[derive(Clone, Copy)]
 pub struct Thresholds {
     pub step: ListStep,
     pub values: [u32; 15],

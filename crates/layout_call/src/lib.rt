@@ -10,7 +10,7 @@ use layout_reading::reading::read;
 use refusal::Refusal;
 
 // Accepted with the number of columns used, or refused.
-#[derive(Drop)]
+#[derive(Clone, Copy)]
 pub enum LayoutAnswer {
     Accepted(usize),
     Refused(Refusal),

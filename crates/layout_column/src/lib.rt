@@ -8,7 +8,7 @@ use dct_select::{Looked, TransformType};
 use refusal::Refusal;
 
 // What a column asks for: the kind of its varblock's corner, hf_mul, and the blocks across and down.
-#[derive(Drop)]
+#[derive(Clone, Copy)]
 pub struct JudgedColumn {
     pub kind: u8,
     pub hf_mul: u32,
@@ -17,7 +17,7 @@ pub struct JudgedColumn {
 }
 
 // A column by itself at a block: it asks for a varblock inside a square of 32 x 32 blocks, or is refused.
-#[derive(Drop)]
+#[derive(Clone, Copy)]
 pub enum Judged {
     Asks(JudgedColumn),
     Refused(Refusal),

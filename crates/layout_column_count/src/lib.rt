@@ -7,7 +7,7 @@ use bits::{BitPlace, Got};
 use refusal::Refusal;
 
 // The column count and the bits read, or refused.
-#[derive(Drop)]
+#[derive(Clone, Copy)]
 pub enum ColumnCount {
     Count(u32, usize),
     Refused(Refusal),

@@ -7,21 +7,21 @@ ghost use Rattle.layout_filter.specs.Strength.{scaled, divided, scaled_by, divid
 ghost use Rattle.layout_filter.specs.Limits.{in_limits, filter_fits, lookups_fit, params_fit};
 
 // The filter is off, or carries its multiplier.
-#[derive(Drop)]
+#[derive(Clone, Copy)]
 pub enum Filter {
     Off,
     On(f32),
 }
 
 // The filter of a layout: off, or multiplier × 65536 / scale.
-#[derive(Drop)]
+#[derive(Clone, Copy)]
 pub enum ScaledFilter {
     Off,
     On(f32),
 }
 
 // The filter of a varblock: off, or multiplier × 65536 / scale / hf_mul.
-#[derive(Drop)]
+#[derive(Clone, Copy)]
 pub enum DividedFilter {
     Off,
     On(f32),

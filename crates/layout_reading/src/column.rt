@@ -11,7 +11,7 @@ use layout_filter::ScaledFilter;
 use refusal::Refusal;
 
 // The reading goes on with that many columns used, or stops after that many were placed.
-#[derive(Drop)]
+#[derive(Clone, Copy)]
 pub enum Step {
     Going(usize),
     Stopped(usize, Refusal),

@@ -5,7 +5,7 @@ ghost use Rattle.layout_sizes.specs.Blocks.{size_fits, modes_fit, is_either, any
 ghost use Rattle.layout_sizes.specs.laws.Bounds.{blocks_of};
 
 // Width and height in blocks.
-#[derive(Drop)]
+#[derive(Clone, Copy)]
 pub struct Blocks {
     pub bw: usize,
     pub bh: usize,

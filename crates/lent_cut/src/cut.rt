@@ -15,7 +15,7 @@ use lent_sides::limits::{in_limits, lengths_fit};
 use refusal::{Checked, Refusal};
 
 // What the cut answers: the sides of the group.
-#[derive(Drop)]
+#[derive(Clone, Copy)]
 pub enum CutAnswer {
     Accepted(GroupSides),
     Refused(Refusal),

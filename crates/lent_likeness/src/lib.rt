@@ -15,7 +15,7 @@ use lent_lists::same::{same_bytes, same_words};
 use lent_sides::limits::{in_limits, lengths_fit};
 use refusal::Refusal;
 
-#[derive(Drop)]
+#[derive(Clone, Copy)]
 pub enum LikeAnswer {
     Alike,
     Unlike,

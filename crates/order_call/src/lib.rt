@@ -22,7 +22,7 @@ use order_store::NUMBERS;
 use refusal::Refusal;
 
 // The symbols read, or a refusal.
-#[derive(Drop)]
+#[derive(Clone, Copy)]
 pub enum OrdersAnswer {
     Accepted(usize),
     Refused(Refusal),
@@ -121,7 +121,7 @@ fn count_of(t: OrdersAnswer) -> usize
 }
 
 // What reading a list answered, and where the next one begins in the store.
-#[derive(Drop)]
+#[derive(Clone, Copy)]
 struct Turn {
     answer: OrdersAnswer,
     next: usize,

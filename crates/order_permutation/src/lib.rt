@@ -137,7 +137,7 @@ fn counts_of(span: usize, free: usize) -> [u16; 64]
 }
 
 // A block, and how many numbers the blocks before it have.
-#[derive(Drop)]
+#[derive(Clone, Copy)]
 struct Spot {
     block: usize,
     before: usize,
@@ -181,7 +181,7 @@ fn find(count: &[u16; 64], block: usize, before: usize, d: usize) -> Spot
 }
 
 // A number that was taken out, and where: the search for the next one starts there.
-#[derive(Drop)]
+#[derive(Clone, Copy)]
 struct Taken {
     value: u16,
     block: usize,

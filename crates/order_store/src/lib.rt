@@ -53,7 +53,7 @@ fn numbers_of(order: usize) -> usize
 }
 
 // A part of the store: its first number, and how many.
-#[derive(Drop)]
+#[derive(Clone, Copy)]
 pub struct Stretch {
     pub first: usize,
     pub len: usize,

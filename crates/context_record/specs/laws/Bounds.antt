@@ -23,6 +23,15 @@ pub record Fit (clusters : ℕ) (lengths qf map : List ℕ) : Type 0 where
   pub bytes : T (bytes_below clusters (take (39 * bsize_of lengths) map))
 
 nine : (a b c d e f g h i : Bool) → T (a && b && c && d && e && f && g && h && i) → T a × T b × T c × T d × T e × T f × T g × T h × T i
+nine true true true true true true true true false t = elim t [ ]
+nine true true true true true true true false i t = elim t [ ]
+nine true true true true true true false h i t = elim t [ ]
+nine true true true true true false g h i t = elim t [ ]
+nine true true true true false f g h i t = elim t [ ]
+nine true true true false e f g h i t = elim t [ ]
+nine true true false d e f g h i t = elim t [ ]
+nine true false c d e f g h i t = elim t [ ]
+nine false b c d e f g h i t = elim t [ ]
 nine true true true true true true true true true t = (tt, tt, tt, tt, tt, tt, tt, tt, tt)
 
 module _ (clusters : ℕ) (lengths qf map : List ℕ) where

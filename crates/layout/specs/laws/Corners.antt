@@ -30,6 +30,7 @@ module _ (K M : Cells) where
 
   rows_from : (w n y : ℕ) (v : Varblock) → Among v (corners_from K M w n y) → y ≤ v.y
   unfolding corners_from
+  rows_from w zero y v i = elim i [ ]
   rows_from w (suc n) y v i = go (row_from w 0 y (corners_from K M w n (y + 1)) (λ u j. let a = rows_from w n (y + 1) u j in omega arith) v i)
     where
       go : From 0 y v.x v.y → y ≤ v.y

@@ -75,6 +75,7 @@ module _ (K M : Cells) (v : Varblock) where
 
   rows_have : (bw n y : ℕ) → Among v (corners_from K M bw n y) → InRows bw n y
   unfolding corners_from
+  rows_have bw zero y a = elim a [ ]
   rows_have bw (suc n) y a = go (λ b. rows_have bw n (y + 1) b) (row_has bw 0 y (corners_from K M bw n (y + 1)) a)
     where
       go : (Among v (corners_from K M bw n (y + 1)) → InRows bw n (y + 1)) → InRow bw 0 y ⊎ Among v (corners_from K M bw n (y + 1)) → InRows bw (suc n) y
