@@ -1,0 +1,100 @@
+use mathlib.Core.Path.{◌≡◌, ◌∙◌, sym}
+use Prim.Native.Nat.{◌≤◌, ◌<◌, ◌-◌, ◌+◌, ◌*◌}
+use native.Mathlib.Nat.{mul-le-mul}
+use lib.Arith.{digits_lt}
+use lib.ListN.{drop}
+use borrow.Author.Tests.{not-true, not-false}
+use native.Mathlib.Omega.{arith}
+use borrow.Author.Rules.{rules}
+use Rattle.layout.specs.RowByRow.{along_row}
+use Rattle.layout.specs.Grid.{block_at}
+use Rattle.layout.specs.Check.{Until}
+use Rattle.lent_check.specs.laws.Steps.{place_cell, place}
+use Rattle.lent_check.specs.laws.Listing.{flag_at, flagged_flags, listed_row, Listed, place_all, looked, x_below, place_start, place_next, place_stop, place_end}
+use Rattle.lent_check.specs.laws.Rows.{told_good, told_bad}
+use Rattle.lent_check.proofs.rows.place_row.Goals.{After-list_row-n, After-to_usize-x}
+use Rattle.lent_check.proofs.rows.place_row.Goals as goal
+
+pub overflow_mul-start : goal.overflow_mul-start
+overflow_mul-start c =
+    let a = c.args in
+    let p = c.requires in
+    let h : a.y ≤ 256 = omega arith in
+    let m : a.y * a.bw ≤ 256 * 256 = mul-le-mul h p.2 in
+    omega arith
+
+pub flag_row-requires : goal.flag_row-requires
+flag_row-requires c =
+    let a = c.args in
+    let p = c.requires in
+    let h : a.y + 1 ≤ a.bh = omega arith in
+    let w : a.bw ≤ a.bw = omega arith in
+    let m : (a.y + 1) * a.bw ≤ a.bh * a.bw = mul-le-mul h w in
+    (omega arith, omega arith, omega arith, omega arith)
+
+pub list_row-n-requires : goal.list_row-n-requires
+list_row-n-requires c =
+    let a = c.args in
+    (omega arith, omega arith, flagged_flags (block_at a.kinds.now a.bw) a.y a.bw c.flag_row.new.flags c.flag_row.ensures)
+
+-- the list holds the row's columns that are looked at
+listed : (c : After-list_row-n) → let a = c.args in Listed (looked (flag_at (block_at a.kinds.now a.bw) a.y) a.bw 0) c.list_row-n.result c.list_row-n.new.list
+listed c =
+    let a = c.args in
+    listed_row (block_at a.kinds.now a.bw) a.y a.bw c.list_row-n.result c.flag_row.new.flags c.list_row-n.new.list c.flag_row.ensures c.list_row-n.ensures
+
+pub loop-i-init : goal.loop-i-init
+loop-i-init c = let a = c.args in (omega arith, place_start a.bw a.bh (block_at a.kinds.now a.bw) a.y a.depth.now)
+
+pub bounds-list-i : goal.bounds-list-i
+bounds-list-i c = let r = (listed (goal.at.bounds-list-i c).After-list_row-n).room in omega arith
+
+below : (c : After-to_usize-x) → c.to_usize-x.result < c.args.bw
+below c =
+    let a = c.args in
+    let b = x_below (flag_at (block_at a.kinds.now a.bw) a.y) a.bw c.loop-i.i c.list_row-n.result c.list_row-n.new.list (listed (goal.at.After-to_usize-x c).After-list_row-n) (omega arith) in
+    omega (arith, c.to_usize-x.ensures)
+
+pub overflow_add-kind : goal.overflow_add-kind
+overflow_add-kind c =
+    let a = c.args in
+    let d = digits_lt {q = a.y} {m = a.bh} {r = c.to_usize-x.result} {c = a.bw} (omega arith) (below (goal.at.overflow_add-kind c).After-to_usize-x) in
+    omega arith
+
+pub bounds-kinds-start : goal.bounds-kinds-start
+bounds-kinds-start c =
+    let a = c.args in
+    let d = digits_lt {q = a.y} {m = a.bh} {r = c.to_usize-x.result} {c = a.bw} (omega arith) (below (goal.at.bounds-kinds-start c).After-to_usize-x) in
+    omega arith
+
+pub place_cell-requires : goal.place_cell-requires
+place_cell-requires c =
+    let a = c.args in
+    let p = c.requires in
+    let b = below (goal.at.place_cell-requires c).After-to_usize-x in
+    let d = digits_lt {q = a.y} {m = a.bh} {r = c.to_usize-x.result} {c = a.bw} (omega arith) b in
+    (p.0, p.1, b, omega arith, omega arith, omega arith)
+
+pub returns-then-not-place_cell : goal.returns-then-not-place_cell
+returns-then-not-place_cell c =
+    let a = c.args in
+    let l = c.loop-i in
+    let r = listed (goal.at.returns-then-not-place_cell c).After-list_row-n in
+    let x = c.to_usize-x.result in
+    let k = block_at a.kinds.now a.bw in
+    sym (l.invariant.1 ∙ place_stop a.bw a.bh k a.y l.i (looked (flag_at k a.y) a.bw 0) x l.depth (omega (arith, r.count)) (c.to_usize-x.ensures ∙ r.same l.i (omega arith)) (told_bad c.place_cell.result c.place_cell.new.depth (place_cell a.bw a.bh (k x a.y) x a.y l.depth) c.place_cell.ensures (c.if-not-place_cell.true)))
+
+pub loop-i-preserved : goal.loop-i-preserved
+loop-i-preserved c =
+    let a = c.args in
+    let l = c.loop-i in
+    let r = listed (goal.at.loop-i-preserved c).After-list_row-n in
+    let x = c.to_usize-x.result in
+    let k = block_at a.kinds.now a.bw in
+    (omega arith, l.invariant.1 ∙ place_next a.bw a.bh k a.y l.i (looked (flag_at k a.y) a.bw 0) x l.depth (omega (arith, r.count)) (c.to_usize-x.ensures ∙ r.same l.i (omega arith)) c.place_cell.new.depth (told_good c.place_cell.result c.place_cell.new.depth (place_cell a.bw a.bh (k x a.y) x a.y l.depth) c.place_cell.ensures (c.if-not-place_cell.false)))
+
+pub returns : goal.returns
+returns c =
+    let a = c.args in
+    let l = c.loop-i in
+    sym (l.invariant.1 ∙ place_end a.bw a.bh (block_at a.kinds.now a.bw) a.y l.i (looked (flag_at (block_at a.kinds.now a.bw) a.y) a.bw 0) l.depth (omega (arith, (listed (goal.at.returns c).After-list_row-n).count)))
