@@ -54,7 +54,7 @@ $(foreach name,PREFIX BINDIR LIBDIR INCLUDEDIR MANDIR DOCDIR,$(if $(filter /%,$(
 endif
 
 .PHONY: all library programs check install install-library install-programs uninstall clean version
-# Two runs of rt at a time would share files in target/.
+# Two runs of rt at a time would wait for each other.
 .NOTPARALLEL:
 all: library programs
 library: $(VERSIONED) $(SHARED)
@@ -75,18 +75,20 @@ $(SHARED): $(VERSIONED) c/netbuff.map
 	$(CC) -shared -o $@ -Wl,-soname,libnetbuff.so.$(SOVERSION) -Wl,--version-script=c/netbuff.map \
 		-Wl,-z,defs -Wl,-z,relro -Wl,-z,now $(LDFLAGS) \
 		-Wl,--whole-archive $(ARCHIVE) -Wl,--no-whole-archive
-	ln -sf libnetbuff.so.$(VERSION) target/lib/libnetbuff.so.$(SOVERSION)
-	ln -sf libnetbuff.so.$(SOVERSION) target/lib/libnetbuff.so
+	cp $@ target/lib/libnetbuff.so.$(SOVERSION)
+	cp $@ target/lib/libnetbuff.so
 
 target/bin/%: $(SOURCES)
 	bash .ci/prove $*
 	touch $@
 
-# The proved program's object, with the command's own start, reads and writes around it.
+# The proved program's object, with the command's own start, reads and writes around it, and below it
+# the C that the toolchain links its programs with.
 target/tools/layout-lister: tools/layout-lister.c target/bin/layout_lister include/netbuff.h
 	@mkdir -p $(@D)
 	$(CC) -std=c11 -D_GNU_SOURCE -O2 -Wall -Wextra -Werror -DNETBUFF_VERSION='"$(VERSION)"' -o $@ $< \
-		target/obj/layout_lister.o -Wl,--wrap=main,--wrap=read,--wrap=write
+		target/obj/layout_lister.o -Wl,--wrap=main,--wrap=read,--wrap=lseek,--wrap=write \
+		$(addprefix $(dir $(shell rt doc))c/,libos_c.a liblibc_c.a)
 
 check: all
 	bash .ci/declarations

@@ -2,10 +2,10 @@
  * The layout lister as a command, with what a Rattle program cannot have or does not: options, file
  * names, messages and an exit status. The listing itself is the proved program's,
  * crates/layout_lister: its object is linked in as it is, and the linker's --wrap leads its start,
- * its reads and its writes through here.
+ * its reads, with the place in the input, and its writes through here.
  *
  *   cc -o layout-lister tools/layout-lister.c target/obj/layout_lister.o \
- *      -Wl,--wrap=main,--wrap=read,--wrap=write
+ *      -Wl,--wrap=main,--wrap=read,--wrap=lseek,--wrap=write KIT/c/libos_c.a KIT/c/liblibc_c.a
  */
 #include <errno.h>
 #include <fcntl.h>
@@ -37,6 +37,7 @@ static const char help[] =
 /* Of the proved program: its start, and what the linker calls read and write of the C library. */
 int __real_main(void);
 ssize_t __real_read(int file, void *bytes, size_t length);
+off_t __real_lseek(int file, off_t by, int from);
 ssize_t __real_write(int file, const void *bytes, size_t length);
 
 /* The job that is being listed. */
@@ -57,9 +58,21 @@ ssize_t __wrap_read(int file, void *bytes, size_t length)
     return got;
 }
 
-/* A write of the proved program, all of it: nothing where the input could not be read. */
+/* Where the proved program stands in its input, or goes to: in the job's file. */
+off_t __wrap_lseek(int file, off_t by, int from)
+{
+    (void)file;
+    return __real_lseek(input, by, from);
+}
+
+/*
+ * A write of the proved program, all of it: nothing where the input could not be read, and nothing of
+ * what it says of a failure, which is told here.
+ */
 ssize_t __wrap_write(int file, const void *bytes, size_t length)
 {
+    if (file != STDOUT_FILENO)
+        return (ssize_t)length;
     listed = length > 6 && memcmp(bytes, "blocks", 6) == 0;
     for (size_t done = 0; done < length && read_error == 0;) {
         ssize_t moved = __real_write(file, (const char *)bytes + done, length - done);

@@ -442,7 +442,8 @@ fn files(folder: &Path, ending: &str, found: &mut Vec<PathBuf>) {
         return;
     };
     for path in entries.flatten().map(|entry| entry.path()) {
-        if path.is_dir() && path.file_name().is_some_and(|name| name != "target") {
+        let made = |name: &std::ffi::OsStr| name == "target" || name == "out";
+        if path.is_dir() && !path.file_name().is_some_and(made) {
             files(&path, ending, found);
         } else if path.extension().is_some_and(|name| name == ending) {
             found.push(path);

@@ -50,7 +50,7 @@ impl<'a> Function<'a> {
         let mut taken: BTreeSet<_> = parameters.map(|(name, _)| name.trim()).collect();
         let clauses: Vec<_> = self.head[start..]
             .iter()
-            .flat_map(|line| words(line))
+            .flat_map(|line| words(unnamed(line)))
             .collect();
         taken.extend(bound(&clauses));
         cited(&clauses, &taken)
@@ -81,6 +81,13 @@ pub fn begins(line: &str) -> Option<(&str, bool)> {
     Some((name, public.is_some()))
 }
 
+/// A line of a contract from its clause's bracket on: a clause may have a name, `ensures NAME { .. }`.
+fn unnamed(line: &str) -> &str {
+    let clause = line.starts_with("requires ") || line.starts_with("ensures ");
+    let place = line.find('{').filter(|_| clause);
+    place.map_or(line, |place| &line[place..])
+}
+
 /// A clause that goes on over lines opens no body.
 fn opens_body(line: &str) -> bool {
     line.ends_with('{') && !line.starts_with("requires") && !line.starts_with("ensures")
@@ -107,12 +114,13 @@ mod tests {
 
     #[test]
     fn a_contract_cites_no_parameter() {
-        let source = "fn f(kinds: &[u8], n: usize) -> u8\n    requires { ⌜ kinds ≡ n ⌝ }\n    \
-                      ensures { λ r. ⌜ Put (now (kinds .exit)) r n ⌝ }\n{\n    g(n)\n}\n";
+        let source = "fn f(kinds: &[u8], n: usize) -> u8\n    requires { length kinds.now ≡ n }\n    \
+                      ensures low { Put kinds.new result n }\n    ensures high { low n }\n{\n    \
+                      g(n)\n}\n";
         let found = functions(source);
         assert_eq!((found[0].name, found[0].public), ("f", false));
-        assert_eq!(found[0].cites(), ["≡", "Put"]);
-        let lines = "fn f()\n    ensures {\n        ⌜ A ⌝\n    }\n{\n    B\n}\n";
+        assert_eq!(found[0].cites(), ["length", "≡", "Put", "low"]);
+        let lines = "fn f()\n    ensures {\n        A\n    }\n{\n    B\n}\n";
         assert_eq!(functions(lines)[0].cites(), ["A"]);
     }
 }

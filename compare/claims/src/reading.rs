@@ -218,26 +218,26 @@ mod tests {
         library.add_definitions(
             "grid",
             "Walk",
-            "use mathlib.Core.Path.{_≡_, ℕ}\nabbrev pub rows : ℕ\nrows = cells\nunfoldable pub cells : ℕ\ncells = 1\n\
+            "use Rattle.std.specs.Prelude.{◌≡◌, ℕ}\nabbrev pub rows : ℕ\nrows = cells\nunfoldable pub cells : ℕ\ncells = 1\n\
              pub law : rows ≡ cells\nlaw = refl\nabbrev pub unused : ℕ\nunused = rows\n\
              abbrev pub lost : ℕ\nlost = nowhere\n",
         );
         library.add_definitions(
             "call",
             "laws/Call",
-            "use mathlib.Core.Path.{_≡_, ℕ}\nuse Rattle·grid.specs.Walk.{rows}\n\
-             pub use Rattle·grid.specs.Walk.{cells}\n\
+            "use Rattle.std.specs.Prelude.{◌≡◌, ℕ}\nuse Rattle.grid.specs.Walk.{rows}\n\
+             pub use Rattle.grid.specs.Walk.{cells}\n\
              abbrev pub outcome : ℕ\noutcome = rows\npub theorem : (x : ℕ) → Given x ≡ cells\n\
              theorem = by outcome\npub record Given (x : ℕ) : Type 0 where\n  pub y : ℕ\n",
         );
         library.add_code(
             "call",
-            "ghost use mathlib.Core.Path.{_≡_};\nghost use Rattle·call·specs.specs.laws.Call.{outcome};\n\
-             pub fn read()\n    ensures { λ r. ⌜ r ≡ outcome ⌝ }\n{\n}\n\
-             pub fn inner()\n    ensures { λ r. ⌜ r ≡ gone ⌝ }\n{\n}\n\
-             ghost use Rattle·grid.specs.Walk.{lost, law};\n\
-             pub fn loses()\n    ensures { λ r. ⌜ r ≡ lost ⌝ }\n{\n}\n\
-             pub fn proves()\n    ensures { λ r. ⌜ r ≡ law ⌝ }\n{\n}\n",
+            "ghost use Rattle.std.specs.Prelude.{◌≡◌};\nghost use Rattle.call.specs.laws.Call.{outcome};\n\
+             pub fn read()\n    ensures { result ≡ outcome }\n{\n}\n\
+             pub fn inner()\n    ensures { result ≡ gone }\n{\n}\n\
+             ghost use Rattle.grid.specs.Walk.{lost, law};\n\
+             pub fn loses()\n    ensures { result ≡ lost }\n{\n}\n\
+             pub fn proves()\n    ensures { result ≡ law }\n{\n}\n",
         );
         library
     }
@@ -303,7 +303,7 @@ mod tests {
     fn a_constructor_goes_with_its_data() {
         let mut library = Library::default();
         let data = "pub data Answer : Type 0 where\n  yes : Answer\nabbrev pub f : ℕ\nf = yes\n\
-             pub law : f ≡ yes\nlaw = refl\nuse a.B.{ℕ, _≡_}\n";
+             pub law : f ≡ yes\nlaw = refl\nuse a.B.{ℕ, ◌≡◌}\n";
         library.add_definitions("call", "laws/Call", data);
         let believed = library.believed(&[], &[("call", "law")], |_| true);
         assert!(believed.faults.is_empty());
@@ -331,8 +331,8 @@ mod tests {
         );
         let code = |file: &str| {
             format!(
-                "ghost use Rattle·grid.specs.Walk.{{rows}};\nghost use Rattle·{file}.{{rows as more}};\n\
-                 pub extern \"C\" fn f()\n    ensures {{ λ r. ⌜ rows more ⌝ }}\n{{\n}}\n"
+                "ghost use Rattle.grid.specs.Walk.{{rows}};\nghost use Rattle.{file}.{{rows as more}};\n\
+                 pub extern \"C\" fn f()\n    ensures {{ rows more }}\n{{\n}}\n"
             )
         };
         library.add_code("one", &code("grid.specs.Walk"));

@@ -4,7 +4,7 @@
 use std::collections::{BTreeMap, BTreeSet};
 
 use crate::definitions::without;
-use crate::subjects::KIT;
+use crate::subjects::{KIT, STD};
 use crate::words::{bound, cited, words};
 
 /// A file of definitions: its crate and its name.
@@ -23,9 +23,14 @@ impl std::fmt::Display for Place {
     }
 }
 
-/// A file as the repository has it.
+/// A file as the repository has it: one of `specs/`, or one that begins with `proofs/`.
 pub fn path_of((in_crate, file): &Named) -> String {
-    format!("crates/{in_crate}/specs/{file}.antt")
+    let part = if file.starts_with("proofs/") {
+        ""
+    } else {
+        "specs/"
+    };
+    format!("crates/{in_crate}/{part}{file}.antt")
 }
 
 #[derive(Default)]
@@ -321,34 +326,34 @@ fn source_of(module: &Module, name: &str) -> Source {
 
 /// Whether a word is a whole path to a name.
 fn is_path(word: &str) -> bool {
-    let roots = ["Rattle·", "lib.", "mathlib.", "native.", "Prim.", "borrow."];
+    let roots = ["Rattle.", "lib.", "mathlib.", "native.", "Prim.", "borrow."];
     roots.iter().any(|root| word.starts_with(root))
 }
 
-/// How a name is spoken: an operator, `_&&_`, by what stands between the gaps.
+/// How a name is spoken: an operator, `◌&&◌`, by what stands between the gaps.
 pub fn spoken(name: &str) -> Vec<&str> {
-    if name.starts_with('_') || name.ends_with('_') {
-        name.split('_').filter(|part| !part.is_empty()).collect()
+    if name.contains('◌') {
+        name.split('◌').filter(|part| !part.is_empty()).collect()
     } else {
         vec![name]
     }
 }
 
-/// `Rattle·CRATE.specs.FILE` or, inside the crate, `Rattle·CRATE·specs.specs.FILE` is a file of
-/// definitions, `.specs.laws.FILE` one of laws, `.specs.declared.TYPE` a type of the code.
+/// `Rattle.CRATE.specs.FILE` is a file of definitions, `.specs.laws.FILE` and `.proofs.FILE` are files
+/// of laws, `.specs.declared.TYPE` is a type of the code.
 fn module_of(path: &str) -> Module {
-    let found = path.strip_prefix("Rattle·");
-    let Some((in_crate, file)) = found.and_then(|path| path.split_once(".specs.")) else {
+    let found = path.strip_prefix("Rattle.");
+    let Some((in_crate, file)) = found.and_then(|path| path.split_once('.')) else {
         return Module::Kit;
     };
-    let in_crate = in_crate.strip_suffix("·specs").unwrap_or(in_crate);
-    let of_crate = |name: &str| (in_crate.to_string(), name.replace('.', "/"));
-    if KIT.contains(&in_crate) {
+    if in_crate == STD || KIT.contains(&in_crate) {
         return Module::Kit;
     }
+    let file = file.strip_prefix("specs.").unwrap_or(file);
+    let of_crate = |name: &str| (in_crate.to_string(), name.replace('.', "/"));
     match file.strip_prefix("declared.") {
         Some(path) => {
-            let path = path.trim_end_matches(".the-variants");
+            let path = path.trim_end_matches(".TheVariants");
             Module::Type(of_crate(path.rsplit('.').next().unwrap_or(path)))
         }
         None => Module::File(of_crate(file)),
@@ -426,12 +431,12 @@ mod tests {
     #[test]
     fn names_come_from_modules() {
         let mut imports = Imports::default();
-        assert!(imports.take("use Rattle·bits.specs.Reads.{a, b as c}"));
-        assert!(imports.take("ghost use Rattle·bits·specs.specs.Bits.{d};"));
-        assert!(imports.take("use Rattle·layout.specs.Walk as walk"));
-        assert!(imports.take("use Rattle·refusal.specs.declared.Said.{Said}"));
-        assert!(imports.take("use Rattle·layout.specs.laws.Walk.{e}"));
-        assert!(imports.take("use lib.Dec.{_&&_}"));
+        assert!(imports.take("use Rattle.bits.specs.Reads.{a, b as c}"));
+        assert!(imports.take("ghost use Rattle.bits.specs.Bits.{d};"));
+        assert!(imports.take("use Rattle.layout.specs.Walk as walk"));
+        assert!(imports.take("use Rattle.refusal.specs.declared.Said.{Said}"));
+        assert!(imports.take("use Rattle.layout.specs.laws.Walk.{e}"));
+        assert!(imports.take("use lib.Dec.{◌&&◌}"));
         assert!(!imports.take("f : use"));
         let told = |word| match imports.source(word) {
             Some(Source::Definitions(place)) => place.to_string(),
@@ -441,7 +446,7 @@ mod tests {
         assert_eq!(told("d"), "crates/bits/specs/Bits.antt: `d`");
         assert_eq!(told("e"), "crates/layout/specs/laws/Walk.antt: `e`");
         assert_eq!(told("walk.rows"), "crates/layout/specs/Walk.antt: `rows`");
-        let path = "Rattle·layout·specs.specs.Walk.rows";
+        let path = "Rattle.layout.specs.Walk.rows";
         assert_eq!(told(path), "crates/layout/specs/Walk.antt: `rows`");
         assert_eq!(told("b"), "None");
         assert_eq!(told("Said.Refused"), r#"Some(Type(("refusal", "Said")))"#);

@@ -4,6 +4,9 @@
 /// Subjects in turn, each with its crates.
 type Subjects<'a> = Vec<(&'a str, Vec<&'a str>)>;
 
+/// The standard library, which no list names.
+pub const STD: &str = "std";
+
 /// Libraries that stand in no repository.
 pub const KIT: [&str; 5] = ["check", "libc", "io", "os", "bytes"];
 
@@ -29,13 +32,19 @@ pub fn faults(list: &str, page: &str) -> Vec<String> {
     faults
 }
 
-/// Headings `# SUBJECT` above lines `NAME: LIBRARIES`; a heading without crates is none.
+/// A line of the list, `NAME: LIBRARIES` or `NAME staticlib: LIBRARIES`: the name, and its libraries.
+fn listed(line: &str) -> Option<(&str, &str)> {
+    let (name, libraries) = line.split_once(':')?;
+    Some((name.strip_suffix(" staticlib").unwrap_or(name), libraries))
+}
+
+/// Headings `# SUBJECT` above lines of crates; a heading without crates is none.
 fn of_list(list: &str) -> Subjects<'_> {
     let mut subjects = Subjects::new();
     for line in list.lines() {
         if let Some(subject) = line.strip_prefix("# ") {
             subjects.push((subject, Vec::new()));
-        } else if let (Some((name, _)), Some(last)) = (line.split_once(':'), subjects.last_mut()) {
+        } else if let (Some((name, _)), Some(last)) = (listed(line), subjects.last_mut()) {
             last.1.push(name);
         }
     }
@@ -61,7 +70,7 @@ fn of_page(page: &str) -> Subjects<'_> {
 fn upwards(list: &str) -> Vec<String> {
     let mut above = KIT.to_vec();
     let mut faults = Vec::new();
-    for (name, libraries) in list.lines().filter_map(|line| line.split_once(':')) {
+    for (name, libraries) in list.lines().filter_map(listed) {
         if name.starts_with('#') {
             continue;
         }
@@ -82,7 +91,7 @@ mod tests {
 
     #[test]
     fn both_have_the_same_headings() {
-        let list = "# NAME: all\n\n# A\na: io\nb: a\n\n# B\nc: b\n";
+        let list = "# NAME: all\n\n# A\na: io\nb: a\n\n# B\nc staticlib: b\n";
         let page =
             "### Z\n## Crates\n### A\ntext\n| `a` | `x` |\n| `b` | |\n### B\n| `c` | |\n## C\n";
         assert!(faults(list, page).is_empty());

@@ -39,7 +39,7 @@ const KEPT: &[&str] = &[
     "refl",
     "requires",
     "ensures",
-    "now",
+    "result",
     "self",
     "Type",
     "×",
@@ -54,6 +54,11 @@ fn is_mark(c: char) -> bool {
 
 fn is_word(word: &str) -> bool {
     !word.chars().all(is_mark) && !matches!(word, ":" | "=" | "." | "→")
+}
+
+/// A word without the fields that are taken of it: of `b.low`, `b`.
+fn base(word: &str) -> &str {
+    word.split_once('.').map_or(word, |(base, _)| base)
 }
 
 /// Names that a text binds: `(a b : C)` and `{a b : C}`, `λ a b.`, `let a`, and a field or a part,
@@ -86,11 +91,11 @@ pub fn cited<'a>(words: &[&'a str], bound: &BTreeSet<&str>) -> Vec<&'a str> {
     let of_code = |place: usize| place > 0 && words[place - 1] == "«";
     let free = |&(place, word): &(usize, &&str)| {
         is_word(word)
-            && !KEPT.contains(word)
+            && !KEPT.contains(&base(word))
             && !word.starts_with('.')
             && !word.starts_with(|c: char| c.is_ascii_digit())
             && !of_code(place)
-            && !bound.contains(*word)
+            && !bound.contains(base(word))
             && !sets(place)
     };
     words
@@ -117,7 +122,7 @@ mod tests {
             ["(", "a", "b", ")", "∷", "[", "c", ",", "d", "]"]
         );
         assert_eq!(words("λ x. m.y .z"), ["λ", "x", ".", "m.y", ".z"]);
-        assert_eq!(words("⌜ r ≡ f («s» .exit) ⌝")[..4], ["⌜", "r", "≡", "f"]);
+        assert_eq!(words("result ≡ f «s».new")[..3], ["result", "≡", "f"]);
     }
 
     #[test]
@@ -129,7 +134,8 @@ mod tests {
 
     #[test]
     fn fields_are_not_cited() {
-        assert_eq!(cites("o .kinds"), ["o"]);
+        assert_eq!(cites("(g o).kinds"), ["g", "o"]);
+        assert_eq!(cites("λ o. o.kinds p.x result.y"), ["p.x"]);
         assert_eq!(cites("record { a = b; c = a }"), ["b", "a"]);
     }
 }
