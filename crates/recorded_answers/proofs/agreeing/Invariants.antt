@@ -1,0 +1,14 @@
+use Rattle.recorded_answers.specs.Compare.{common}
+use Rattle.recorded_answers.specs.laws.Compare.{common_step, common_differs, common_short, common_end}
+use borrow.Author.Rules.{rules}
+use native.Mathlib.Omega.{arith}
+use mathlib.Core.Path.{◌≡◌, ◌∙◌, sym}
+use Prim.Native.Nat.{◌≤◌, ◌-◌, ◌+◌}
+use lib.ListN.{length, drop}
+use Rattle.recorded_answers.proofs.agreeing.Given as goal
+
+abbrev pub invariant-loop-i : goal.invariant-loop-i
+invariant-loop-i l = (l.i ≤ length l.theirs) × (l.i ≤ length l.mine) × (l.i + common (drop l.i l.theirs) (drop l.i l.mine) ≡ common l.theirs l.mine)
+
+abbrev pub decreases-loop-i : goal.decreases-loop-i
+decreases-loop-i l = length l.mine - l.i

@@ -1,0 +1,16 @@
+use Rattle.recorded_answers.specs.laws.Digest.{digest_step, digest_all}
+use Rattle.recorded_answers.specs.Digest.{digest}
+use borrow.Author.Rules.{rules}
+use native.Mathlib.Omega.{arith}
+use mathlib.Core.Path.{◌≡◌, ◌∙◌, sym}
+use Prim.Native.Nat.{◌≤◌, ◌-◌}
+use lib.ListN.{length, drop}
+use Rattle.recorded_answers.proofs.digest.of_shorts.Goals as goal
+
+pub loop-i-preserved : goal.loop-i-preserved
+loop-i-preserved c =
+    (omega arith, rw (c.with-h.ensures, c.short_to_u32.ensures) (sym (digest_step c.loop-i.h c.args.list.now c.loop-i.i (omega arith)) ∙ c.loop-i.invariant.1))
+
+pub returns : goal.returns
+returns c =
+    c.to_usize.ensures ∙ sym (digest_all c.loop-i.h c.args.list.now c.loop-i.i (omega arith)) ∙ c.loop-i.invariant.1
