@@ -1,8 +1,5 @@
 use Rattle.recorded_answers.specs.Compare.{common}
-use Rattle.recorded_answers.specs.laws.Compare.{common_step, common_differs, common_short, common_end}
-use borrow.Author.Rules.{rules}
-use native.Mathlib.Omega.{arith}
-use mathlib.Core.Path.{◌≡◌, ◌∙◌, sym}
+use mathlib.Core.Path.{◌≡◌}
 use Prim.Native.Nat.{◌≤◌, ◌-◌, ◌+◌}
 use lib.ListN.{length, drop}
 use Rattle.recorded_answers.proofs.agreeing.Given as goal

@@ -1,4 +1,4 @@
-use Prim.Native.Nat.{◌/◌, ◌-◌}
+use Prim.Native.Nat.{◌/◌}
 use borrow.Author.Tests.{lt-ltb, le-ltb}
 use native.Mathlib.Omega.{arith}
 use Rattle.recorded_words.proofs.count.Goals as goal
@@ -6,9 +6,9 @@ use Rattle.recorded_words.proofs.count.Goals as goal
 pub returns-then-room-bytes : goal.returns-then-room-bytes
 returns-then-room-bytes c =
     let a = c.args in
-    (rw (lt-ltb a.room (a.bytes / 4) c.if-room-bytes.true), (omega arith, omega arith))
+    record { value = rw (lt-ltb a.room (a.bytes / 4) c.if-room-bytes.true); result_bound = (omega arith, omega arith) }
 
 pub returns : goal.returns
 returns c =
     let a = c.args in
-    (rw (le-ltb a.room (a.bytes / 4) c.if-room-bytes.false), (omega arith, omega arith))
+    record { value = rw (le-ltb a.room (a.bytes / 4) c.if-room-bytes.false); result_bound = (omega arith, omega arith) }

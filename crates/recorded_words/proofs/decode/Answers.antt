@@ -1,12 +1,8 @@
 use Rattle.recorded_words.specs.Words.{word_at}
-use Rattle.laws.specs.Lists.{tabulate}
 use Rattle.recorded_words.specs.laws.WordsLaws.{put_more, counts_written}
-use borrow.Author.Rules.{rules}
 use native.Mathlib.Omega.{arith}
 use mathlib.Core.Path.{◌≡◌, ◌∙◌}
-use mathlib.Core.List.{◌++◌}
-use Prim.Native.Nat.{◌≤◌, ◌-◌, ◌+◌}
-use lib.ListN.{length, drop, length-set}
+use lib.ListN.{length-set}
 use Rattle.recorded_words.proofs.decode.Goals as goal
 
 pub word-requires : goal.word-requires
@@ -31,4 +27,7 @@ pub returns : goal.returns
 returns c =
     let n = c.count-n in
     let e : c.loop-i.i ≡ n.result = omega arith in
-    ((n.ensures.0, c.loop-i.invariant.2 ∙ rw e), counts_written n.result c.loop-i.out (omega (arith, n.ensures.1.1, c.loop-i.invariant.1)))
+    record {
+      value = (n.ensures.value, c.loop-i.invariant.2 ∙ rw e);
+      prefix_len = counts_written n.result c.loop-i.out (omega (arith, n.ensures.result_bound.1, c.loop-i.invariant.1));
+    }

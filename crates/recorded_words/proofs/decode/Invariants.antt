@@ -1,12 +1,9 @@
 use Rattle.recorded_words.specs.Words.{word_at}
 use Rattle.laws.specs.Lists.{tabulate}
-use Rattle.recorded_words.specs.laws.WordsLaws.{put_more, counts_written}
-use borrow.Author.Rules.{rules}
-use native.Mathlib.Omega.{arith}
-use mathlib.Core.Path.{◌≡◌, ◌∙◌}
+use mathlib.Core.Path.{◌≡◌}
 use mathlib.Core.List.{◌++◌}
-use Prim.Native.Nat.{◌≤◌, ◌-◌, ◌+◌}
-use lib.ListN.{length, drop, length-set}
+use Prim.Native.Nat.{◌≤◌, ◌-◌}
+use lib.ListN.{length, drop}
 use Rattle.recorded_words.proofs.decode.Given as goal
 
 abbrev pub invariant-loop-i : goal.invariant-loop-i

@@ -1,11 +1,9 @@
 use Rattle.text.specs.laws.Text.{byte_next, byte_full, byte_end}
 use lib.Seq.{sets}
-use Prim.Native.Nat.{min}
-use borrow.Author.Rules.{rules}
 use native.Mathlib.Omega.{arith}
 use mathlib.Core.Path.{◌≡◌, ap}
-use Prim.Native.Nat.{ℕ, ◌≤◌, ◌-◌, ◌+◌}
-use lib.ListN.{length, drop, length-set}
+use Prim.Native.Nat.{ℕ, ◌+◌}
+use lib.ListN.{length-set}
 use Rattle.text.proofs.put_bytes.Goals as goal
 
 pub loop-i-init : goal.loop-i-init

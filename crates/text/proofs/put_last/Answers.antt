@@ -1,6 +1,5 @@
 use Rattle.text.specs.Text.{decimal}
 use Rattle.text.specs.laws.Text.{puts_then}
-use borrow.Author.Rules.{rules}
 use Rattle.text.proofs.put_last.Goals as goal
 
 pub returns : goal.returns
@@ -8,4 +7,4 @@ returns c =
     let a = c.args in
     let n = c.put_number-to in
     let b = c.put_bytes in
-    puts_then a.out.now n.new.0 b.new.0 (decimal a.n) _ a.at n.result b.result n.ensures b.ensures
+    puts_then a.out.now n.new.out b.new.out (decimal a.n) _ a.at n.result b.result n.ensures b.ensures

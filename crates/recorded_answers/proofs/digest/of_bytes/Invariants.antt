@@ -1,8 +1,5 @@
-use Rattle.recorded_answers.specs.laws.Digest.{digest_step, digest_all}
 use Rattle.recorded_answers.specs.Digest.{digest}
-use borrow.Author.Rules.{rules}
-use native.Mathlib.Omega.{arith}
-use mathlib.Core.Path.{◌≡◌, ◌∙◌, sym}
+use mathlib.Core.Path.{◌≡◌}
 use Prim.Native.Nat.{◌≤◌, ◌-◌}
 use lib.ListN.{length, drop}
 use Rattle.recorded_answers.proofs.digest.of_bytes.Given as goal

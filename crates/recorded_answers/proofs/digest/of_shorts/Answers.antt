@@ -1,10 +1,6 @@
 use Rattle.recorded_answers.specs.laws.Digest.{digest_step, digest_all}
-use Rattle.recorded_answers.specs.Digest.{digest}
-use borrow.Author.Rules.{rules}
 use native.Mathlib.Omega.{arith}
-use mathlib.Core.Path.{◌≡◌, ◌∙◌, sym}
-use Prim.Native.Nat.{◌≤◌, ◌-◌}
-use lib.ListN.{length, drop}
+use mathlib.Core.Path.{◌∙◌, sym}
 use Rattle.recorded_answers.proofs.digest.of_shorts.Goals as goal
 
 pub loop-i-preserved : goal.loop-i-preserved

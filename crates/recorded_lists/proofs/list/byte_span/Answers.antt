@@ -1,10 +1,9 @@
 use Rattle.std.proofs.Common.{ap, not}
 use Rattle.recorded_lists.specs.laws.ListsLaws.{in_room, no_room}
 use borrow.Author.Tests.{lt-leb, le-leb, leb-false}
-use borrow.Author.Rules.{rules}
 use native.Mathlib.Omega.{arith}
 use mathlib.Core.Path.{refl}
-use Prim.Native.Nat.{◌+◌, ◌*◌, ◌/◌, ◌-◌, ◌≤◌}
+use Prim.Native.Nat.{◌+◌, ◌*◌, ◌/◌, ◌≤◌}
 use lib.ListN.{get_or}
 use Rattle.recorded_lists.proofs.list.byte_span.Goals.{Else-not-has_room}
 use Rattle.recorded_lists.proofs.list.byte_span.Goals as goal

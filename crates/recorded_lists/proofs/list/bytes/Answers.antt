@@ -1,7 +1,5 @@
 use Rattle.recorded_lists.specs.Lists.{part, byte_span_of}
-use borrow.Author.Rules.{rules}
 use mathlib.Core.Path.{◌∙◌, ap}
-use Prim.Native.Nat.{◌-◌}
 use lib.ListN.{length}
 use Rattle.recorded_lists.proofs.list.bytes.Goals as goal
 

@@ -1,8 +1,7 @@
 use Rattle.recorded_lists.specs.laws.ListsLaws.{room}
 use borrow.Author.Tests.{lt-leb}
-use borrow.Author.Rules.{rules}
 use native.Mathlib.Omega.{arith}
-use Prim.Native.Nat.{◌+◌, ◌-◌}
+use Prim.Native.Nat.{◌+◌}
 use Rattle.recorded_lists.proofs.list.has_room.Goals as goal
 
 pub returns-then-most-size : goal.returns-then-most-size

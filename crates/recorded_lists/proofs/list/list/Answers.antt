@@ -1,7 +1,5 @@
 use Rattle.recorded_lists.specs.Lists.{part, span_of}
-use borrow.Author.Rules.{rules}
 use mathlib.Core.Path.{◌∙◌, ap}
-use Prim.Native.Nat.{◌-◌}
 use Rattle.recorded_lists.proofs.list.list.Goals as goal
 
 pub returns : goal.returns

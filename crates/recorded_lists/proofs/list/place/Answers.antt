@@ -1,9 +1,7 @@
-use Rattle.recorded_lists.specs.Lists.{place_of}
 use Rattle.recorded_lists.specs.laws.ListsLaws.{place_step, place_end}
-use borrow.Author.Rules.{rules}
 use native.Mathlib.Omega.{arith}
 use mathlib.Core.Path.{◌≡◌, ◌∙◌, sym}
-use Prim.Native.Nat.{◌≤◌, ◌-◌}
+use Prim.Native.Nat.{◌-◌}
 use Rattle.recorded_lists.proofs.list.place.Goals as goal
 
 pub loop-i-init : goal.loop-i-init

@@ -1,8 +1,5 @@
 use Rattle.recorded_lists.specs.Lists.{place_of}
-use Rattle.recorded_lists.specs.laws.ListsLaws.{place_step, place_end}
-use borrow.Author.Rules.{rules}
-use native.Mathlib.Omega.{arith}
-use mathlib.Core.Path.{◌≡◌, ◌∙◌, sym}
+use mathlib.Core.Path.{◌≡◌}
 use Prim.Native.Nat.{◌≤◌, ◌-◌}
 use Rattle.recorded_lists.proofs.list.place.Given as goal
 

@@ -1,7 +1,6 @@
 use Rattle.std.proofs.Common.{ap, not}
 use Rattle.recorded_lists.specs.laws.ListsLaws.{in_room, no_room}
 use borrow.Author.Tests.{le-leb}
-use borrow.Author.Rules.{rules}
 use native.Mathlib.Omega.{arith}
 use Prim.Native.Nat.{◌+◌, ◌≤◌}
 use lib.ListN.{length, get_or}
