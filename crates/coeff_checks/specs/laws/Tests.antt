@@ -43,12 +43,21 @@ is_fine (Refused why) = false
 
 -- tests that hold together
 pub two : (a b : Bool) → T (a && b) → T a × T b
+two true false t = elim t [ ]
+two false b t = elim t [ ]
 two true true t = (tt, tt)
 
 pub three : (a b c : Bool) → T (a && b && c) → T a × T b × T c
+three true true false t = elim t [ ]
+three true false c t = elim t [ ]
+three false b c t = elim t [ ]
 three true true true t = (tt, tt, tt)
 
 pub four : (a b c d : Bool) → T (a && b && c && d) → T a × T b × T c × T d
+four true true true false t = elim t [ ]
+four true true false d t = elim t [ ]
+four true false c d t = elim t [ ]
+four false b c d t = elim t [ ]
 four true true true true t = (tt, tt, tt, tt)
 
 pub truth : (b : Bool) → b ≡ true → T b

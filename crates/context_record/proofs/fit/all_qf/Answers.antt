@@ -1,13 +1,10 @@
 use borrow.Author.Tests.{le-leb, lt-leb}
-use Rattle.laws.specs.Tables.{every}
 use Rattle.context_record.specs.Record.{qf_fit}
 use Rattle.context_record.specs.laws.Every.{every_passes, every_fails}
 use Rattle.laws.specs.laws.Tables.{every_done}
-use borrow.Author.Rules.{rules}
 use native.Mathlib.Omega.{arith}
-use mathlib.Core.Path.{◌≡◌, ◌∙◌, sym}
-use Prim.Native.Nat.{◌≤◌, ◌-◌}
-use lib.ListN.{length, get_or, drop}
+use mathlib.Core.Path.{◌∙◌, sym}
+use lib.ListN.{get_or}
 use Rattle.context_record.proofs.fit.all_qf.Goals as goal
 
 pub returns-then-values-k-lt1 : goal.returns-then-values-k-lt1

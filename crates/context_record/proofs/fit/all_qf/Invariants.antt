@@ -1,13 +1,8 @@
-use borrow.Author.Tests.{le-leb, lt-leb}
 use Rattle.laws.specs.Tables.{every}
 use Rattle.context_record.specs.Record.{qf_fit}
-use Rattle.context_record.specs.laws.Every.{every_passes, every_fails}
-use Rattle.laws.specs.laws.Tables.{every_done}
-use borrow.Author.Rules.{rules}
-use native.Mathlib.Omega.{arith}
-use mathlib.Core.Path.{◌≡◌, ◌∙◌, sym}
+use mathlib.Core.Path.{◌≡◌}
 use Prim.Native.Nat.{◌≤◌, ◌-◌}
-use lib.ListN.{length, get_or, drop}
+use lib.ListN.{length, drop}
 use Rattle.context_record.proofs.fit.all_qf.Given as goal
 
 abbrev pub invariant-loop-k : goal.invariant-loop-k

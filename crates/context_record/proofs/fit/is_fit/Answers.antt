@@ -1,10 +1,8 @@
-use borrow.Author.Tests.{not-true, not-false}
 use Rattle.laws.specs.Tables.{every}
 use Rattle.context_record.specs.Record.{fit, qf_fit}
 use Rattle.bytes_below.specs.Below.{bytes_below}
 use Rattle.context_record.specs.laws.Bounds.{is_fit, refuted, false_true, fit_last}
 use Rattle.context_record.specs.laws.Laws.{capped}
-use borrow.Author.Rules.{rules}
 use native.Mathlib.Omega.{arith}
 use mathlib.Core.Path.{◌∙◌, ap, sym}
 use Prim.Native.Nat.{ℕ, ◌*◌}

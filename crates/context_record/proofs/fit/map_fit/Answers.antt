@@ -1,5 +1,4 @@
 use lib.ListN.{length-take}
-use borrow.Author.Rules.{rules}
 use native.Mathlib.Omega.{arith}
 use Rattle.context_record.proofs.fit.map_fit.Goals as goal
 
