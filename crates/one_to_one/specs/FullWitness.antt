@@ -1,6 +1,6 @@
 -- What meets the premises of demand 3 with all that they speak of, as the calls themselves hand it on: M4's layout through the cut, thresholds on
 -- all four lists, LF grids, permuted orders, the last of three presets, starting grids that are not zero; and a filling.
-use Rattle.std.specs.Prelude.{true, List, [], ◌∷◌, ◌++◌, ℕ, zero, suc, ◌+◌, ◌^◌, ◌-◌, set, drop, replicate}
+use Rattle.std.specs.Prelude.{true, List, [], ◌∷◌, ◌++◌, ℕ, zero, suc, ◌^◌, ◌-◌, set, drop, replicate}
 use Rattle.order_sizes.specs.BlockSizes.{BLOCK_SIZES}
 use Rattle.order_natural.specs.Places.{Place}
 use Rattle.order_natural.specs.Natural.{natural}

@@ -63,6 +63,7 @@ in_cells (it ∷ its) x h = go (Memᴰ.append_cases (map (λ (p : ℕ). (it.chan
 
 cells_in_lem : (its : List Item) (it : Item) (p : ℕ) → In it its → In p it.cells → In (it.channel, p) (read_cells its)
 unfolding read_cells
+cells_in_lem [] it p x'' i = elim x'' [ ]
 cells_in_lem (t ∷ its) it p (here e) i = rw e (Memᴰ.append_left (read_cells its) (Memᴰ.map (λ (q : ℕ). (t.channel, q)) (rw e at i)))
 cells_in_lem (t ∷ its) it p (there j) i = Memᴰ.append_right (map (λ (q : ℕ). (t.channel, q)) t.cells) (cells_in_lem its it p j i)
 
@@ -95,6 +96,7 @@ module _ (P : PassGroup) where
 
   item_in : (vs : List Varblock) (v : Varblock) → Among v vs → (c : ℕ) → c < 3 → (n : ℕ) × In (item_of P v n c) (items_of P vs)
   unfolding items_of
+  item_in [] v x'' c h = elim x'' [ ]
   item_in (u ∷ vs) v (first e) zero h = (1, rw (← e) (there (here refl)))
   item_in (u ∷ vs) v (first e) (suc zero) h = (0, rw (← e) (here refl))
   item_in (u ∷ vs) v (first e) (suc (suc zero)) h = (2, rw (← e) (there (there (here refl))))

@@ -1,5 +1,5 @@
 -- Laws: The low-frequency cells (document 01, Orders; document 00, demand 3): which they are, that no call changes them, and that all others are
-use Rattle.std.specs.Prelude.{◌≡◌, refl, ◌⊎◌, List, [], ℕ, ◌+◌, ◌*◌, ◌^◌, ◌<◌, length, get_or, set}
+use Rattle.std.specs.Prelude.{◌≡◌, refl, ◌⊎◌, List, [], ℕ, ◌^◌, ◌<◌, length, get_or, set}
 use Rattle.std.proofs.Common.{ap, sym, ◌∙◌, inl, inr, arith, length-set, get_or-set_same, get_or-set_other}
 use Rattle.std.proofs.Math.Decide.{ℕ_discrete, dec_lt}
 use Rattle.std.proofs.lemmas.List.Edits.{sets}

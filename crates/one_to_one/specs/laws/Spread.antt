@@ -1,6 +1,6 @@
 -- A list behind its first places: each cell that is not low-frequency once, and no other.
 use Rattle.std.specs.Prelude.{◌≡◌, Bool, true, false, ◌&&◌, ℕ, ◌+◌, ◌*◌, ◌/◌, ◌%◌, ◌<◌, ◌≤◌, ltb, length, drop}
-use Rattle.std.proofs.Math.Path.{refl, ap}
+use Rattle.std.proofs.Math.Path.{refl, ap, subst}
 use Rattle.std.proofs.Common.{sym, ◌∙◌, inl, inr, arith, mul_comm, length-drop}
 use mathlib.Core.List.Memᴰ
 use mathlib.Core.List.Memᴰ.{head as here}
@@ -24,7 +24,8 @@ use Rattle.dct_select.specs.laws.Sides.{order_lt, OrderSides, swapped, straight,
 use Rattle.coeff_group.specs.laws.Cells.{Distinct, distinct_map, In}
 
 in_count : (q : Place) (l : List Place) → In q l → 0 < count q.0 q.1 l
-in_count q (r ∷ rs) (here e) = rw e (self r rs)
+in_count q [] x' = elim x' [ ]
+in_count q (r ∷ rs) (here e) = subst (λ s. 0 < count s.0 s.1 (r ∷ rs)) (sym e) (self r rs)
 in_count q (r ∷ rs) (there i) = omega (arith, in_count q rs i)
 
 count_in : (x y : ℕ) (l : List Place) → 0 < count x y l → In (x, y) l

@@ -59,6 +59,7 @@ module _ (x y : ℕ) where
       go (inr b) f = let r = f b in (r.0, later r.1, r.2)
 
   some_in : (vs : List Varblock) (v : Varblock) → Among v vs → In x y v → low_in_some x y vs ≡ true
+  some_in [] v x3 h = elim x3 [ ]
   some_in (u ∷ vs) v (first e) h = or_either (low_in x y u) (low_in_some x y vs) (inl (one_in u (rw (← e) at h)))
   some_in (u ∷ vs) v (later i) h = or_either (low_in x y u) (low_in_some x y vs) (inr (some_in vs v i h))
 
