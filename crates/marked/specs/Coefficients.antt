@@ -1,5 +1,5 @@
 -- What M9 to M11 are lent.
-use Rattle.std.specs.Prelude.{◌≡◌, List, [], ◌∷◌, ℕ, ◌+◌, ◌*◌, ◌%◌, ◌^◌, ◌-◌, ◌≤◌, length, get_or, set}
+use Rattle.std.specs.Prelude.{◌≡◌, List, [], ◌∷◌, ℕ, ◌+◌, ◌*◌, ◌%◌, ◌^◌, ◌≤◌, length, get_or, set}
 use Rattle.coeff_call.specs.Call.{Lent, lent}
 use Rattle.one_to_one.specs.Plain.{plain}
 

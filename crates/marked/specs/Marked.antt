@@ -130,4 +130,4 @@ MARKED = m 1 M1 ∷ m 2 M2 ∷ m 3 M3 ∷ m 4 M4 ∷ m 5 M5 ∷ m 6 M6 ∷ m 7 M
 -- each row of a list
 abbrev pub Each : List Row → Type 0
 Each [] = Unit
-Each (r ∷ rs) = r.says × Each rs
+Each (r ∷ rs) = r.Says × Each rs

@@ -1,5 +1,5 @@
 -- Laws: the marked examples, as rows of one list under one theorem.
-use Rattle.std.specs.Prelude.{refl, ◌-◌}
+use Rattle.std.specs.Prelude.{refl}
 use Rattle.std.specs.Float.Ieee.{mul, div, of_int, to_bits, round, size, span, climb, units, odd}
 use Rattle.std.specs.Int.Count.{count_trailing_zeros}
 use Rattle.layout_filter.specs.laws.Strength.{m8}
