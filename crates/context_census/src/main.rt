@@ -5,7 +5,8 @@ ghost use Rattle.std.specs.Prelude.{◌≤◌};
 
 use coeff_context::tables::{COEFF_FREQ_CONTEXT, COEFF_NUM_NONZERO_CONTEXT};
 use coeff_context::{CensusAnswer, coefficient_context};
-use libc::STDOUT_FILENO;
+use std::env::{Env, FillError};
+use std::io;
 
 // From the least to the largest.
 #[derive(Drop)]
@@ -71,28 +72,28 @@ fn with_number(number: u32) -> Situations {
     all
 }
 
-fn put(text: &[u8]) {
-    io::write_all(STDOUT_FILENO, text);
+fn put(rt: &impl Print, text: &[u8]) -> io::Result<()> {
+    rt.write_all(text)
 }
 
-fn put_number(n: u32) {
-    io::print_decimal(STDOUT_FILENO, n as u64);
+fn put_number(rt: &impl Print, n: u32) -> io::Result<()> {
+    rt.print(n)
 }
 
-fn put_cell(n: u32) {
-    put(b" ");
-    put_number(n);
-    put(b" |");
+fn put_cell(rt: &impl Print, n: u32) -> io::Result<()> {
+    put(rt, b" ")?;
+    put_number(rt, n)?;
+    put(rt, b" |")
 }
 
-fn put_span(all: Span) {
-    put(b" ");
-    put_number(all.least);
+fn put_span(rt: &impl Print, all: Span) -> io::Result<()> {
+    put(rt, b" ")?;
+    put_number(rt, all.least)?;
     if all.least < all.largest {
-        put(b" to ");
-        put_number(all.largest);
+        put(rt, b" to ")?;
+        put_number(rt, all.largest)?;
     }
-    put(b" |");
+    put(rt, b" |")
 }
 
 fn to_u32(x: u8) -> u32 {
@@ -116,50 +117,63 @@ fn one_less(n: u32) -> u32 {
 }
 
 // The row of a number with flag 0, and of the one behind it, the same with flag 1.
-fn put_row(nonzeros: &[u8; 63], frequencies: &[u8; 63], number: u32) {
+fn put_row(
+    rt: &impl Print,
+    nonzeros: &[u8; 63],
+    frequencies: &[u8; 63],
+    number: u32,
+) -> io::Result<()> {
     let all = with_number(number);
-    put(b"|");
-    put_cell(number);
-    put_cell(number | 1);
-    put_cell(entry(nonzeros, one_less(all.counts.least)));
-    put_span(all.counts);
-    put_cell(entry(frequencies, all.places.least));
-    put_span(all.places);
-    put(b"\n");
+    put(rt, b"|")?;
+    put_cell(rt, number)?;
+    put_cell(rt, number | 1)?;
+    put_cell(rt, entry(nonzeros, one_less(all.counts.least)))?;
+    put_span(rt, all.counts)?;
+    put_cell(rt, entry(frequencies, all.places.least))?;
+    put_span(rt, all.places)?;
+    put(rt, b"\n")
 }
 
-fn put_rows() {
+fn put_rows(rt: &impl Print) -> io::Result<()> {
     let nonzeros = COEFF_NUM_NONZERO_CONTEXT;
     let frequencies = COEFF_FREQ_CONTEXT;
     for sum in 0..229u32 {
-        put_row(&nonzeros, &frequencies, 2 * sum);
+        put_row(rt, &nonzeros, &frequencies, 2 * sum)?;
     }
+    Ok(())
 }
 
-fn put_head() {
-    put(b"# The context census\n\n");
+fn put_head(rt: &impl Print) -> io::Result<()> {
+    put(rt, b"# The context census\n\n")?;
     put(
+        rt,
         b"Each coefficient that is read has a context, a number from 0 to 457, and the cluster map gives each context its cluster. This page lists the numbers and the situations that have them, where no more coefficients are due than places remain (document 02, No. 9); a reading that comes to another situation is never accepted. Crate context_census makes the page from the call `coefficient_context`, and the gate holds it to what that program prints.\n\n",
-    );
+    )?;
     put(
+        rt,
         b"A situation is what decides a context: the varblock's number of blocks, a power of two up to 1,024; the remaining count n, how many coefficients that are not 0 are still due, at least 1; the place i, counted from 0 behind the low-frequency cells, with n + i at most 63 \xc3\x97 blocks; and the flag, 1 if the symbol before was not 0, and at place 0 if the count is at most 4 \xc3\x97 blocks.\n\n",
-    );
+    )?;
     put(
+        rt,
         b"- The number is 2 \xc3\x97 (non-zero entry + frequency entry) + flag. The entries are those of the two tables of 63, by n / blocks rounded up and by i / blocks rounded down. Nothing else counts: a situation of many blocks has the number of one of one block (coeff_context `one-block`).\n",
-    );
+    )?;
     put(
+        rt,
         b"- Two situations have the same number exactly if they have both entries and the flag in common (`same-number`).\n",
-    );
+    )?;
     put(
+        rt,
         b"- No number is above 457 (`below`), and each occurs, in varblocks of every number of blocks (`each-number`), where both flags count as allowed at every place.\n",
-    );
+    )?;
     put(
+        rt,
         b"- A row holds for each of its counts and places as far as n + i is at most 63 \xc3\x97 blocks; then the sum of the two quotients is at most 63.\n\n",
-    );
+    )?;
     put(
+        rt,
         b"| Flag 0 | Flag 1 | Non-zero entry | n / blocks, rounded up | Frequency entry | i / blocks, rounded down |\n",
-    );
-    put(b"|--|--|--|--|--|--|\n");
+    )?;
+    put(rt, b"|--|--|--|--|--|--|\n")
 }
 
 // 1 if some situation of one block has the number.
@@ -182,12 +196,19 @@ fn occurring() -> u32 {
     n
 }
 
-fn main() {
-    if 1 < os::arg_count() {
-        put_head();
-        put_rows();
-        return;
+// Whether there is an argument behind the program's name.
+fn has_argument(rt: &impl Env) -> bool {
+    match rt.arg(1, &mut [0u8; 1]) {
+        Err(FillError::NotPresent) => false,
+        _ => true,
     }
-    put_number(occurring());
-    put(b" numbers occur\n");
+}
+
+fn main(rt: HostRuntime) -> io::Result<()> {
+    if has_argument(&rt) {
+        put_head(&rt)?;
+        return put_rows(&rt);
+    }
+    put_number(&rt, occurring())?;
+    put(&rt, b" numbers occur\n")
 }

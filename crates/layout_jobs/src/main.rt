@@ -2,7 +2,8 @@
 // Runs the lister on recorded jobs: each a 16-bit length, the lower byte first, and that many bytes.
 ghost use Rattle.std.specs.Prelude.{◌≡◌, ◌<◌};
 
-use libc::{STDIN_FILENO, STDOUT_FILENO};
+use std::io;
+use streams::read_full;
 
 fn to_usize(x: u8) -> usize
     ensures { (result ≡ x) × (result < 256) }
@@ -10,39 +11,40 @@ fn to_usize(x: u8) -> usize
     x as usize
 }
 
-fn run(job: &[u8]) {
+fn run(rt: &impl Print, job: &[u8]) -> io::Result<()> {
     let mut out = [0u8; 90000];
     let k = lister::list_whole(job, &mut out);
-    io::write_all(STDOUT_FILENO, &out[..k]);
+    rt.write_all(&out[..k])
 }
 
 // Runs the job at a place and gives the place behind it; the same place where no whole job is left.
-fn run_at(jobs: &[u8], at: usize) -> usize {
+fn run_at(rt: &impl Print, jobs: &[u8], at: usize) -> io::Result<usize> {
     if jobs.len() < 2 {
-        return at;
+        return Ok(at);
     }
     if jobs.len() - 2 < at {
-        return at;
+        return Ok(at);
     }
     let length = to_usize(jobs[at]) + 256 * to_usize(jobs[at + 1]);
     let start = at + 2;
     if jobs.len() - start < length {
-        return at;
+        return Ok(at);
     }
     let end = start + length;
-    run(&jobs[start..end]);
-    end
+    run(rt, &jobs[start..end])?;
+    Ok(end)
 }
 
-fn main() {
+fn main(rt: HostRuntime) -> io::Result<()> {
     let mut jobs = [0u8; 262144];
-    let n = io::read_full(STDIN_FILENO, &mut jobs);
+    let n = read_full(&mut rt.stdin(), &mut jobs);
     let mut at = 0;
     while at < n {
-        let next = run_at(&jobs[..n], at);
+        let next = run_at(&rt, &jobs[..n], at)?;
         if next <= at {
-            return;
+            return Ok(());
         }
         at = next;
     }
+    Ok(())
 }

@@ -3,11 +3,13 @@
 // layout.
 ghost use Rattle.std.specs.Prelude.{◌≡◌, ◌≤◌, length};
 
-use libc::{STDIN_FILENO, STDOUT_FILENO};
+use std::io;
+use std::io::Stdin;
+use streams::read_full;
 
 // Record by record, as many bytes as the job still needs, until it needs none or input ends: how
 // many there are. A job has at most 36,870.
-fn read_job(job: &mut [u8]) -> usize
+fn read_job(input: &mut Stdin, job: &mut [u8]) -> usize
     requires { length job.old ≡ 36870 }
     ensures { (result ≤ 36870) × (length job.new ≡ 36870) }
 {
@@ -18,7 +20,7 @@ fn read_job(job: &mut [u8]) -> usize
             return n;
         }
         let end = n + needed;
-        let got = io::read_full(STDIN_FILENO, &mut job[n..end]);
+        let got = read_full(input, &mut job[n..end]);
         n += got;
         if got < needed {
             return n;
@@ -26,10 +28,10 @@ fn read_job(job: &mut [u8]) -> usize
     }
 }
 
-fn main() {
+fn main(rt: HostRuntime) -> io::Result<()> {
     let mut job = [0u8; 36870];
-    let n = read_job(&mut job);
+    let n = read_job(&mut rt.stdin(), &mut job);
     let mut out = [0u8; 90000];
     let k = lister::list_whole(&job[..n], &mut out);
-    io::write_all(STDOUT_FILENO, &out[..k]);
+    rt.write_all(&out[..k])
 }

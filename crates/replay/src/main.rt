@@ -5,6 +5,9 @@ ghost use Rattle.io.specs.Counts.{IsPrefixLen};
 
 use recorded_lists::list::number;
 use recorded_words::decode;
+use std::rt::Files;
+use std::{fs, io};
+use streams::read_full;
 
 mod alike;
 mod answer;
@@ -24,16 +27,13 @@ mod transform;
 mod walk;
 
 // The bytes of the list, none where it cannot be read.
-fn read_file(out: &mut [u8]) -> usize
+fn read_file(rt: &impl Files, out: &mut [u8]) -> usize
     ensures { IsPrefixLen result out.new }
 {
-    let fd = os::open_read(b"answers.bin");
-    if fd < 0 {
-        return 0;
+    match fs::open(rt, "answers.bin") {
+        Ok(mut file) => read_full(&mut file, out),
+        Err(_) => 0,
     }
-    let n = io::read_full(fd, out);
-    libc::close(fd);
-    n
 }
 
 // A list begins with "NETBUFF2".
@@ -47,31 +47,34 @@ fn is_list(file: &[u8], words: &[u32]) -> bool {
     number(words, 1) == 0x3246_4655
 }
 
-fn replay_all<'a>(file: &'a [u8], words: &'a [u32]) {
+fn replay_all<'a>(rt: &impl Print, file: &'a [u8], words: &'a [u32]) -> io::Result<()> {
     if !is_list(file, words) {
-        names::text(b"no recorded list\n");
-        return;
+        return names::text(rt, b"no recorded list\n");
     }
     let mut records = 0;
     for call in 1..10 {
-        records = walk::replay_call(file, words, call);
+        records = walk::replay_call(rt, file, words, call)?;
     }
-    names::number(records);
-    names::text(b" records\n");
+    names::number(rt, records)?;
+    names::text(rt, b" records\n")
 }
 
-fn run(file: &mut [u8], words: &mut [u32]) {
-    let n = read_file(file);
+fn run(rt: &(impl Files + Print), file: &mut [u8], words: &mut [u32]) -> io::Result<()> {
+    let n = read_file(rt, file);
     let k = decode(&file[..n], words);
-    replay_all(&file[..n], &words[..k]);
+    replay_all(rt, &file[..n], &words[..k])
 }
 
-fn run_in(file: &mut [u8; 262144], words: &mut [u32; 65536]) {
-    run(file, words);
+fn run_in(
+    rt: &(impl Files + Print),
+    file: &mut [u8; 262144],
+    words: &mut [u32; 65536],
+) -> io::Result<()> {
+    run(rt, file, words)
 }
 
-fn main() {
+fn main(rt: HostRuntime) -> io::Result<()> {
     let mut file = [0u8; 262144];
     let mut words = [0u32; 65536];
-    run_in(&mut file, &mut words);
+    run_in(&rt, &mut file, &mut words)
 }

@@ -1,34 +1,35 @@
 // What is printed.
-use libc::STDOUT_FILENO;
+use std::io;
 
-pub(crate) fn text(t: &[u8]) {
-    io::write_all(STDOUT_FILENO, t);
+pub(crate) fn text(rt: &impl Print, t: &[u8]) -> io::Result<()> {
+    rt.write_all(t)
 }
 
-pub(crate) fn number(n: u32) {
-    io::print_decimal(STDOUT_FILENO, n as u64);
+pub(crate) fn number(rt: &impl Print, n: u32) -> io::Result<()> {
+    rt.print(n)
 }
 
-pub(crate) fn size(n: usize) {
-    io::print_decimal(STDOUT_FILENO, n as u64);
+pub(crate) fn size(rt: &impl Print, n: usize) -> io::Result<()> {
+    rt.print(n)
 }
 
 // The k-th of names that have 12 letters each, from 1 on.
-fn named(names: &[u8], k: usize) {
+fn named(rt: &impl Print, names: &[u8], k: usize) -> io::Result<()> {
     if k < 1 {
-        return;
+        return Ok(());
     }
     if names.len() / 12 < k {
-        return;
+        return Ok(());
     }
     let e = 12 * k;
     let a = e - 12;
-    text(&names[a..e]);
+    text(rt, &names[a..e])
 }
 
-pub(crate) fn call(k: u32) {
+pub(crate) fn call(rt: &impl Print, k: u32) -> io::Result<()> {
     named(
+        rt,
         b"transform   column countlayout      cut         alike       contexts    orders      coefficientscensus      ",
         k as usize,
-    );
+    )
 }

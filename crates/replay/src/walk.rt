@@ -4,6 +4,7 @@ use crate::{
     alike, census, coefficients, columns, contexts, cut, group_layout, names, orders, transform,
 };
 use recorded_lists::frame::{Frame, next};
+use std::io;
 
 // The part of the file that holds the numbers from start to end.
 fn bytes_of(file: &[u8], start: usize, end: usize) -> &[u8] {
@@ -45,29 +46,36 @@ fn replay<'a>(call: u32, body: &'a [u8], words: &'a [u32], out: &mut [usize; 48]
     }
 }
 
-fn print_difference(call: u32, index: u32, which: usize) {
-    names::call(call);
-    names::text(b" record ");
-    names::number(index);
-    names::text(b": number ");
-    names::size(which);
-    names::text(b" of the answer differs\n");
+fn print_difference(rt: &impl Print, call: u32, index: u32, which: usize) -> io::Result<()> {
+    names::call(rt, call)?;
+    names::text(rt, b" record ")?;
+    names::number(rt, index)?;
+    names::text(rt, b": number ")?;
+    names::size(rt, which)?;
+    names::text(rt, b" of the answer differs\n")
 }
 
 // Whether the record agrees. A difference is printed if it is the first.
-fn agrees<'a>(call: u32, index: u32, body: &'a [u8], words: &'a [u32], first: bool) -> bool {
+fn agrees<'a>(
+    rt: &impl Print,
+    call: u32,
+    index: u32,
+    body: &'a [u8],
+    words: &'a [u32],
+    first: bool,
+) -> io::Result<bool> {
     let mut out = [0usize; 48];
     let count = replay(call, body, words, &mut out);
     let k = agreed(words, count, &out);
     if k == count {
         if 3 <= count {
-            return true;
+            return Ok(true);
         }
     }
     if first {
-        print_difference(call, index, k);
+        print_difference(rt, call, index, k)?;
     }
-    false
+    Ok(false)
 }
 
 // Records of a call, how many of them agree, and the end of the last record.
@@ -82,13 +90,13 @@ fn more(n: u32) -> u32 {
     std::num::wrapping_add_u32(n, 1)
 }
 
-fn print_count(call: u32, records: u32, agree: u32) {
-    names::call(call);
-    names::text(b" ");
-    names::number(agree);
-    names::text(b" of ");
-    names::number(records);
-    names::text(b" agree\n");
+fn print_count(rt: &impl Print, call: u32, records: u32, agree: u32) -> io::Result<()> {
+    names::call(rt, call)?;
+    names::text(rt, b" ")?;
+    names::number(rt, agree)?;
+    names::text(rt, b" of ")?;
+    names::number(rt, records)?;
+    names::text(rt, b" agree\n")
 }
 
 // The count with one record more.
@@ -108,7 +116,14 @@ fn with(records: u32, agree: u32, end: usize, same: bool) -> Count {
 }
 
 // The count behind the record at the end of the last; the same end where there is none.
-fn replay_one<'a>(file: &'a [u8], words: &'a [u32], call: u32, index: u32, count: Count) -> Count {
+fn replay_one<'a>(
+    rt: &impl Print,
+    file: &'a [u8],
+    words: &'a [u32],
+    call: u32,
+    index: u32,
+    count: Count,
+) -> io::Result<Count> {
     let at = count.end;
     let records = count.records;
     let agree = count.agree;
@@ -116,25 +131,30 @@ fn replay_one<'a>(file: &'a [u8], words: &'a [u32], call: u32, index: u32, count
     match f {
         Frame::Record(k, start, end) => {
             if k != call {
-                return Count {
+                return Ok(Count {
                     records,
                     agree,
                     end,
-                };
+                });
             }
             let body = bytes_of(file, start, end);
             let numbers = numbers_of(words, start, end);
-            let same = agrees(call, index, body, numbers, agree == records);
-            with(records, agree, end, same)
+            let same = agrees(rt, call, index, body, numbers, agree == records)?;
+            Ok(with(records, agree, end, same))
         }
-        Frame::End => count,
-        Frame::Malformed => count,
+        Frame::End => Ok(count),
+        Frame::Malformed => Ok(count),
     }
 }
 
 // Replays the records of a call, and prints how many of them agree. Gives how many records of any
 // call there are.
-pub(crate) fn replay_call<'a>(file: &'a [u8], words: &'a [u32], call: u32) -> u32 {
+pub(crate) fn replay_call<'a>(
+    rt: &impl Print,
+    file: &'a [u8],
+    words: &'a [u32],
+    call: u32,
+) -> io::Result<u32> {
     let mut count = Count {
         records: 0,
         agree: 0,
@@ -143,15 +163,15 @@ pub(crate) fn replay_call<'a>(file: &'a [u8], words: &'a [u32], call: u32) -> u3
     let mut at = 2;
     let mut index = 0;
     while at < words.len() {
-        count = replay_one(file, words, call, index, count);
+        count = replay_one(rt, file, words, call, index, count)?;
         let then = count.end;
         if then <= at {
-            names::text(b"malformed list\n");
+            names::text(rt, b"malformed list\n")?;
             break;
         }
         at = then;
         index = more(index);
     }
-    print_count(call, count.records, count.agree);
-    index
+    print_count(rt, call, count.records, count.agree)?;
+    Ok(index)
 }

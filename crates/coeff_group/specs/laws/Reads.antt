@@ -150,7 +150,7 @@ tells_on it its n m k us ds us₁ dss (ends us' rows) long w t =
 tells_on it its n m k us ds us₁ dss (stops why) long w t =
     let xs = non_zeros ds ∷ up_to (non_zeros ds) ds in
     let e : us ≡ up_to (non_zeros ds) ds ++ us₁ = w.rest ∙ ap (λ (j : ℕ). up_to j ds ++ us₁) w.due in
-    walks.stop-later xs us₁ (n ∷ us) k (suc (m + k)) why (ap₂ (λ (i : ℕ) (l : List ℕ). i ∷ l) w.due e)
+    walks.stop_later xs us₁ (n ∷ us) k (suc (m + k)) why (ap₂ (λ (i : ℕ) (l : List ℕ). i ∷ l) w.due e)
     (omega (arith, w.read, ap length e, length-append (up_to (non_zeros ds) ds) us₁))
     (λ s q z. behind_first it its ds long s (q (λ (u : Item) (j : In u its). z u (there j)))) (λ s. behind_first it its ds long s) t
 
@@ -205,7 +205,7 @@ module _ (clusters : ℕ) (preset_map : List ℕ) where
         further = λ h vs s at log G. absurd h;
         all = (long, nones_long its);
         few = omega arith;
-        tells = walks.stop-later (n ∷ []) us (n ∷ us) (length ks) (suc (length ks)) why refl (omega arith)
+        tells = walks.stop_later (n ∷ []) us (n ∷ us) (length ks) (suc (length ks)) why refl (omega arith)
             (λ s q z. at_first it its (n ∷ s) (more_due it n most first_prev (few_le n (4 * it.blocks)) (z it (here refl)) s q)) (λ s q. at_first it its (n ∷ s) (count_remains it n most s q)) t;
       }
       by_end (walks.ends us₁) is further few most t =

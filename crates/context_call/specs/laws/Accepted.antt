@@ -49,6 +49,7 @@ module _ (s : List ℕ) (h : Bytes s) where
       (λ d fd. record { few0 = fa.0; few1 = fb.0; few2 = fc.0; few3 = fd.0; values = fd.1 }) (read_list s (qf_value s) p2) (qf_list p2))))
 
 true_of : (b : Bool) → T b → b ≡ true
+true_of false t = elim t [ ]
 true_of true t = refl
 
 stored_fit : (count : ℕ) (map : List ℕ) (l : Lists) → Kept l → bsize_of (lengths_of l) ≤ 64 → length map ≡ 39 * bsize_of (lengths_of l)

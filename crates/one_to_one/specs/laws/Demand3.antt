@@ -29,7 +29,7 @@ module _ (L : Lent) (fixed : Fixed L) where
         let G = fillable L fixed W filling in (
           sequence_words items L.grids W G.few,
           λ s h.
-              let o = over.one-to-one (clusters_of P) (preset_map L fixed.rest.preset) items L.grids W G L.log zero_rows s h in
+              let o = over.one_to_one (clusters_of P) (preset_map L fixed.rest.preset) items L.grids W G L.log zero_rows s h in
               let f = same L fixed W filling s in
               ((λ x. o.0 (f.0 x)), (λ x. f.1 (o.1 x))),
         )

@@ -123,7 +123,7 @@ module _ (clusters : ℕ) (preset_map : List ℕ) (its : List Item) (G W : PerCh
 
   pub exists : Filled (reading clusters preset_map its (sent dss) log G rows) (sent dss) W
   exists =
-      let r = run.read-sent clusters preset_map its dss (changes_long G W its) fillable.sized 0 0 log G rows in
+      let r = run.read_sent clusters preset_map its dss (changes_long G W its) fillable.sized 0 0 log G rows in
       record {
         accepted = ap (λ (x : Reading). (outcome_of x).answer) r.is ∙ ap gives (to_last (sent dss) r.at' r.log' (adds 0 G (read_cells its) (joined dss)) r.rows' r.is);
         grids = ap (λ (x : Reading). (outcome_of x).grids) r.is ∙ reached;

@@ -1,0 +1,37 @@
+use Rattle.std.proofs.Common.{ap, not}
+use Rattle.recorded_lists.specs.laws.ListsLaws.{in_room, no_room}
+use borrow.Author.Tests.{le-leb}
+use native.Mathlib.Omega.{arith}
+use Prim.Native.Nat.{◌+◌, ◌≤◌}
+use lib.ListN.{length, get_or}
+use Rattle.recorded_lists.proofs.list.behind_one.Goals.{Else-not-has_room}
+use Rattle.recorded_lists.proofs.list.behind_one.Goals as goal
+
+pub returns-then-not-has_room : goal.returns-then-not-has_room
+returns-then-not-has_room c =
+    let a = c.args in
+    let w = a.words.now in
+    let f = c.has_room in
+    let n = c.number-size in
+    rw (no_room f.result a.at n.result (get_or w a.at 0) (length w) f.ensures n.ensures (ap not c.if-not-has_room.true))
+
+-- the list ends in the record
+ends : (c : Else-not-has_room) → c.args.at + 2 + get_or c.args.words.now c.args.at 0 ≤ length c.args.words.now
+ends c =
+    let a = c.args in
+    let w = a.words.now in
+    let f = c.has_room in
+    let n = c.number-size in
+    in_room f.result a.at n.result (get_or w a.at 0) (length w) f.ensures n.ensures (ap not c.if-not-has_room.false)
+
+pub overflow_add-result : goal.overflow_add-result
+overflow_add-result c = omega (arith, ends c)
+
+pub overflow_add-result-2 : goal.overflow_add-result-2
+overflow_add-result-2 c = omega (arith, ends (goal.at.overflow_add-result-2 c).Else-not-has_room, c.to_usize.ensures.0, c.number-size.ensures)
+
+pub returns : goal.returns
+returns c =
+    let a = c.args in
+    let w = a.words.now in
+    rw (c.to_usize.ensures.0, c.number-size.ensures, le-leb (a.at + 2 + get_or w a.at 0) (length w) (ends (goal.at.returns c).Else-not-has_room))

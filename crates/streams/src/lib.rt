@@ -1,0 +1,31 @@
+#![tactic(auto)]
+// Reads that go on until a buffer is full.
+ghost use Rattle.io.specs.Counts.{IsPrefixLen};
+
+use std::io::Read;
+
+// One read. One that fails gives nothing, as one at the end does.
+fn read_some<R: Read>(from: &mut R, buf: &mut [u8]) -> usize
+    ensures { IsPrefixLen result buf.new }
+{
+    match from.read(buf) {
+        Ok(n) => n,
+        Err(_) => 0,
+    }
+}
+
+// Reads until buf is full, the input ends or a read fails, and returns how many bytes it put at the
+// start of buf. On an empty buf it makes no call.
+pub fn read_full<R: Read>(from: &mut R, buf: &mut [u8]) -> usize
+    ensures { IsPrefixLen result buf.new }
+{
+    let mut done = 0;
+    while done < buf.len() {
+        let n = read_some(from, &mut buf[done..]);
+        if n == 0 {
+            break;
+        }
+        done += n;
+    }
+    done
+}
