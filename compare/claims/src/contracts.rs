@@ -114,7 +114,8 @@ mod tests {
 
     #[test]
     fn a_contract_cites_no_parameter() {
-        let source = "fn f(kinds: &[u8], n: usize) -> u8\n    requires { length kinds.now ≡ n }\n    \
+        let source =
+            "fn f(kinds: &[u8], n: usize) -> u8\n    requires { length kinds.now ≡ n }\n    \
                       ensures low { Put kinds.new result n }\n    ensures high { low n }\n{\n    \
                       g(n)\n}\n";
         let found = functions(source);

@@ -113,7 +113,8 @@ impl Library {
     }
 
     /// What the contracts of these calls and of the exported functions cite, and the statements of
-    /// these theorems; of the crates that are asked for.
+    /// these theorems; of the crates that are asked for. A name that a function of the crate has is
+    /// that function's.
     fn promised(&self, calls: &[Name], named: &[Name], asked: impl Fn(&str) -> bool) -> Believed {
         let mut found = Believed::default();
         for contract in self.contracts.iter().filter(|it| asked(&it.in_crate)) {
@@ -131,7 +132,10 @@ impl Library {
         }
         for (file, read) in self.files.iter().filter(|(file, _)| asked(&file.0)) {
             for (name, declared) in &read.declared {
-                if !declared.defines && named.contains(&(&file.0, name)) {
+                let named = named
+                    .iter()
+                    .any(|it| *it == (file.0.as_str(), name.as_str()));
+                if !declared.defines && named && !self.has_call(&(&file.0, name)) {
                     let (file, name) = (file.clone(), name.clone());
                     self.take_cites(&mut found, &Place { file, name });
                 }

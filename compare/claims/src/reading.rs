@@ -1,5 +1,5 @@
 //! What a reader believes stands apart from what is proved: `specs/` of a crate has definitions that
-//! a promise rests on and nothing else, `specs/laws/` all else. The reading list of
+//! a promise rests on and nothing else, `specs/laws/` and `proofs/` all else. The reading list of
 //! docs/ARCHITECTURE.md has the crates whose definitions are believed.
 
 use std::collections::{BTreeMap, BTreeSet};

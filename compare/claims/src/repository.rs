@@ -46,6 +46,10 @@ impl Repository {
                 let file = file.trim_end_matches(".antt");
                 library.add_definitions(name, file, text);
             }
+            for (file, text) in found.laws() {
+                let file = format!("proofs/{}", file.trim_end_matches(".antt"));
+                library.add_definitions(name, &file, text);
+            }
         }
         library
     }
@@ -82,7 +86,7 @@ impl Repository {
         let code = found
             .of("src/")
             .flat_map(|(_, text)| definitions::of_code(text));
-        let specs = found.of("specs/");
+        let specs = found.of("specs/").chain(found.laws());
         let specs = specs.flat_map(|(_, text)| definitions::of_definitions(text));
         code.chain(specs).any(|defined| defined == word)
     }
@@ -139,6 +143,14 @@ impl Crate {
     fn of(&self, part: &'static str) -> impl Iterator<Item = (&str, &str)> {
         let files = self.files.iter();
         files.filter_map(move |(file, text)| Some((file.strip_prefix(part)?, text.as_str())))
+    }
+
+    /// The files of laws that stand right in `proofs/`; the proof of a function has a folder.
+    fn laws(&self) -> impl Iterator<Item = (&str, &str)> {
+        let files = self.of("proofs/");
+        files.filter(|(file, _)| {
+            file.ends_with(".antt") && !file.contains('/') && *file != "Lib.antt"
+        })
     }
 
     fn tries(&self) -> Vec<(String, usize)> {
