@@ -1,5 +1,5 @@
 -- The lines that the lister prints (document 01, The lister).
-use Rattle.std.specs.Prelude.{List, [], ◌∷◌, ◌++◌, ℕ, ◌-◌}
+use Rattle.std.specs.Prelude.{List, [], ◌∷◌, ◌++◌, ℕ}
 use Rattle.refusal.specs.declared.Said.{Said}
 use Rattle.layout.specs.Varblocks.{Varblock, varblocks_of, area}
 use Rattle.text.specs.Text.{decimal}
