@@ -1,4 +1,4 @@
-use Rattle.lister_job.specs.laws.Needed.{column_first, column_over, column_other, column_rest}
+use Rattle.lister_job.proofs.laws.Needed.{column_first, column_over, column_other, column_rest}
 use Rattle.lister_job.proofs.column_needs.Goals as goal
 
 pub returns-then-job-start : goal.returns-then-job-start
