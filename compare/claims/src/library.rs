@@ -103,6 +103,27 @@ impl Library {
         }
     }
 
+    /// What the statement of a theorem cites. Where that stands under a name of its own among the laws,
+    /// `job_first : JobFirst j` or `more_due : MoreDueLaw L`, what is found there is the theorem's.
+    fn take_statement(&self, to: &mut Believed, theorem: &Place) {
+        for word in &self.declaration(theorem).cites {
+            let (file, name) = (theorem.file.clone(), word.clone());
+            match self.source(&Place { file, name }) {
+                Some(Source::Definitions(place)) if self.states(&place, theorem) => {
+                    self.take_cites(to, &place);
+                }
+                source => self.take(to, &theorem.to_string(), word, source),
+            }
+        }
+    }
+
+    /// Whether a definition of the laws has the name that the statement of this theorem would have.
+    fn states(&self, place: &Place, theorem: &Place) -> bool {
+        let of_laws = place.file.0 == theorem.file.0 && place.file.1.starts_with("laws/");
+        let name = place.name.strip_suffix("Law").unwrap_or(&place.name);
+        of_laws && self.declaration(place).defines && name == capitals(&theorem.name)
+    }
+
     /// What a declaration cites.
     fn take_cites(&self, to: &mut Believed, place: &Place) {
         for word in &self.declaration(place).cites {
@@ -137,7 +158,7 @@ impl Library {
                     .any(|it| *it == (file.0.as_str(), name.as_str()));
                 if !declared.defines && named && !self.has_call(&(&file.0, name)) {
                     let (file, name) = (file.clone(), name.clone());
-                    self.take_cites(&mut found, &Place { file, name });
+                    self.take_statement(&mut found, &Place { file, name });
                 }
             }
         }
@@ -175,4 +196,14 @@ impl Library {
         let name = |it: &Contract| (it.in_crate.as_str(), it.name.as_str()) == *call;
         self.contracts.iter().any(name)
     }
+}
+
+/// `job_first` as `JobFirst`.
+fn capitals(name: &str) -> String {
+    let parts = name.split('_').map(|part| {
+        let mut rest = part.chars();
+        let first = rest.next().map(|c| c.to_ascii_uppercase());
+        first.into_iter().chain(rest).collect::<String>()
+    });
+    parts.collect()
 }

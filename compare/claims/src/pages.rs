@@ -32,20 +32,25 @@ pub fn glossary(page: &str) -> impl Iterator<Item = &str> {
     rows.flat_map(quoted)
 }
 
-/// The files that a page names and that are not there. A file of `specs/` is one of this crate.
+/// The files that a page names and that are not there. A file of `specs/` or `proofs/` is one of this
+/// crate.
 pub fn missing<'a>(root: &Path, page: &'a str, in_crate: &str) -> Vec<&'a str> {
-    let there = |named: &str| match named.strip_prefix("specs/") {
-        Some(_) => root.join("crates").join(in_crate).join(named).exists(),
-        None => root.join(named).exists(),
+    let there = |named: &str| match of_crate(named) {
+        true => root.join("crates").join(in_crate).join(named).exists(),
+        false => root.join(named).exists(),
     };
     let named = quoted(page).filter(|named| names_file(named));
     named.filter(|named| !there(named)).collect()
 }
 
+fn of_crate(text: &str) -> bool {
+    text.starts_with("specs/") || text.starts_with("proofs/")
+}
+
 /// Whether a text is the place of one file or folder: no command, no pattern.
 fn names_file(text: &str) -> bool {
     let of_folder = FOLDERS.iter().any(|folder| text.starts_with(folder));
-    let of_crate = text.starts_with("specs/") && text.ends_with(".antt");
+    let of_crate = of_crate(text) && text.ends_with(".antt");
     (of_folder || of_crate) && !text.contains([' ', '*']) && !text.contains("NAME")
 }
 
@@ -66,8 +71,8 @@ mod tests {
         let there = "`.ci/run`, `crates/*/specs`, `compare/claims`, `f`, `specs/`, `crates/NAME/x`";
         assert!(found(there).is_empty());
         assert_eq!(
-            found("in `.ci/none`, `specs/None.antt`"),
-            [".ci/none", "specs/None.antt"]
+            found("in `.ci/none`, `specs/None.antt`, `proofs/None.antt`"),
+            [".ci/none", "specs/None.antt", "proofs/None.antt"]
         );
     }
 }

@@ -286,6 +286,34 @@ mod tests {
     }
 
     #[test]
+    fn a_statement_under_its_name_is_the_theorems() {
+        let told = |theorem: &str| {
+            let mut library = Library::default();
+            let laws = "use Rattle.std.specs.Prelude.{ℕ, ◌≡◌}\nuse Rattle.call.specs.Call.{f}\n\
+                        abbrev pub JobFirst : ℕ → Type 0\nJobFirst x = f x ≡ x\n";
+            library.add_definitions("call", "laws/Job", laws);
+            let proofs = format!(
+                "use Rattle.std.specs.Prelude.{{ℕ}}\nuse Rattle.call.specs.laws.Job.{{JobFirst}}\n\
+                 pub {theorem} : (x : ℕ) → JobFirst x\n{theorem} x = refl\n"
+            );
+            library.add_definitions("call", "proofs/laws/Job", &proofs);
+            let call = "use Rattle.std.specs.Prelude.{ℕ}\nabbrev pub f : ℕ → ℕ\nf x = x\n";
+            library.add_definitions("call", "Call", call);
+            let believed = library.believed(&[], &[("call", theorem)], |_| true);
+            assert!(believed.faults.is_empty());
+            let found = misplaced(&library, &believed);
+            let told = found.iter().map(Misplaced::to_string).collect::<Vec<_>>();
+            (believed.definitions.len(), told)
+        };
+        assert_eq!(told("job_first"), (1, vec![]));
+        // of another theorem it is a definition
+        let believed =
+            "crates/call/specs/laws/Job.antt: `JobFirst` is a definition that a promise \
+                        rests on, among the laws";
+        assert_eq!(told("job_last"), (2, vec![believed.to_string()]));
+    }
+
+    #[test]
     fn what_is_cited_is_there() {
         let faults = |calls: &[Name]| library().believed(calls, &[], |_| true).faults;
         assert!(faults(&[READ]).is_empty());

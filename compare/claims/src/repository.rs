@@ -145,11 +145,13 @@ impl Crate {
         files.filter_map(move |(file, text)| Some((file.strip_prefix(part)?, text.as_str())))
     }
 
-    /// The files of laws that stand right in `proofs/`; the proof of a function has a folder.
+    /// The files of laws in `proofs/`: those that are not the proof of a function.
     fn laws(&self) -> impl Iterator<Item = (&str, &str)> {
-        let files = self.of("proofs/");
-        files.filter(|(file, _)| {
-            file.ends_with(".antt") && !file.contains('/') && *file != "Lib.antt"
+        let of_function = ["Answers", "Invariants", "Proof", "Lib"];
+        self.of("proofs/").filter(move |(file, _)| {
+            let name = file.rsplit('/').next().unwrap_or(file);
+            let name = name.strip_suffix(".antt");
+            name.is_some_and(|name| !of_function.contains(&name))
         })
     }
 

@@ -1,5 +1,4 @@
 -- what is proved of contexts of coefficients
 pub mod Contexts
-pub mod Situations
 pub mod Census
 pub mod TooLarge

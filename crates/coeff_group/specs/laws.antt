@@ -1,13 +1,10 @@
 -- what is proved of a pass group's reading
 pub mod GroupLaws
-pub mod Stored
 pub mod Steps
 pub mod Plans
 pub mod Rewritten
 pub mod Lent
 pub mod Channel
-pub mod Channels
-pub mod Step
 pub mod Due
 pub mod Used
 pub mod WorkLaws

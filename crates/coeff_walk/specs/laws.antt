@@ -2,11 +2,7 @@
 pub mod Outcome
 pub mod Runs
 pub mod Sparse
-pub mod PlaceLaws
-pub mod Counts
 pub mod Lent
 pub mod Items
 pub mod Kept
-pub mod Used
-pub mod Remaining
 pub mod Walks

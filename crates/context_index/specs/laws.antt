@@ -1,4 +1,2 @@
 -- what is proved from the definitions
 pub mod Contexts
-pub mod Bounds
-pub mod Laws

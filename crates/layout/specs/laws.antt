@@ -1,24 +1,7 @@
 -- what is proved from the definitions
-pub mod Kinds
-pub mod RowByRow
 pub mod Stretch
 pub mod Grid
 pub mod Order
-pub mod Fill
 pub mod CheckLaws
-pub mod CheckValid
-pub mod ValidCheck
-pub mod Area
 pub mod Rest
-pub mod Same
-pub mod CutLaws
-pub mod Rows
-pub mod Groups
-pub mod Listed
-pub mod Theorems
-pub mod Areas
-pub mod RowByRowSteps
-pub mod Loops
 pub mod Corners
-pub mod Rectangles
-pub mod Empty

@@ -2,10 +2,8 @@
 pub mod Took
 pub mod Puts
 pub mod Stops
-pub mod Accepted
 pub mod Theorems
 pub mod Marked
-pub mod Refused
 pub mod Sigma
 pub mod Unread
 pub mod Columns

@@ -1,3 +1,2 @@
 -- what is proved from the definitions
-pub mod CountSteps
 pub mod Empty

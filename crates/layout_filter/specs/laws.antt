@@ -1,4 +1,3 @@
 -- what is proved from the definitions
 pub mod Strength
-pub mod Limits
 pub mod Finite

@@ -1,3 +1,2 @@
 -- likeness of accepted layouts
 pub mod Left
-pub mod laws

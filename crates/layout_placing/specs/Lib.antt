@@ -2,4 +2,3 @@
 pub mod Scan
 pub mod Reading
 pub mod Outcome
-pub mod laws

@@ -1,5 +1,3 @@
 -- what is proved from the definitions
-pub mod Like
 pub mod LikeSteps
-pub mod Theorems
 pub mod Examples

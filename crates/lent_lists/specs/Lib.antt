@@ -1,4 +1,3 @@
 -- lists as they are lent: the same, and finite
 pub mod Same
 pub mod Finite
-pub mod laws

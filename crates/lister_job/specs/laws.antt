@@ -1,4 +1,3 @@
 -- what is proved from the definitions
 pub mod JobSteps
 pub mod Needed
-pub mod Reading

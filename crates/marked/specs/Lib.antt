@@ -2,4 +2,3 @@
 pub mod Coefficients
 pub mod Lines
 pub mod Marked
-pub mod laws

@@ -1,6 +1,6 @@
 use Prim.Native.Nat.{◌^◌, ◌≤◌, ◌<◌, ◌-◌}
 use Rattle.coded_numbers.specs.Exponent.{exponent, exponent_from}
-use Rattle.coded_numbers.specs.laws.Exponent.{exponent_turn, exponent_small, exponent_stop, doubled, below_power}
+use Rattle.coded_numbers.proofs.laws.Exponent.{exponent_turn, exponent_small, exponent_stop, doubled, below_power}
 use native.Mathlib.Omega.{arith}
 use mathlib.Core.Path.{◌≡◌, refl, ◌∙◌, sym}
 use Rattle.coded_numbers.proofs.exponent.Goals as goal

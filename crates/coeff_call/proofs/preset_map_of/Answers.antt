@@ -1,6 +1,6 @@
 use native.Mathlib.Omega.{arith}
 use Prim.Native.Nat.{◌*◌}
-use Rattle.coeff_group.specs.laws.WorkLaws.{part_ends, part_cut}
+use Rattle.coeff_group.proofs.laws.WorkLaws.{part_ends, part_cut}
 use Rattle.coeff_call.proofs.preset_map_of.Goals as goal
 
 pub overflow_mul-a : goal.overflow_mul-a

@@ -2,7 +2,8 @@ use lib.ListN.{length}
 use Prim.Native.Nat.{◌*◌}
 use Rattle.coeff_group.specs.PassGroup.{pass_group}
 use Rattle.coeff_group.specs.Work.{clusters_of}
-use Rattle.coeff_group.specs.laws.WorkLaws.{WorkReady, part_long}
+use Rattle.coeff_group.specs.laws.WorkLaws.{WorkReady}
+use Rattle.coeff_group.proofs.laws.WorkLaws.{part_long}
 use Rattle.coeff_call.specs.Call.{Lent, lent, Passed, reading}
 use Rattle.coeff_call.specs.laws.CallSteps.{checks_refused, checks_passed, preset_refused, below, work_ready, call_done}
 use mathlib.Core.Path.{◌∙◌, ap}

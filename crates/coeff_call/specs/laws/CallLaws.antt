@@ -8,21 +8,21 @@ use Rattle.refusal.specs.Said.{said}
 use Rattle.refusal.specs.Answer.{refuses, passed}
 use Rattle.bits.specs.Bits.{Value, Ended}
 use Rattle.coeff_checks.specs.Checks.{blocks}
-use Rattle.coeff_checks.specs.laws.ChecksLaws as checks
+use Rattle.coeff_checks.proofs.laws.ChecksLaws as checks_laws
 use Rattle.coeff_group.specs.Group.{PerChannel}
 use Rattle.coeff_call.specs.Call.{Lent, all_lengths_fit, before_work, Passed, preset_bits, reading, outcome_of, refuse, call}
 
 module _ (L : Lent) where
   pub checks_pass : Passed L → before_work L ≡ passed
   checks_pass =
-      checks.checks_pass L.pass_group L.presets L.shift (length L.cluster_map) (length L.log) (length (get_or L.grids 0 [])) (length (get_or L.grids 1 [])) (length (get_or L.grids 2 []))
+      checks_laws.checks_pass L.pass_group L.presets L.shift (length L.cluster_map) (length L.log) (length (get_or L.grids 0 [])) (length (get_or L.grids 1 [])) (length (get_or L.grids 2 []))
 
   pub passed_by : before_work L ≡ passed → Passed L
   passed_by =
-      checks.passed_by L.pass_group L.presets L.shift (length L.cluster_map) (length L.log) (length (get_or L.grids 0 [])) (length (get_or L.grids 1 [])) (length (get_or L.grids 2 []))
+      checks_laws.passed_by L.pass_group L.presets L.shift (length L.cluster_map) (length L.log) (length (get_or L.grids 0 [])) (length (get_or L.grids 1 [])) (length (get_or L.grids 2 []))
 
-  pub lengths_fit_lem : all_lengths_fit L ≡ true → checks.Lengths L.pass_group L.presets (length L.cluster_map) (length L.log) (length (get_or L.grids 0 [])) (length (get_or L.grids 1 [])) (length (get_or L.grids 2 []))
-  lengths_fit_lem = checks.lengths_fit_lem L.pass_group L.presets (length L.cluster_map) (length L.log) (length (get_or L.grids 0 [])) (length (get_or L.grids 1 [])) (length (get_or L.grids 2 []))
+  pub lengths_fit_lem : all_lengths_fit L ≡ true → checks_laws.Lengths L.pass_group L.presets (length L.cluster_map) (length L.log) (length (get_or L.grids 0 [])) (length (get_or L.grids 1 [])) (length (get_or L.grids 2 []))
+  lengths_fit_lem = checks_laws.lengths_fit_lem L.pass_group L.presets (length L.cluster_map) (length L.log) (length (get_or L.grids 0 [])) (length (get_or L.grids 1 [])) (length (get_or L.grids 2 []))
 
   pub grids_fit : all_lengths_fit L ≡ true → (c : ℕ) → c < 3 → length (get_or L.grids c []) ≡ 64 * blocks L.pass_group
   grids_fit e zero h = (lengths_fit_lem e).grids.0

@@ -10,7 +10,7 @@ use Rattle.refusal.specs.laws.Answer.{checked}
 use Rattle.refusal.specs.declared.Checked.{Checked}
 use Rattle.refusal.specs.declared.Checked.TheVariants as check
 use Rattle.bits.specs.Bits.{Read, Value, Ended}
-use Rattle.layout.specs.laws.Theorems.{layout_iff}
+use Rattle.layout.proofs.laws.Theorems.{layout_iff}
 use Rattle.coeff_walk.specs.declared.WalkEnd.{WalkEnd}
 use Rattle.coeff_walk.specs.declared.WalkEnd.TheVariants as walk
 use Rattle.coeff_group.specs.Group.{PerChannel, Reading, going, refused}
@@ -23,7 +23,7 @@ use Rattle.coeff_preset.specs.declared.PresetAnswer.{PresetAnswer}
 use Rattle.coeff_preset.specs.declared.PresetAnswer.TheVariants as preset
 use Rattle.coeff_preset.specs.Preset.{preset_of}
 use Rattle.coeff_preset.specs.laws.PresetLaws as number
-use Rattle.coeff_checks.specs.laws.ChecksLaws.{sides_fit_lem, parameters_fit_lem, few_clusters}
+use Rattle.coeff_checks.proofs.laws.ChecksLaws.{sides_fit_lem, parameters_fit_lem, few_clusters}
 use Rattle.coeff_call.specs.Call.{Lent, before_work, Passed, reading, outcome_of, answered, leaves, refuse, preset_bits, call}
 use Rattle.coeff_call.specs.laws.CallLaws.{checks_pass, passed_by, lengths_fit_lem, call_refused}
 

@@ -4,7 +4,7 @@ use mathlib.Core.Path.{◌≡◌, ◌∙◌, sym}
 use Rattle.context_record.specs.Record.{fit}
 use Rattle.coeff_group.specs.PassGroup.{PassGroup, pass_group}
 use Rattle.coeff_checks.specs.Checks.{sides_fit, parameters_fit, all_lengths_fit, layout_fits}
-use Rattle.coeff_checks.specs.laws.ChecksLaws.{most_blocks, lengths_are, layout_is, checks_pass, checks_2, checks_11, checks_12, checks_1, checks_18, checks_13}
+use Rattle.coeff_checks.proofs.laws.ChecksLaws.{most_blocks, lengths_are, layout_is, checks_pass, checks_2, checks_11, checks_12, checks_1, checks_18, checks_13}
 use Rattle.coeff_checks.proofs.before_work.Goals.{After-layout_fits, After-other_lengths_fit, Else-not-in_limits, Else-not-is_fit, Else-not-layout_fits, Else-not-other_lengths_fit, Else-not-parameters_fit, Start}
 use Rattle.coeff_checks.proofs.before_work.Goals as goal
 

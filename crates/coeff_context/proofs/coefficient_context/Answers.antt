@@ -1,5 +1,5 @@
 use Rattle.coeff_context.specs.Census.{census_of}
-use Rattle.coeff_context.specs.laws.Situations.{speaks_in}
+use Rattle.coeff_context.proofs.laws.Situations.{speaks_in}
 use borrow.Author.Rules.{rules}
 use borrow.Author.Tests.{not-true, not-false}
 use mathlib.Core.Path.{◌∙◌, sym}

@@ -1,5 +1,5 @@
 use Rattle.coeff_context.specs.Context.{coeff_context, NUM_NONZERO, FREQ}
-use Rattle.coeff_context.specs.laws.Census.{quotients_small}
+use Rattle.coeff_context.proofs.laws.Census.{quotients_small}
 use borrow.Author.Rules.{rules}
 use native.Mathlib.Omega.{arith}
 use Rattle.coeff_context.proofs.context_of.Goals as goal

@@ -1,12 +1,9 @@
 -- A varblock as the code plans it.
-use Rattle.std.specs.Prelude.{◌≡◌, refl, Bool, true, false, not, ◌&&◌, ◌||◌, List, [], ◌∷◌, map, ℕ, ◌+◌, ◌*◌, ◌^◌, ◌-◌, ◌<◌, ◌≤◌, leb, length, get_or}
-use Rattle.std.proofs.Common.{ap, sym, ◌∙◌, arith}
-use Rattle.std.proofs.lemmas.Bool.{lt-leb}
-use Rattle.std.proofs.Math.ListN.{get_or-eq_default}
+use Rattle.std.specs.Prelude.{◌≡◌, Bool, true, List, [], ◌∷◌, map, ℕ, ◌*◌, ◌^◌, ◌-◌, ◌<◌, ◌≤◌, length, get_or}
 use Rattle.dct_select.specs.declared.TransformType.{TransformType}
-use Rattle.dct_select.specs.Transforms.{Row, row, TRANSFORMS, wide, high, order_of, turns}
+use Rattle.dct_select.specs.Transforms.{wide, order_of, turns}
 use Rattle.refusal.specs.Answer.{Answer, gives, refuses}
-use Rattle.dct_select.specs.LookUp.{number_of, look_up}
+use Rattle.dct_select.specs.LookUp.{number_of}
 use Rattle.layout.specs.Grid.{block_at}
 use Rattle.lent_check.specs.declared.GroupSides.{GroupSides}
 use Rattle.order_store.specs.Store.{PLACES, stretch}
@@ -16,8 +13,7 @@ use Rattle.coeff_walk.specs.Item.{Item}
 use Rattle.coeff_walk.specs.laws.Items.{item_at}
 use Rattle.coeff_walk.specs.declared.shape.Shape.{Shape}
 use Rattle.coeff_group.specs.declared.plan.Plan.{Plan}
-use Rattle.dct_select.specs.laws.Exponents.{exponent_of, exponent_none}
-use Rattle.dct_select.specs.laws.LookUp.{known_is, unknown_is}
+use Rattle.dct_select.specs.laws.Exponents.{exponent_of}
 
 abbrev pub shape_of : ℕ → ℕ → ℕ → Shape
 shape_of x y t = record { x = x; y = y; wide = wide t; exponent = exponent_of t; turn = turns t }
@@ -65,38 +61,6 @@ abbrev pub shape_by : ℕ → ℕ → ℕ → Answer TransformType → Shape
 shape_by x y exponent (gives t) = record { x = x; y = y; wide = wide (number_of t); exponent = exponent; turn = turns (number_of t) }
 shape_by x y exponent (refuses r) = record { x = x; y = y; wide = 0; exponent = 0; turn = true }
 
-wide_none : (t : ℕ) → 27 ≤ t → wide t ≡ 0
-unfolding wide TRANSFORMS
-wide_none t h = ap (λ (r : Row). r.wide) (get_or-eq_default TRANSFORMS (row 0 0 0) {n = t} h)
-
-high_none : (t : ℕ) → 27 ≤ t → high t ≡ 0
-unfolding high TRANSFORMS
-high_none t h = ap (λ (r : Row). r.high) (get_or-eq_default TRANSFORMS (row 0 0 0) {n = t} h)
-
-order_none : (t : ℕ) → 27 ≤ t → order_of t ≡ 0
-unfolding order_of TRANSFORMS
-order_none t h = ap (λ (r : Row). r.order) (get_or-eq_default TRANSFORMS (row 0 0 0) {n = t} h)
-
-turns_none : (t : ℕ) → 27 ≤ t → turns t ≡ true
-unfolding turns
-turns_none t h = rw (lt-leb t 3 (omega arith), lt-leb t 17 (omega arith), wide_none t h, high_none t h) (sides (leb 1 t) (leb 12 t))
-  where
-    sides : (a b : Bool) → not (a && false || b && false) && true ≡ true
-    sides true true = refl
-    sides true false = refl
-    sides false true = refl
-    sides false false = refl
-
-pub shape_at : (x y t : ℕ) (l : Answer TransformType) → look_up t ≡ l → shape_by x y (exponent_of t) l ≡ shape_of x y t
-shape_at x y t (gives u) e = rw (known_is t u e).1
-shape_at x y t (refuses r) e =
-    let h = unknown_is t r e in
-    rw (wide_none t h, exponent_none t h, turns_none t h)
-
 abbrev pub order_by : Answer TransformType → ℕ
 order_by (gives t) = order_of (number_of t)
 order_by (refuses r) = 0
-
-pub order_by_lem : (t : ℕ) (l : Answer TransformType) → look_up t ≡ l → order_by l ≡ order_of t
-order_by_lem t (gives u) e = ap order_of (known_is t u e).1
-order_by_lem t (refuses r) e = sym (order_none t (unknown_is t r e))

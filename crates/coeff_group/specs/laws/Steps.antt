@@ -1,11 +1,10 @@
 -- The reading as the code holds it: rows of 32 counts, a symbol's position, how it ended.
-use Rattle.std.specs.Prelude.{◌≡◌, List, [], ◌∷◌, ℕ, ◌≤◌, get_or, set, drop}
-use Rattle.std.proofs.Common.{ap}
+use Rattle.std.specs.Prelude.{◌≡◌, List, [], ℕ, ◌≤◌, get_or, set, drop}
 use Rattle.refusal.specs.declared.Refusal.{Refusal}
 use Rattle.coeff_walk.specs.declared.WalkEnd.{WalkEnd}
 use Rattle.coeff_walk.specs.declared.WalkEnd.TheVariants.{Done, Stopped}
 use Rattle.coeff_walk.specs.Walk.{Walked}
-use Rattle.coeff_walk.specs.laws.Outcome.{answer_of, log_of, grid_after, WalkShown}
+use Rattle.coeff_walk.specs.laws.Outcome.{answer_of, log_of, grid_after}
 use Rattle.laws.specs.Lists.{fill_from}
 use Rattle.coeff_group.specs.Group.{PerChannel, Reading, going, refused}
 
@@ -41,14 +40,3 @@ ShownBy symbols most w rows log G (refused why at log' G') = Ends w log G why at
 -- what the code holds of a reading
 pub record Shown (symbols : List ℕ) (most : ℕ) (w : WalkEnd) (rows : PerChannel) (log : List ℕ) (G : PerChannel) (R : Reading) : Type 0 where
   pub it : ShownBy symbols most w rows log G R
-
--- the grid by the channel
-module _ (c : ℕ) (r : WalkEnd) (log : List ℕ) (walked : List ℕ → Walked) (g0 g1 g2 g' : List ℕ) where
-  pub in_first : c ≡ 0 → WalkShown r log g' (walked g0) → InGrid c (g0 ∷ g1 ∷ g2 ∷ []) r log (g' ∷ g1 ∷ g2 ∷ []) walked
-  in_first e h = rw e (record { answer = h.answer; logged = h.logged; cells = ap (λ (g : List ℕ). g ∷ g1 ∷ g2 ∷ []) h.cells })
-
-  pub in_second : c ≡ 1 → WalkShown r log g' (walked g1) → InGrid c (g0 ∷ g1 ∷ g2 ∷ []) r log (g0 ∷ g' ∷ g2 ∷ []) walked
-  in_second e h = rw e (record { answer = h.answer; logged = h.logged; cells = ap (λ (g : List ℕ). g0 ∷ g ∷ g2 ∷ []) h.cells })
-
-  pub in_third : c ≡ 2 → WalkShown r log g' (walked g2) → InGrid c (g0 ∷ g1 ∷ g2 ∷ []) r log (g0 ∷ g1 ∷ g' ∷ []) walked
-  in_third e h = rw e (record { answer = h.answer; logged = h.logged; cells = ap (λ (g : List ℕ). g0 ∷ g1 ∷ g ∷ []) h.cells })

@@ -1,7 +1,8 @@
 use Rattle.std.proofs.Common.{◌≡◌, true, sym, ◌∙◌, arith, rules, le-leb}
 use borrow.Author.Tests.{not-true, not-false, lt-leb}
-use Rattle.coeff_walk.specs.laws.Counts.{shifted_left}
-use Rattle.coeff_walk.specs.laws.Lent.{lent_fits, spot_small, small_limits}
+use Rattle.coeff_walk.proofs.laws.Counts.{shifted_left}
+use Rattle.coeff_walk.specs.laws.Lent.{lent_fits, spot_small}
+use Rattle.coeff_walk.proofs.laws.Lent.{small_limits}
 use Rattle.coeff_places.proofs.lent_fits.Goals.{Else-not-spot_small}
 use Rattle.coeff_places.proofs.lent_fits.Goals as goal
 

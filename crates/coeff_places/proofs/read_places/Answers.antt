@@ -1,9 +1,10 @@
 use Rattle.std.proofs.Common.{◌≡◌, ◌*◌, ◌^◌, ◌≤◌, true, length, sym, refl, ◌∙◌, arith, rules, le-leb}
 use borrow.Author.Tests.{not-true, not-false, lt-leb}
 use Rattle.coeff_context.specs.Context.{FREQ, NUM_NONZERO}
-use Rattle.coeff_walk.specs.laws.Counts.{shifted_left}
-use Rattle.coeff_walk.specs.laws.Lent.{lent_fits, fits_ready}
-use Rattle.coeff_walk.specs.laws.Used.{not_done}
+use Rattle.coeff_walk.proofs.laws.Counts.{shifted_left}
+use Rattle.coeff_walk.specs.laws.Lent.{lent_fits}
+use Rattle.coeff_walk.proofs.laws.Lent.{fits_ready}
+use Rattle.coeff_walk.proofs.laws.Used.{not_done}
 use Rattle.coeff_places.proofs.read_places.Goals.{Else-not-lent_fits, Else-spot-count}
 use Rattle.coeff_places.proofs.read_places.Goals as goal
 

@@ -11,7 +11,7 @@ use Rattle.bits.specs.Bits.{Value, read_bits}
 use Rattle.bits.specs.Reads.{got_of, place_at, bits_before}
 use Rattle.bits.specs.laws.Laws.{was_value, was_end, value_at, ended_at}
 use Rattle.coded_numbers.specs.Exponent.{exponent}
-use Rattle.coded_numbers.specs.laws.Exponent.{exponent_least}
+use Rattle.coded_numbers.proofs.laws.Exponent.{exponent_least}
 use Rattle.coeff_preset.specs.declared.PresetAnswer.{PresetAnswer}
 use Rattle.coeff_preset.specs.declared.PresetAnswer.TheVariants as preset
 use Rattle.coeff_preset.specs.Preset.{preset_of}

@@ -1,7 +1,7 @@
 use mathlib.Core.Path.{◌≡◌}
 use Prim.Native.Nat.{◌+◌, ◌*◌, ◌-◌}
 use native.Mathlib.Omega.{arith}
-use Rattle.coeff_group.specs.laws.Stored.{of_three}
+use Rattle.coeff_group.proofs.laws.Stored.{of_three}
 use Rattle.coeff_varblock.proofs.list_of.Goals as goal
 
 pub returns : goal.returns

@@ -5,8 +5,8 @@ use native.Mathlib.Omega.{arith}
 use lib.ListN.{length, get_or}
 use Rattle.coeff_walk.specs.Item.{count_over}
 use Rattle.order_store.specs.Store.{stretch}
-use Rattle.coeff_group.specs.laws.Stored.{lists_end, list_is}
-use Rattle.coeff_group.specs.laws.Channel.{channel_asks, channel_count, channel_stops, channel_goes}
+use Rattle.coeff_group.proofs.laws.Stored.{lists_end, list_is}
+use Rattle.coeff_group.proofs.laws.Channel.{channel_asks, channel_count, channel_stops, channel_goes}
 use Rattle.coeff_varblock.proofs.read_channel.Goals.{After-list_of, Else-is_stopped}
 use Rattle.coeff_varblock.proofs.read_channel.Goals as goal
 

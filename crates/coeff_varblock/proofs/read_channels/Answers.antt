@@ -10,10 +10,11 @@ use Rattle.coeff_walk.specs.laws.Outcome.{AllUseUp}
 use Rattle.coeff_walk.specs.declared.WalkEnd.TheVariants.{Done}
 use Rattle.coeff_group.specs.Group.{PerChannel, Reading, going, read_items}
 use Rattle.coeff_group.specs.laws.Steps.{Shown}
-use Rattle.coeff_group.specs.laws.Used.{reading_uses, shown_walk}
-use Rattle.coeff_group.specs.laws.Rewritten.{three, rewritten, counts_none, counts_read}
+use Rattle.coeff_group.proofs.laws.Used.{reading_uses, shown_walk}
+use Rattle.coeff_group.specs.laws.Rewritten.{three, rewritten}
+use Rattle.coeff_group.proofs.laws.Rewritten.{counts_none, counts_read}
 use Rattle.coeff_group.specs.laws.Plans.{items_by}
-use Rattle.coeff_group.specs.laws.Channels.{channels_start, channels_end, channels_room, channels_stop, channels_go}
+use Rattle.coeff_group.proofs.laws.Channels.{channels_start, channels_end, channels_room, channels_stop, channels_go}
 use Rattle.coeff_varblock.proofs.read_channels.Goals.{Start}
 use Rattle.coeff_varblock.proofs.read_channels.Goals as goal
 

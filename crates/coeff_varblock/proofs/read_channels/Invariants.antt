@@ -5,7 +5,7 @@ use lib.ListN.{length, drop}
 use Rattle.coeff_group.specs.Group.{going, read_items}
 use Rattle.coeff_group.specs.laws.Rewritten.{three, rewritten}
 use Rattle.coeff_group.specs.laws.Plans.{items_by}
-use Rattle.coeff_group.specs.laws.Channels.{ChannelsDue}
+use Rattle.coeff_group.proofs.laws.Channels.{ChannelsDue}
 use Rattle.coeff_varblock.proofs.read_channels.Given as goal
 
 abbrev pub invariant-loop-n : goal.invariant-loop-n

@@ -4,7 +4,8 @@ use lib.ListN.{length}
 use Rattle.coeff_group.specs.laws.Plans.{items_by}
 use Rattle.coeff_group.specs.laws.Rewritten.{VarblockShown}
 use Rattle.order_store.specs.LookedUp.{stretch_at}
-use Rattle.coeff_group.specs.laws.Lent.{varblock_fits, fits_planned, varblock_refused, varblock_reads}
+use Rattle.coeff_group.specs.laws.Lent.{varblock_fits}
+use Rattle.coeff_group.proofs.laws.Lent.{fits_planned, varblock_refused, varblock_reads}
 use Rattle.coeff_varblock.proofs.read_planned.Goals.{After-varblock_fits}
 use Rattle.coeff_varblock.proofs.read_planned.Goals as goal
 

@@ -2,8 +2,9 @@ use mathlib.Core.Bool.{true}
 use mathlib.Core.Path.{◌≡◌, ◌∙◌, sym}
 use borrow.Author.Tests.{le-leb, lt-leb}
 use native.Mathlib.Omega.{arith}
-use Rattle.coeff_walk.specs.laws.Counts.{shifted_left}
-use Rattle.coeff_group.specs.laws.Lent.{varblock_fits, varblock_small, VarblockLimits, small_limits}
+use Rattle.coeff_walk.proofs.laws.Counts.{shifted_left}
+use Rattle.coeff_group.specs.laws.Lent.{varblock_fits, varblock_small, VarblockLimits}
+use Rattle.coeff_group.proofs.laws.Lent.{small_limits}
 use Rattle.coeff_varblock.proofs.varblock_fits.Goals.{Else-not-varblock_small}
 use Rattle.coeff_varblock.proofs.varblock_fits.Goals as goal
 

@@ -1,6 +1,6 @@
 use lib.ListN.{get_or-eq_default}
 use Rattle.context_index.specs.Contexts.{entry_of}
-use Rattle.context_index.specs.laws.Laws.{entry_le, entry_ge}
+use Rattle.context_index.proofs.laws.Laws.{entry_le, entry_ge}
 use Rattle.std.proofs.Common.{◌+◌, ◌*◌, ◌≤◌, sym, arith, rules}
 use Rattle.context_index.proofs.block_context_at.Goals.{Else-block_ctx_map-order}
 use Rattle.context_index.proofs.block_context_at.Goals as goal

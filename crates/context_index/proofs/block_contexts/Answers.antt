@@ -1,6 +1,6 @@
 use Rattle.std.proofs.Common.{◌+◌, get_or, sym, ◌∙◌, arith, length-take, rules}
 use Rattle.context_index.specs.Lists.{contexts_by}
-use Rattle.context_index.specs.laws.Laws.{lf_size_is, contexts_are}
+use Rattle.context_index.proofs.laws.Laws.{lf_size_is, contexts_are}
 use Rattle.context_index.proofs.block_contexts.Goals as goal
 
 pub returns : goal.returns

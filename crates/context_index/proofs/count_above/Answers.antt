@@ -1,5 +1,5 @@
 use Rattle.context_index.specs.Contexts.{above, greater}
-use Rattle.context_index.specs.laws.Laws.{above_step, above_end, one_at_most, take_min}
+use Rattle.context_index.proofs.laws.Laws.{above_step, above_end, one_at_most, take_min}
 use Rattle.std.proofs.Common.{◌≡◌, ℕ, ◌+◌, ◌-◌, ◌≤◌, List, get_or, take, drop, ap, ◌∙◌, arith, rules}
 use Rattle.context_index.proofs.count_above.Goals as goal
 

@@ -1,4 +1,4 @@
-use Rattle.layout_call.specs.laws.CallSteps.{call_size, call_modes, call_reads}
+use Rattle.layout_call.proofs.laws.CallSteps.{call_size, call_modes, call_reads}
 use Rattle.layout_call.specs.Call.{inputs}
 use borrow.Author.Tests.{not-true, not-false}
 use mathlib.Core.Path.{◌∙◌, sym}

@@ -3,7 +3,7 @@ use Rattle.refusal.specs.Answer.{gives}
 use Rattle.dct_select.specs.LookUp.{answered, look_up}
 use Rattle.dct_select.specs.laws.LookUp.{known_is, unknown_is, Sized, sized}
 use Rattle.layout_column.specs.Columns.{hf_mul_of}
-use Rattle.layout_column.specs.laws.Judged.{judged_unknown, judged_zero, judged_negative, judged_wide, judged_high, judged_asks}
+use Rattle.layout_column.proofs.laws.Judged.{judged_unknown, judged_zero, judged_negative, judged_wide, judged_high, judged_asks}
 use Rattle.layout_column.proofs.judge.Goals.{After-dct_select_size-sides, In-Known}
 use Rattle.layout_column.proofs.judge.Goals as goal
 

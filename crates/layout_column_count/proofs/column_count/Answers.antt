@@ -1,4 +1,4 @@
-use Rattle.layout_column_count.specs.laws.CountSteps.{count_small, count_size, count_modes, most_blocks, count_value, count_end}
+use Rattle.layout_column_count.proofs.laws.CountSteps.{count_small, count_size, count_modes, most_blocks, count_value, count_end}
 use Rattle.layout_sizes.specs.declared.Blocks.{Blocks}
 use Rattle.coded_numbers.specs.Exponent.{exponent}
 use borrow.Author.Tests.{not-true, not-false}

@@ -1,5 +1,5 @@
 use Rattle.layout_filter.specs.Limits.{in_limits}
-use Rattle.layout_filter.specs.laws.Limits.{limit_bits, minus_limit_bits}
+use Rattle.layout_filter.proofs.laws.Limits.{limit_bits, minus_limit_bits}
 use Rattle.layout_filter.proofs.in_limits.Goals as goal
 
 pub returns-then-x : goal.returns-then-x

@@ -1,5 +1,5 @@
 use borrow.Author.Tests.{not-true, not-false}
-use Rattle.layout_filter.specs.laws.Limits.{fits_from, fits_start, fits_next, fits_stop, fits_end}
+use Rattle.layout_filter.proofs.laws.Limits.{fits_from, fits_start, fits_next, fits_stop, fits_end}
 use Rattle.layout_filter.specs.Limits.{lookups_fit}
 use Rattle.std.proofs.Common.{◌≡◌, ◌-◌, ◌≤◌, sym, ◌∙◌, arith, rules}
 use Rattle.layout_filter.proofs.lookups_fit.Goals as goal

@@ -1,6 +1,6 @@
 -- What a job still needs fits behind what there is of it.
 use Rattle.std.proofs.Common.{arith, length-take, take}
-use Rattle.lister_job.specs.laws.Needed.{needed_fits}
+use Rattle.lister_job.proofs.laws.Needed.{needed_fits}
 use Rattle.layout_lister.proofs.read_job.Goals as goal
 
 pub overflow_add-end : goal.overflow_add-end

@@ -7,7 +7,7 @@ use Rattle.std.proofs.lemmas.List.{set_comm}
 use Rattle.layout.specs.Kinds.{wide_of, high_of}
 use Rattle.layout.specs.RowByRow.{along_row}
 use Rattle.laws.specs.Lists.{fill_from}
-use Rattle.layout.specs.laws.Grid.{fill_left}
+use Rattle.layout.proofs.laws.Grid.{fill_left}
 use Rattle.layout.specs.Valid.{Cells}
 use Rattle.layout.specs.Check.{Covering, Fault, Until, clear, fitting}
 use Rattle.lent_cells.specs.laws.Cells.{flag_of, larger_of, one_block}

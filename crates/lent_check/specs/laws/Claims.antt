@@ -8,7 +8,7 @@ use Rattle.std.proofs.lemmas.Bool.{lt-leb}
 use Rattle.laws.specs.laws.Cases.{le_or_lt}
 use Rattle.laws.specs.Lists.{fill_from}
 use Rattle.layout.specs.Check.{Covering, Fault, Until, clear}
-use Rattle.layout.specs.laws.RowByRowSteps.{clear_step, clear_end, fill_step, fill_end}
+use Rattle.layout.proofs.laws.RowByRowSteps.{clear_step, clear_end, fill_step, fill_end}
 use Rattle.lent_check.specs.laws.Apart.{clear_set}
 
 -- the last test of where a corner may stand, hf_mul being seen to

@@ -9,7 +9,7 @@ use Rattle.std.proofs.Math.ListN.{set}
 use Rattle.layout.specs.RowByRow.{along_row}
 use Rattle.layout.specs.Valid.{Cells}
 use Rattle.layout.specs.Check.{Covering, Fault, Until}
-use Rattle.layout.specs.laws.RowByRowSteps.{cells_step, cells_end}
+use Rattle.layout.proofs.laws.RowByRowSteps.{cells_step, cells_end}
 use Rattle.lent_cells.specs.laws.Cells.{flag_of, one_block, gap_of}
 use Rattle.lent_check.specs.laws.Steps.{close_cell, close}
 use Rattle.lent_check.specs.laws.Rows.{close_fault}

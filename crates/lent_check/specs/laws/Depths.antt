@@ -10,10 +10,10 @@ use Rattle.layout.specs.Kinds.{wide_of, high_of}
 use Rattle.layout.specs.RowByRow.{along_row, rows}
 use Rattle.laws.specs.Lists.{fill_from}
 use Rattle.layout.specs.Grid.{block_at}
-use Rattle.layout.specs.laws.Grid.{length_fill, fill_left, fill_in, fill_right}
+use Rattle.layout.proofs.laws.Grid.{length_fill, fill_left, fill_in, fill_right}
 use Rattle.layout.specs.Valid.{Cells}
 use Rattle.layout.specs.Check.{Covering, Fault, Until, passes, clear, fitting, visit_cell, visit, check_run, is_layout}
-use Rattle.layout.specs.laws.CheckLaws.{fitting_fits, visit_not_one, visit_one, visit_small, visit_unfit, visit_unclear, visit_raised}
+use Rattle.layout.proofs.laws.CheckLaws.{fitting_fits, visit_not_one, visit_one, visit_small, visit_unfit, visit_unclear, visit_raised}
 use Rattle.lent_check.specs.laws.Sorts.{wide_some}
 
 -- the check at a cell, over depths (a covering's list holds these here); the x's depth counts from the next row on then

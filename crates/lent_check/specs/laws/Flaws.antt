@@ -10,10 +10,10 @@ use Rattle.std.proofs.lemmas.Bool.{eqb-false}
 use Rattle.laws.specs.laws.Cases.{eq_or_ne, le_or_lt, and-true}
 use Rattle.bytes_below.specs.Below.{bytes_below}
 use Rattle.layout.specs.Grid.{block_at}
-use Rattle.layout.specs.laws.Grid.{place_lt, cell_at}
+use Rattle.layout.proofs.laws.Grid.{place_lt, cell_at}
 use Rattle.layout.specs.Valid.{Layout}
 use Rattle.layout.specs.Check.{is_layout}
-use Rattle.layout.specs.laws.Theorems.{layout_iff}
+use Rattle.layout.proofs.laws.Theorems.{layout_iff}
 use Rattle.lent_cells.specs.laws.Cells.{flag_of, flaw_of}
 
 -- over the first n cells

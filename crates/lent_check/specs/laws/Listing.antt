@@ -14,7 +14,7 @@ use Rattle.laws.specs.laws.Cases.{eq_or_ne}
 use Rattle.layout.specs.RowByRow.{along_row}
 use Rattle.layout.specs.Valid.{Cells}
 use Rattle.layout.specs.Check.{Covering, Fault, Until}
-use Rattle.layout.specs.laws.RowByRowSteps.{left_suc}
+use Rattle.layout.proofs.laws.RowByRowSteps.{left_suc}
 use Rattle.lent_check.specs.laws.Sorts.{larger_flag}
 use Rattle.lent_cells.specs.laws.Cells.{larger_of}
 use Rattle.lent_check.specs.laws.Steps.{place_cell, place, place_plain}

@@ -9,10 +9,10 @@ use Rattle.layout.specs.Kinds.{wide_of, high_of}
 use Rattle.layout.specs.RowByRow.{along_row, rows}
 use Rattle.laws.specs.Lists.{fill_from}
 use Rattle.layout.specs.Grid.{block_at}
-use Rattle.layout.specs.laws.Grid.{length_fill}
+use Rattle.layout.proofs.laws.Grid.{length_fill}
 use Rattle.layout.specs.Valid.{Cells}
 use Rattle.layout.specs.Check.{Covering, Fault, Until, passes, clear, fitting, is_layout}
-use Rattle.layout.specs.laws.RowByRowSteps.{cells_stuck, rows_step, rows_end, rows_stuck}
+use Rattle.layout.proofs.laws.RowByRowSteps.{cells_stuck, rows_step, rows_end, rows_stuck}
 use Rattle.lent_check.specs.laws.Flaws.{Sound}
 use Rattle.lent_cells.specs.laws.Cells.{flag_of, larger_of, one_block}
 use Rattle.lent_check.specs.laws.Depths.{visit_depths, depths_check}

@@ -9,10 +9,10 @@ use borrow.Author.Tests.{lt-ltb, le-ltb, le-leb, lt-leb, eq-eqb, ne_eqb}
 use Rattle.laws.specs.laws.Cases.{eq_or_ne, le_or_lt}
 use Rattle.layout.specs.Kinds.{wide_of, high_of}
 use Rattle.laws.specs.Lists.{fill_from}
-use Rattle.layout.specs.laws.Grid.{fill_in}
+use Rattle.layout.proofs.laws.Grid.{fill_in}
 use Rattle.layout.specs.Valid.{Cells}
 use Rattle.layout.specs.Check.{Covering, Fault, Until, clear, fitting}
-use Rattle.layout.specs.laws.CheckLaws.{each_clear, fits_fitting}
+use Rattle.layout.proofs.laws.CheckLaws.{each_clear, fits_fitting}
 use Rattle.lent_check.specs.laws.Flaws.{Sound}
 use Rattle.lent_cells.specs.laws.Cells.{flag_of, larger_of, within_of, one_block}
 use Rattle.lent_check.specs.laws.Sorts.{Single, Larger, sort}

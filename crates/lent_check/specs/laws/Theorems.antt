@@ -2,7 +2,7 @@
 use Rattle.std.specs.Prelude.{◌≡◌, List, ℕ, length}
 use Rattle.layout.specs.Valid.{Layout}
 use Rattle.layout.specs.Check.{is_layout}
-use Rattle.layout.specs.laws.Theorems.{layout_iff}
+use Rattle.layout.proofs.laws.Theorems.{layout_iff}
 use Rattle.refusal.specs.Answer.{gives}
 use Rattle.lent_check.specs.Calls.{check_of}
 use Rattle.lent_sides.specs.Limits.{in_limits, lengths_fit, Sided}

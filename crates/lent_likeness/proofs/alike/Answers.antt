@@ -4,7 +4,7 @@ use borrow.Author.Tests.{not-true, not-false}
 use Rattle.refusal.specs.Answer.{gives}
 use Rattle.lent_likeness.specs.Like.{FilteredLayout, filtered}
 use Rattle.lent_likeness.specs.Calls.{sided, strengths_finite, all_lengths_fit, holds_layout, alike, like_of}
-use Rattle.lent_likeness.specs.laws.LikeSteps.{like_size, like_float, like_length, like_fault, like_says, both_lent, unlike_sides, alike_lists}
+use Rattle.lent_likeness.proofs.laws.LikeSteps.{like_size, like_float, like_length, like_fault, like_says, both_lent, unlike_sides, alike_lists}
 use borrow.Author.Rules.{rules}
 use Rattle.lent_likeness.proofs.alike.Goals.{After-both_layouts, After-both_sided, After-same_lists, Else-not-both_finite, Else-not-both_layouts, Else-not-both_lengths_fit, Else-not-both_sided}
 use Rattle.lent_likeness.proofs.alike.Goals as goal

@@ -1,4 +1,4 @@
-use Rattle.lent_likeness.specs.laws.LikeSteps.{sigma_length, both_first}
+use Rattle.lent_likeness.proofs.laws.LikeSteps.{sigma_length, both_first}
 use mathlib.Core.Path.{◌∙◌, sym}
 use borrow.Author.Rules.{rules}
 use Rattle.lent_likeness.proofs.all_lengths_fit.Goals as goal

@@ -1,4 +1,4 @@
-use Rattle.lent_likeness.specs.laws.LikeSteps.{both_second, both_first}
+use Rattle.lent_likeness.proofs.laws.LikeSteps.{both_second, both_first}
 use borrow.Author.Rules.{rules}
 use Rattle.lent_likeness.proofs.both_layouts.Goals as goal
 

@@ -1,5 +1,5 @@
 use borrow.Author.Tests.{not-true, not-false}
-use Rattle.lent_likeness.specs.laws.LikeSteps.{both_first, both_second}
+use Rattle.lent_likeness.proofs.laws.LikeSteps.{both_first, both_second}
 use borrow.Author.Rules.{rules}
 use Rattle.lent_likeness.proofs.same_lists.Goals as goal
 

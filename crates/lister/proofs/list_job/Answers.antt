@@ -1,5 +1,5 @@
 use Rattle.lister.specs.laws.ListSteps.{bad_cut, bad_end, good, job_text, read_first}
-use Rattle.lister_job.specs.laws.JobSteps.{columns_most}
+use Rattle.lister_job.proofs.laws.JobSteps.{columns_most}
 use Rattle.lister_job.specs.Job.{type_at, mul_at}
 use Rattle.laws.specs.Lists.{tabulate}
 use Rattle.laws.specs.laws.Lists.{length_tabulate}

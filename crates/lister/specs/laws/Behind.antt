@@ -5,8 +5,8 @@ use Rattle.std.proofs.Math.Seq.{take-nil, drop-nil}
 use Rattle.laws.specs.laws.Cases.{eq_or_ne}
 use Rattle.laws.specs.laws.Lists.{no_elements}
 use Rattle.lister_job.specs.Job.{has_size, is_job, needed, read_by, read, Same}
-use Rattle.lister_job.specs.laws.Needed.{needed_none, needed_job, needed_fits}
-use Rattle.lister_job.specs.laws.Reading.{read_stops, read_goes, seam}
+use Rattle.lister_job.proofs.laws.Needed.{needed_none, needed_job, needed_fits}
+use Rattle.lister_job.proofs.laws.Reading.{read_stops, read_goes, seam}
 use Rattle.lister.specs.Listing.{text_of}
 
 same_text : (s s' : List ℕ) → Same s s' → text_of s' ≡ text_of s

@@ -6,7 +6,7 @@ use Rattle.std.proofs.lemmas.Bool.{lt-leb}
 use Rattle.laws.specs.laws.Cases.{le_or_lt}
 use Rattle.layout.specs.Grid.{block_at}
 use Rattle.layout.specs.Varblocks.{varblocks_of}
-use Rattle.layout.specs.laws.Rest.{rest, rest_corner, rest_plain, rest_rows, rest_turn, rest_end}
+use Rattle.layout.proofs.laws.Rest.{rest, rest_corner, rest_plain, rest_rows, rest_turn, rest_end}
 use Rattle.text.specs.Text.{Puts}
 use Rattle.text.specs.laws.Text.{puts_then, puts_none}
 use Rattle.lister.specs.Texts.{lines_of}

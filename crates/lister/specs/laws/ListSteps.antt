@@ -12,7 +12,7 @@ use Rattle.layout.specs.Varblocks.{varblocks_of, area}
 use Rattle.layout_sizes.specs.Blocks.{bw_in, bh_in}
 use Rattle.layout_call.specs.declared.LayoutAnswer.TheVariants.{Accepted, Refused}
 use Rattle.layout_call.specs.Call.{Outcome, leaves, inputs, layout_of}
-use Rattle.layout_accepted.specs.laws.Theorems.{accepted_layout, accepted_area}
+use Rattle.layout_accepted.proofs.laws.Theorems.{accepted_layout, accepted_area}
 use Rattle.layout_filter.specs.declared.Filter.TheVariants.{Off}
 use Rattle.layout_filter.specs.Strength.{zero32}
 use Rattle.lister_job.specs.laws.JobSteps.{prefixed}

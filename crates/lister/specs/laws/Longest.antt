@@ -14,7 +14,7 @@ use Rattle.layout.specs.Grid.{block_at}
 use Rattle.layout.specs.Valid.{Layout}
 use Rattle.layout.specs.Varblocks.{Varblock, varblocks_of, area, corners_row, corners_from}
 use Rattle.refusal.specs.Answer.{Answer, gives, refuses}
-use Rattle.layout_accepted.specs.laws.Theorems.{accepted_layout}
+use Rattle.layout_accepted.proofs.laws.Theorems.{accepted_layout}
 use Rattle.text.specs.laws.Decimal.{ten}
 use Rattle.text.specs.Text.{digits_of, decimal, Puts}
 use Rattle.lister_job.specs.Job.{width, height, types, muls, has_size, has_end}

@@ -1,4 +1,4 @@
-use Rattle.lister_job.specs.laws.Needed.{unsized_short, unsized_first, unsized_wide, sized_high}
+use Rattle.lister_job.proofs.laws.Needed.{unsized_short, unsized_first, unsized_wide, sized_high}
 use native.Mathlib.Omega.{arith}
 use mathlib.Core.Path.{◌∙◌, ap}
 use Prim.Native.Nat.{ℕ}

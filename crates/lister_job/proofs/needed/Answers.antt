@@ -1,4 +1,4 @@
-use Rattle.lister_job.specs.laws.Needed.{needed_size, needed_column, needed_unsized}
+use Rattle.lister_job.proofs.laws.Needed.{needed_size, needed_column, needed_unsized}
 use mathlib.Core.Path.{◌∙◌, sym}
 use Rattle.lister_job.proofs.needed.Goals as goal
 

@@ -1,4 +1,4 @@
-use Rattle.lister_job.specs.laws.JobSteps.{no_byte, one_byte}
+use Rattle.lister_job.proofs.laws.JobSteps.{no_byte, one_byte}
 use mathlib.Core.Path.{◌∙◌}
 use Rattle.lister_job.proofs.number16.Goals as goal
 

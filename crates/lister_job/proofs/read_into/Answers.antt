@@ -1,5 +1,5 @@
 use mathlib.Core.List.{List}
-use Rattle.lister_job.specs.laws.JobSteps.{prefixed_more, count_next, count_cut, count_other, count_full}
+use Rattle.lister_job.proofs.laws.JobSteps.{prefixed_more, count_next, count_cut, count_other, count_full}
 use Rattle.lister_job.specs.Job.{type_at, mul_at}
 use mathlib.Core.Path.{refl}
 use native.Mathlib.Omega.{arith}

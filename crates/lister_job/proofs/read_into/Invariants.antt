@@ -1,4 +1,4 @@
-use Rattle.lister_job.specs.laws.JobSteps.{count_left}
+use Rattle.lister_job.proofs.laws.JobSteps.{count_left}
 use Rattle.lister_job.specs.Job.{columns, type_at, mul_at}
 use Rattle.lister_job.specs.laws.JobSteps.{prefixed}
 use mathlib.Core.Path.{◌≡◌}

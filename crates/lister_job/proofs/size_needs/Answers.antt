@@ -1,4 +1,4 @@
-use Rattle.lister_job.specs.laws.Needed.{size_first, size_other, size_rest}
+use Rattle.lister_job.proofs.laws.Needed.{size_first, size_other, size_rest}
 use Rattle.lister_job.proofs.size_needs.Goals as goal
 
 pub returns-then-job-ne16 : goal.returns-then-job-ne16

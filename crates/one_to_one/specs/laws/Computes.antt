@@ -1,8 +1,5 @@
 -- What examples open to be computed: a proof that says `unfolding items_compute` opens all that its line names.
-use Rattle.std.specs.Prelude.{Bool, true, List, [], ◌∷◌, ℕ, zero, suc, ◌^◌, ◌<◌, T, ltb, get_or}
-use Rattle.std.proofs.Common.{arith, ltb→lt}
-use Rattle.std.specs.Float.Ieee.Fits.{and_l, and_r}
-use Rattle.laws.specs.Tables.{every}
+use Rattle.std.specs.Prelude.{Bool, true}
 use Rattle.bits.specs.Bits.{read_bits, read_u32, bits_of, value_of}
 use Rattle.coded_numbers.specs.Exponent.{exponent_from}
 use Rattle.coded_numbers.specs.Signed.{unpack_signed, pack, symbol}
@@ -24,10 +21,10 @@ use Rattle.coeff_context.specs.Context.{coeff_context, FREQ, NUM_NONZERO}
 use Rattle.coeff_walk.specs.Walk.{walk}
 use Rattle.coeff_walk.specs.Places.{cells_of}
 use Rattle.coeff_walk.specs.Item.{counted}
-use Rattle.coeff_group.specs.Group.{PerChannel, read_item, read_items}
+use Rattle.coeff_group.specs.Group.{read_item, read_items}
 use Rattle.coeff_group.specs.PassGroup.{item_of, items_of}
 use Rattle.one_to_one.specs.Filling.{is_low, wanted}
-use Rattle.coeff_group.specs.Sequence.{in_cell, the_sequence}
+use Rattle.coeff_group.specs.Sequence.{the_sequence}
 use Rattle.coeff_walk.specs.Sent.{non_zeros, up_to, sent}
 
 unfoldable pub cut_computes : Bool
@@ -53,17 +50,3 @@ sequence_computes = true
 unfoldable pub wanted_computes : Bool
 unfolding wanted is_low grid_from row_of corners_row corners_from wide high TRANSFORMS
 wanted_computes = true
-
--- numbers below m, by a test
-pub below : (m : ℕ) → 0 < m → (l : List ℕ) → T (every (λ (v : ℕ). ltb v m) l) → (i : ℕ) → get_or l i 0 < m
-below m z [] t i = z
-below m z (v ∷ l) t zero = ltb→lt v m (and_l (ltb v m) (every (λ (v : ℕ). ltb v m) l) t)
-below m z (v ∷ l) t (suc i) = below m z l (and_r (ltb v m) (every (λ (v : ℕ). ltb v m) l) t) i
-
-abbrev small : List ℕ → Bool
-small g = every (λ (v : ℕ). ltb v (2 ^ 32)) g
-
-pub cells_below : (G : PerChannel) → T (every small G) → (c p : ℕ) → in_cell G c p < 2 ^ 32
-cells_below [] t c p = omega arith
-cells_below (g ∷ G) t zero p = below (2 ^ 32) (omega arith) g (and_l (small g) (every small G) t) p
-cells_below (g ∷ G) t (suc c) p = cells_below G (and_r (small g) (every small G) t) c p

@@ -1,6 +1,6 @@
 use borrow.Author.Rules.{rules}
 use Rattle.order_call.specs.Call.{leaves}
-use Rattle.order_call.specs.laws.Parsing.{other_length, bits_end, lists_read}
+use Rattle.order_call.proofs.laws.Parsing.{other_length, bits_end, lists_read}
 use Rattle.order_call.proofs.parse.Goals as goal
 
 pub returns-then-store-ne-NUMBERS : goal.returns-then-store-ne-NUMBERS

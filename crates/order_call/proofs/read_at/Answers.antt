@@ -3,7 +3,7 @@ use native.Mathlib.Omega.{arith}
 use mathlib.Core.Path.{refl}
 use Prim.Native.Nat.{◌-◌, ◌+◌, ◌*◌}
 use borrow.Rule.Slice.PartMut.{put_mid}
-use Rattle.order_call.specs.laws.Progress.{ListAt, list_at, after_list}
+use Rattle.order_call.proofs.laws.Progress.{ListAt, list_at, after_list}
 use Rattle.order_call.proofs.read_at.Goals.{After-is_used-u}
 use Rattle.order_call.proofs.read_at.Goals as goal
 

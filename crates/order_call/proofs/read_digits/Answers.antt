@@ -1,6 +1,6 @@
 use borrow.Author.Rules.{rules}
 use native.Mathlib.Omega.{arith}
-use Rattle.order_call.specs.laws.Lists.{digits_too_large, digits_ended, digits_read}
+use Rattle.order_call.proofs.laws.Lists.{digits_too_large, digits_ended, digits_read}
 use Rattle.order_call.proofs.read_digits.Goals as goal
 
 pub returns-then-good-many : goal.returns-then-good-many

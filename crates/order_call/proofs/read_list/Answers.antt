@@ -1,7 +1,7 @@
 use borrow.Author.Rules.{rules}
 use native.Mathlib.Omega.{arith}
 use borrow.Author.Tests.{not-true, not-false}
-use Rattle.order_call.specs.laws.Lists.{list_unused, list_short, list_large, list_digits}
+use Rattle.order_call.proofs.laws.Lists.{list_unused, list_short, list_large, list_digits}
 use Rattle.order_call.proofs.read_list.Goals as goal
 
 pub returns-then-not-used : goal.returns-then-not-used

@@ -5,7 +5,8 @@ use Prim.Native.Nat.{◌-◌}
 use lib.ListN.{length}
 use Rattle.order_store.specs.Store.{first_of}
 use Rattle.order_store.specs.laws.Offsets.{first_start}
-use Rattle.order_call.specs.laws.Progress.{Progress, progress_start, progress_end, after_read, after_refused}
+use Rattle.order_call.specs.laws.Progress.{Progress}
+use Rattle.order_call.proofs.laws.Progress.{progress_start, progress_end, after_read, after_refused}
 use Rattle.order_call.proofs.read_lists.Given as goal
 
 abbrev pub invariant-loop-i : goal.invariant-loop-i

@@ -1,4 +1,5 @@
-use Rattle.order_digits.specs.laws.Leading.{leading_start, leading_turn, leading_stop, leading_end, leading}
+use Rattle.order_digits.specs.laws.Leading.{leading}
+use Rattle.order_digits.proofs.laws.Leading.{leading_start, leading_turn, leading_stop, leading_end}
 use borrow.Author.Rules.{rules}
 use native.Mathlib.Omega.{arith}
 use mathlib.Core.Path.{◌≡◌}

@@ -1,4 +1,5 @@
-use Rattle.order_natural.specs.laws.Filling.{SizeKnown, size_known, no_order, no_room, laid_filled}
+use Rattle.order_natural.specs.laws.Filling.{SizeKnown}
+use Rattle.order_natural.proofs.laws.Filling.{size_known, no_order, no_room, laid_filled}
 use Rattle.std.proofs.Common.{arith, rules}
 use Rattle.order_natural.proofs.fill_natural_order.Goals.{After-block_size-size}
 use Rattle.order_natural.proofs.fill_natural_order.Goals as goal

@@ -1,4 +1,4 @@
-use Rattle.order_natural.specs.laws.Slants.{multiples_div}
+use Rattle.order_natural.proofs.laws.Slants.{multiples_div}
 use Rattle.std.proofs.Common.{◌∙◌, rules}
 use Rattle.order_natural.proofs.multiples_below.Goals as goal
 

@@ -1,7 +1,8 @@
 use Rattle.order_natural.specs.Natural.{rows}
 use Rattle.order_natural.specs.Places.{flat}
 use Rattle.laws.specs.laws.Laid.{Halfway, halfway_start, halfway_turn, halfway_room, halfway_end}
-use Rattle.order_natural.specs.laws.Turns.{rest_of_row, rest_of_rows, rows_turn, rows_start, rows_end}
+use Rattle.order_natural.specs.laws.Turns.{rest_of_row, rest_of_rows}
+use Rattle.order_natural.proofs.laws.Turns.{rows_turn, rows_start, rows_end}
 use Rattle.std.proofs.Common.{◌+◌, ◌-◌, ◌≤◌, arith, rules}
 use Rattle.order_natural.proofs.put_corner.Goals as goal
 

@@ -1,7 +1,7 @@
 use Rattle.order_natural.specs.Places.{flat}
 use Rattle.order_natural.specs.Natural.{diagonal, keep}
 use Rattle.laws.specs.laws.Laid.{laid_none}
-use Rattle.order_natural.specs.laws.Slants.{short_none, near_kept}
+use Rattle.order_natural.proofs.laws.Slants.{short_none, near_kept}
 use Rattle.std.proofs.Common.{length, ap, arith, rules}
 use Rattle.order_natural.proofs.put_diagonal.Goals as goal
 

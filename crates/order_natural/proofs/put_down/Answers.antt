@@ -1,7 +1,8 @@
 use Rattle.std.proofs.Common.{◌≡◌, ◌+◌, ◌-◌, ◌*◌, ◌<◌, ◌≤◌, length, refl, ◌∙◌, arith, length-set, rules}
 use Rattle.order_natural.specs.Places.{flat}
 use Rattle.laws.specs.laws.Laid.{LaidPairs, laid_none, pairs_start, pairs_turn}
-use Rattle.order_natural.specs.laws.Slants.{downs, downs_turn, downs_end, next_row}
+use Rattle.order_natural.specs.laws.Slants.{downs}
+use Rattle.order_natural.proofs.laws.Slants.{downs_turn, downs_end, next_row}
 use Rattle.order_natural.proofs.put_down.Goals as goal
 
 pub returns-then-n-eq0 : goal.returns-then-n-eq0

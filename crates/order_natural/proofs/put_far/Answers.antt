@@ -1,5 +1,6 @@
 use Rattle.std.proofs.Common.{arith, rules}
-use Rattle.order_natural.specs.laws.Slants.{Slant, slant}
+use Rattle.order_natural.specs.laws.Slants.{Slant}
+use Rattle.order_natural.proofs.laws.Slants.{slant}
 use Rattle.order_natural.proofs.put_far.Goals.{After-multiples_below-highest}
 use Rattle.order_natural.proofs.put_far.Goals as goal
 

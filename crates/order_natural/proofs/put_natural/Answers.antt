@@ -1,7 +1,7 @@
 use Rattle.std.proofs.Common.{◌≡◌, ◌*◌, ◌/◌, div-le_self, arith, rules}
 use Rattle.laws.specs.laws.Laid.{Laid, laid_on}
-use Rattle.order_natural.specs.laws.Turns.{natural_parts, natural_sum, natural_numbers}
-use Rattle.order_natural.specs.laws.Sizes.{s_some, not_higher, width_eights}
+use Rattle.order_natural.proofs.laws.Turns.{natural_parts, natural_sum, natural_numbers}
+use Rattle.order_natural.proofs.laws.Sizes.{s_some, not_higher, width_eights}
 use Rattle.order_natural.specs.Natural.{rows, square, keep, natural}
 use Rattle.order_natural.specs.Places.{flat}
 use Rattle.order_natural.proofs.put_natural.Goals as goal

@@ -1,7 +1,8 @@
 use Rattle.std.proofs.Common.{◌-◌, arith, rules}
 use Rattle.order_natural.specs.Places.{flat}
 use Rattle.laws.specs.laws.Laid.{laid_on}
-use Rattle.order_natural.specs.laws.Slants.{ups, downs, near, Near, near_at, ups_long, downs_long}
+use Rattle.order_natural.specs.laws.Slants.{ups, downs, near, Near}
+use Rattle.order_natural.proofs.laws.Slants.{near_at, ups_long, downs_long}
 use Rattle.order_natural.proofs.put_near.Goals.{After-multiples_below-highest}
 use Rattle.order_natural.proofs.put_near.Goals as goal
 

@@ -1,6 +1,7 @@
 use Rattle.std.proofs.Common.{◌+◌, ◌-◌, ◌≤◌, [], ◌∷◌, length, set, arith, length-set, rules}
 use Rattle.laws.specs.laws.Laid.{Halfway, halfway_start, halfway_turn, halfway_room, halfway_end, laid_two}
-use Rattle.order_natural.specs.laws.Turns.{rest_of_row, row_turn, row_end}
+use Rattle.order_natural.specs.laws.Turns.{rest_of_row}
+use Rattle.order_natural.proofs.laws.Turns.{row_turn, row_end}
 use Rattle.order_natural.proofs.put_row.Given as goal
 
 abbrev pub invariant-loop-x : goal.invariant-loop-x

@@ -1,7 +1,8 @@
 use Rattle.order_natural.specs.Natural.{diagonal, square, keep}
 use Rattle.order_natural.specs.Places.{flat}
 use Rattle.laws.specs.laws.Laid.{Halfway, halfway_start, halfway_turn, halfway_room, halfway_end}
-use Rattle.order_natural.specs.laws.Turns.{rest_of_square, square_turn, square_start, square_end}
+use Rattle.order_natural.specs.laws.Turns.{rest_of_square}
+use Rattle.order_natural.proofs.laws.Turns.{square_turn, square_start, square_end}
 use Rattle.std.proofs.Common.{◌+◌, ◌-◌, ◌*◌, ◌<◌, ◌≤◌, arith, rules}
 use Rattle.order_natural.proofs.put_square.Goals as goal
 
@@ -29,8 +30,7 @@ put_diagonal-at-requires c =
 pub loop-dist-preserved : goal.loop-dist-preserved
 loop-dist-preserved c =
     let a = c.args in
-    let l = c.loop-dist in
-    (
+    let l = c.loop-dist in (
       omega arith,
       omega arith,
       halfway_turn a.list.now l.list c.put_diagonal-at.new.list a.start (flat (keep a.w a.s (square a.b))) l.at c.put_diagonal-at.result (flat (keep a.w a.s (diagonal a.b l.dist))) (rest_of_square a.w a.s a.b (l.dist + 1)) (rest_of_square a.w a.s a.b l.dist)

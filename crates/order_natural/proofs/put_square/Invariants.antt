@@ -1,7 +1,8 @@
 use Rattle.order_natural.specs.Natural.{diagonal, square, keep}
 use Rattle.order_natural.specs.Places.{flat}
 use Rattle.laws.specs.laws.Laid.{Halfway, halfway_start, halfway_turn, halfway_room, halfway_end}
-use Rattle.order_natural.specs.laws.Turns.{rest_of_square, square_turn, square_start, square_end}
+use Rattle.order_natural.specs.laws.Turns.{rest_of_square}
+use Rattle.order_natural.proofs.laws.Turns.{square_turn, square_start, square_end}
 use Rattle.std.proofs.Common.{◌+◌, ◌-◌, ◌*◌, ◌<◌, ◌≤◌, arith, rules}
 use Rattle.order_natural.proofs.put_square.Given as goal
 

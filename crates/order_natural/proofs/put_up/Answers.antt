@@ -1,7 +1,8 @@
 use Rattle.std.proofs.Common.{◌≡◌, ◌+◌, ◌-◌, ◌*◌, ◌<◌, ◌≤◌, length, refl, ◌∙◌, arith, length-set, rules}
 use Rattle.order_natural.specs.Places.{flat}
 use Rattle.laws.specs.laws.Laid.{LaidPairs, laid_none, pairs_start, pairs_turn}
-use Rattle.order_natural.specs.laws.Slants.{ups, ups_turn, ups_end, next_row}
+use Rattle.order_natural.specs.laws.Slants.{ups}
+use Rattle.order_natural.proofs.laws.Slants.{ups_turn, ups_end, next_row}
 use Rattle.order_natural.proofs.put_up.Goals as goal
 
 pub returns-then-n-eq0 : goal.returns-then-n-eq0

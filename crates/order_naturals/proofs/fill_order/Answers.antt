@@ -1,4 +1,4 @@
-use Rattle.order_natural.specs.laws.Filling.{filled_is}
+use Rattle.order_natural.proofs.laws.Filling.{filled_is}
 use Rattle.order_small.specs.laws.Small.{small_filled_is}
 use mathlib.Core.Path.{◌∙◌}
 use borrow.Author.Rules.{rules}

@@ -9,8 +9,9 @@ use Rattle.order_sizes.specs.BlockSizes.{BLOCK_SIZES, width_of, height_of}
 use Rattle.order_sizes.specs.laws.BlockSizes.{block_size}
 use Rattle.order_natural.specs.Places.{Place, flat}
 use Rattle.order_natural.specs.Natural.{natural}
-use Rattle.order_natural.specs.laws.Sizes.{right, of_right, all_right, size_of}
-use Rattle.order_natural.specs.laws.Turns.{natural_numbers}
+use Rattle.order_natural.specs.laws.Sizes.{right}
+use Rattle.order_natural.proofs.laws.Sizes.{of_right, all_right, size_of}
+use Rattle.order_natural.proofs.laws.Turns.{natural_numbers}
 use Rattle.order_natural.specs.laws.Filling.{three_of}
 use Rattle.order_store.specs.Store.{PLACES, stored, thrice, before, first_of}
 use Rattle.order_store.specs.laws.Offsets.{first_step, first_most, first_channel, sizes_13, store_places, places_by}

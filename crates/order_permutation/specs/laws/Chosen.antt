@@ -3,8 +3,8 @@ use Rattle.std.specs.Prelude.{◌≡◌, refl, List, [], ◌∷◌, ℕ, zero, s
 use Rattle.std.proofs.Common.{ap, sym, ◌∙◌, not-suc-le-zero, le_of_suc-le-suc, div-le_self, arith, take-append-drop, length-drop, take_at, length-take-le}
 use Rattle.order_natural.specs.Places.{Place, is, tally, count}
 use Rattle.order_natural.specs.Order.{Size, Order}
-use Rattle.order_natural.specs.laws.Counts.{count_append}
-use Rattle.order_natural.specs.laws.Listing.{listing_length}
+use Rattle.order_natural.proofs.laws.Counts.{count_append}
+use Rattle.order_natural.proofs.laws.Listing.{listing_length}
 use Rattle.order_permutation.specs.Digits.{without, chosen, ordered, Below}
 
 module _ {A : Type 0} where

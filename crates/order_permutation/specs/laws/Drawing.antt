@@ -8,12 +8,12 @@ use Rattle.std.proofs.Math.Seq.{drop-drop, paste}
 use Rattle.std.proofs.lemmas.List.Edits.{take-paste, drop-paste, length-paste}
 use Rattle.laws.specs.laws.Lists.{tail_all}
 use Rattle.order_natural.specs.Places.{Place, flat, paired}
-use Rattle.order_natural.specs.laws.Bools.{and_right}
+use Rattle.order_natural.proofs.laws.Bools.{and_right}
 use Rattle.order_permutation.specs.Digits.{without, chosen, ordered, Below}
 use Rattle.order_permutation.specs.laws.Chosen.{without_length}
 use Rattle.order_permutation.specs.laws.Numbers.{map_chosen}
 use Rattle.order_permutation.specs.laws.Permuted.{all_below}
-use Rattle.order_natural.specs.laws.Flat.{paired_length, flat_paired}
+use Rattle.order_natural.proofs.laws.Flat.{paired_length, flat_paired}
 use Rattle.order_permutation.specs.laws.Below.{below_next}
 use Rattle.order_permutation.specs.laws.Blocks.{remaining, Blocks, sum_to, total, counts, closed, closed_at, remaining_length, block_room, block_most, taken_out, counts_start, counts_length, sum_step}
 use Rattle.order_permutation.specs.laws.Packed.{packed, unpacked, code, decode, below_at}

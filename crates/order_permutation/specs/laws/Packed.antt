@@ -8,9 +8,9 @@ use native.Mathlib.Omega.{arith}
 use Rattle.std.proofs.Math.ListN.{length, get_or, drop, set, length-set}
 use Rattle.std.proofs.Math.Seq.{drop-cons, take-set-le, drop-set-lt, get_or-take, get_or-set_other, get_or-set_same, length-take-le}
 use Rattle.order_natural.specs.Places.{Place, flat, paired}
-use Rattle.order_natural.specs.laws.Bools.{and_left, and_right}
+use Rattle.order_natural.proofs.laws.Bools.{and_left, and_right}
 use Rattle.order_permutation.specs.laws.Permuted.{all_below}
-use Rattle.order_natural.specs.laws.Flat.{paired_length}
+use Rattle.order_natural.proofs.laws.Flat.{paired_length}
 
 abbrev pub code : Place → ℕ
 code p = p.0 + 256 * p.1

@@ -3,7 +3,7 @@ use Rattle.std.specs.Prelude.{◌≡◌, true, false, List, ℕ, ◌-◌, ◌/�
 use Rattle.std.proofs.Common.{sym}
 use borrow.Author.Tests.{eq-eqb, ne_eqb, le-leb, lt-leb}
 use Rattle.order_natural.specs.Places.{flat, paired}
-use Rattle.order_natural.specs.laws.Bools.{and_false}
+use Rattle.order_natural.proofs.laws.Bools.{and_false}
 use Rattle.order_permutation.specs.Digits.{ordered}
 use Rattle.order_digits.specs.laws.Leading.{leading}
 use Rattle.order_permutation.specs.laws.Permuted.{all_below, permutable, permuted}

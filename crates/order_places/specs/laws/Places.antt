@@ -3,7 +3,7 @@ use Rattle.std.specs.Prelude.{◌≡◌, refl, Bool, true, false, ◌&&◌, List
 use Rattle.std.proofs.Common.{sym, ◌∙◌, arith, length-drop, length-take-le, lt-ltb, eq-eqb, eqb-true, ltb-true}
 use Rattle.std.proofs.lemmas.Bool.{eqb-false}
 use Rattle.order_sizes.specs.BlockSizes.{width_of, height_of}
-use Rattle.order_natural.specs.laws.Bools.{and_left, and_right}
+use Rattle.order_natural.proofs.laws.Bools.{and_left, and_right}
 use Rattle.order_store.specs.Store.{PLACES, stretch, inside_all, places_fit, first_of}
 use Rattle.order_store.specs.laws.Offsets.{first_step, first_most, places_by}
 use Rattle.order_places.specs.laws.Checking.{fit_from, fit_start, fit_next, fit_end}

@@ -13,7 +13,7 @@ use Rattle.std.proofs.Math.ListN.{get_or, length-drop}
 use Rattle.std.proofs.Math.Seq.{drop-cons}
 use borrow.Author.Tests.{lt-ltb, le-ltb}
 use Rattle.order_sizes.specs.BlockSizes.{BLOCK_SIZES, width_of, height_of}
-use Rattle.order_natural.specs.laws.Bools.{and_false}
+use Rattle.order_natural.proofs.laws.Bools.{and_false}
 use Rattle.order_store.specs.Store.{inside_all}
 
 pub record Power (w : ℕ) : Type 0 where

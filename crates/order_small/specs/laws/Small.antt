@@ -10,11 +10,12 @@ use Rattle.order_sizes.specs.laws.BlockSizes.{block_size}
 use Rattle.order_natural.specs.Places.{flat, paired}
 use Rattle.order_natural.specs.Natural.{natural}
 use Rattle.order_natural.specs.Order.{Facts}
-use Rattle.order_natural.specs.laws.Flat.{paired_flat}
-use Rattle.order_natural.specs.laws.Order.{natural_facts}
-use Rattle.order_natural.specs.laws.Sizes.{size_of}
-use Rattle.order_natural.specs.laws.Turns.{natural_numbers}
-use Rattle.order_natural.specs.laws.Filling.{three_of, room_for, filled, has_room}
+use Rattle.order_natural.proofs.laws.Flat.{paired_flat}
+use Rattle.order_natural.proofs.laws.Order.{natural_facts}
+use Rattle.order_natural.proofs.laws.Sizes.{size_of}
+use Rattle.order_natural.proofs.laws.Turns.{natural_numbers}
+use Rattle.order_natural.specs.laws.Filling.{three_of, room_for, filled}
+use Rattle.order_natural.proofs.laws.Filling.{has_room}
 
 -- one of orders 0 to 6, and three lists of just as many places
 unfoldable pub small_room : List ℕ → ℕ → Bool

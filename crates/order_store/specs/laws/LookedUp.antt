@@ -4,7 +4,7 @@ use Rattle.std.proofs.Math.Path.{sym}
 use Rattle.std.proofs.Common.{◌∙◌, arith}
 use borrow.Author.Tests.{lt-ltb, le-ltb, eq-eqb, ne_eqb, ltb-true, eqb-true}
 use Rattle.order_sizes.specs.BlockSizes.{BLOCK_SIZES, width_of, height_of}
-use Rattle.order_natural.specs.laws.Bools.{and_false}
+use Rattle.order_natural.proofs.laws.Bools.{and_false}
 use Rattle.order_store.specs.declared.Stretch.{Stretch}
 use Rattle.order_store.specs.Store.{PLACES, before, thrice, stretch, first_of}
 use Rattle.order_store.specs.laws.Offsets.{first_step, first_most, first_channel, places_by}

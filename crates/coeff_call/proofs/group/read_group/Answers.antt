@@ -6,8 +6,9 @@ use Rattle.coeff_walk.specs.declared.WalkEnd.{WalkEnd}
 use Rattle.coeff_walk.specs.laws.Outcome.{AllUseUp}
 use Rattle.coeff_group.specs.Group.{PerChannel, Reading}
 use Rattle.coeff_group.specs.PassGroup.{PassGroup, pass_group, group_items}
-use Rattle.coeff_group.specs.laws.Due.{Due, GroupShown, row_from, rows_from, whole_of, due_start, due_row, due_next, due_skip, due_end, corner_asks, corner_stop, corner_step}
-use Rattle.coeff_group.specs.laws.Used.{group_uses}
+use Rattle.coeff_group.specs.laws.Due.{Due, GroupShown, row_from, rows_from, whole_of}
+use Rattle.coeff_group.proofs.laws.Due.{due_start, due_row, due_next, due_skip, due_end, corner_asks, corner_stop, corner_step}
+use Rattle.coeff_group.proofs.laws.Used.{group_uses}
 use native.Mathlib.Omega.{arith}
 use Prim.Native.Nat.{ℕ, ◌<◌, ◌≤◌, ◌-◌, ◌+◌, ◌*◌}
 use lib.ListN.{length}

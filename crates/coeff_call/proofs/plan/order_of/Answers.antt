@@ -1,4 +1,4 @@
-use Rattle.coeff_group.specs.laws.Plans.{order_by_lem}
+use Rattle.coeff_group.proofs.laws.Plans.{order_by_lem}
 use mathlib.Core.Path.{◌∙◌, ap, sym}
 use Rattle.dct_select.specs.LookUp.{answered}
 use Prim.Native.Nat.{◌-◌}

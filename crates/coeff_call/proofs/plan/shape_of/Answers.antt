@@ -1,4 +1,4 @@
-use Rattle.coeff_group.specs.laws.Plans.{shape_at}
+use Rattle.coeff_group.proofs.laws.Plans.{shape_at}
 use mathlib.Core.Path.{◌∙◌, ap, sym}
 use Rattle.dct_select.specs.LookUp.{answered}
 use Prim.Native.Nat.{◌-◌}

@@ -1,4 +1,4 @@
-use Rattle.coeff_walk.specs.laws.Counts.{row_start, row_step, row_end}
+use Rattle.coeff_walk.proofs.laws.Counts.{row_start, row_step, row_end}
 use native.Mathlib.Omega.{arith}
 use mathlib.Core.Path.{◌∙◌, sym}
 use Rattle.coeff_call.proofs.rows.rewrite.Goals as goal

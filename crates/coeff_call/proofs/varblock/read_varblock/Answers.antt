@@ -1,7 +1,7 @@
 use mathlib.Core.Path.{◌∙◌, sym}
 use mathlib.Core.List.{[], ◌∷◌}
-use Rattle.coeff_group.specs.laws.Rewritten.{rows_are}
-use Rattle.coeff_group.specs.laws.Step.{step_stops, step_goes}
+use Rattle.coeff_group.proofs.laws.Rewritten.{rows_are}
+use Rattle.coeff_group.proofs.laws.Step.{step_stops, step_goes}
 use Rattle.coeff_call.proofs.varblock.read_varblock.Goals as goal
 
 pub returns-then-is_stopped : goal.returns-then-is_stopped

@@ -1,5 +1,6 @@
 use mathlib.Core.Path.{◌∙◌, ap, sym}
-use Rattle.coeff_checks.specs.laws.Tests.{is_fine, passes_by}
+use Rattle.coeff_checks.specs.laws.Tests.{is_fine}
+use Rattle.coeff_checks.proofs.laws.Tests.{passes_by}
 use Rattle.coeff_checks.proofs.checks.layout_fits.Goals as goal
 
 pub returns-in-Fine : goal.returns-in-Fine

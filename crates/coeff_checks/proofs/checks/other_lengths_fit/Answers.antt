@@ -1,5 +1,5 @@
 use borrow.Author.Tests.{le-leb, lt-leb, eq-eqb, ne_eqb}
-use Rattle.coeff_checks.specs.laws.Tests.{map_most}
+use Rattle.coeff_checks.proofs.laws.Tests.{map_most}
 use native.Mathlib.Omega.{arith}
 use mathlib.Core.Path.{◌∙◌, sym}
 use Prim.Native.Nat.{◌*◌}

@@ -1,5 +1,5 @@
 use Rattle.std.proofs.Common.{◌^◌, arith, rules}
-use Rattle.coeff_context.specs.laws.Contexts.{below_63}
+use Rattle.coeff_context.proofs.laws.Contexts.{below_63}
 use Rattle.coeff_places.proofs.context.frequency_at.Goals as goal
 
 pub bounds-frequencies-b : goal.bounds-frequencies-b

@@ -1,5 +1,5 @@
 use Rattle.std.proofs.Common.{◌^◌, arith, rules}
-use Rattle.coeff_context.specs.laws.Contexts.{below_63}
+use Rattle.coeff_context.proofs.laws.Contexts.{below_63}
 use Rattle.coeff_places.proofs.context.nonzeros_at.Goals as goal
 
 pub bounds-nonzeros-a : goal.bounds-nonzeros-a

@@ -1,4 +1,4 @@
-use Rattle.coeff_walk.specs.laws.PlaceLaws.{place_turned, place_straight, cell_fits}
+use Rattle.coeff_walk.proofs.laws.PlaceLaws.{place_turned, place_straight, cell_fits}
 use Rattle.std.proofs.Common.{ℕ, ◌+◌, ◌*◌, ◌≤◌, sym, arith, rules}
 use Rattle.coeff_places.proofs.place.cell_of.Goals.{After-to_usize-b}
 use Rattle.coeff_places.proofs.place.cell_of.Goals as goal

@@ -1,5 +1,5 @@
 use Rattle.std.proofs.Common.{sym, arith, rules}
-use Rattle.coeff_walk.specs.laws.Outcome.{flag_one}
+use Rattle.coeff_walk.proofs.laws.Outcome.{flag_one}
 use Rattle.coeff_places.proofs.walk.flag_of.Goals as goal
 
 pub returns : goal.returns

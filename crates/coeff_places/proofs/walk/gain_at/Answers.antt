@@ -1,5 +1,6 @@
-use Rattle.coeff_walk.specs.laws.Outcome.{spot_cells, gain_out}
-use Rattle.coeff_walk.specs.laws.Runs.{gain_sum}
+use Rattle.coeff_walk.specs.laws.Outcome.{spot_cells}
+use Rattle.coeff_walk.proofs.laws.Outcome.{gain_out}
+use Rattle.coeff_walk.proofs.laws.Runs.{gain_sum}
 use Rattle.std.proofs.Common.{get_or, sym, arith, rules}
 use Rattle.coeff_places.proofs.walk.gain_at.Goals as goal
 

@@ -1,6 +1,7 @@
 use Rattle.std.proofs.Common.{◌-◌, ◌^◌, arith, rules}
-use Rattle.coeff_walk.specs.laws.Runs.{Zeros, zeros_start, zeros_turn}
-use Rattle.coeff_context.specs.laws.Contexts.{freq_at}
+use Rattle.coeff_walk.specs.laws.Runs.{Zeros}
+use Rattle.coeff_walk.proofs.laws.Runs.{zeros_start, zeros_turn}
+use Rattle.coeff_context.proofs.laws.Contexts.{freq_at}
 use Rattle.coeff_places.proofs.walk.skip_zeros.Goals as goal
 
 pub loop-k-init : goal.loop-k-init

@@ -1,7 +1,8 @@
 use Rattle.std.proofs.Common.{◌≡◌, ◌+◌, ◌-◌, ◌*◌, ◌^◌, ◌<◌, ◌≤◌, length, drop, sym, refl, ◌∙◌, arith, length-set, rules}
 use Rattle.coeff_walk.specs.Walk.{walk}
-use Rattle.coeff_walk.specs.laws.PlaceLaws.{places_count}
-use Rattle.coeff_walk.specs.laws.Outcome.{spot_cells, walk_used, walk_24, walk_17, walk_15, walk_step, ends}
+use Rattle.coeff_walk.proofs.laws.PlaceLaws.{places_count}
+use Rattle.coeff_walk.specs.laws.Outcome.{spot_cells}
+use Rattle.coeff_walk.proofs.laws.Outcome.{walk_used, walk_24, walk_17, walk_15, walk_step, ends}
 use Rattle.coeff_places.proofs.walk.walk_dense.Goals.{Else-end-k}
 use Rattle.coeff_places.proofs.walk.walk_dense.Goals as goal
 

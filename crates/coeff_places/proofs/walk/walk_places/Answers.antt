@@ -1,6 +1,6 @@
 use Rattle.std.proofs.Common.{◌^◌, arith}
 use Rattle.coeff_walk.specs.laws.Outcome.{spot_cells}
-use Rattle.coeff_walk.specs.laws.Used.{walk_uses}
+use Rattle.coeff_walk.proofs.laws.Used.{walk_uses}
 use Rattle.coeff_places.proofs.walk.walk_places.Goals as goal
 
 pub returns-then-list-count : goal.returns-then-list-count

@@ -1,13 +1,15 @@
 use Prim.Native.Nat.{ℕ, ◌%◌, ◌^◌, ◌+◌, ◌*◌}
-use Rattle.coeff_walk.specs.laws.Items.{channel_goes, handed_by, item_at, counted_15, counted_none}
-use Rattle.coeff_walk.specs.laws.Counts.{shifted_left, power_le}
+use Rattle.coeff_walk.specs.laws.Items.{item_at}
+use Rattle.coeff_walk.proofs.laws.Items.{channel_goes, handed_by, counted_15, counted_none}
+use Rattle.coeff_walk.proofs.laws.Counts.{shifted_left, power_le}
 use mathlib.Core.Path.{refl, ◌∙◌, sym}
 use lib.Pow.{pow_pos}
 use Rattle.coeff_walk.specs.declared.WalkEnd.{WalkEnd}
 use Rattle.coeff_walk.specs.Walk.{Walked}
 use Rattle.coeff_walk.specs.Item.{counted}
-use Rattle.coeff_group.specs.laws.Used.{channel_uses}
-use Rattle.coeff_walk.specs.laws.Outcome.{WalkShown, ends, AllUseUp}
+use Rattle.coeff_group.proofs.laws.Used.{channel_uses}
+use Rattle.coeff_walk.specs.laws.Outcome.{WalkShown, AllUseUp}
+use Rattle.coeff_walk.proofs.laws.Outcome.{ends}
 use native.Mathlib.Omega.{arith}
 use mathlib.Core.List.{List, [], ◌∷◌}
 use lib.ListN.{drop}

@@ -1,4 +1,4 @@
-use Rattle.coeff_group.specs.laws.Steps.{in_first, in_second, in_third}
+use Rattle.coeff_group.proofs.laws.Steps.{in_first, in_second, in_third}
 use Rattle.coeff_walk.specs.Item.{counted}
 use Rattle.coeff_walk.specs.laws.Items.{item_at}
 use native.Mathlib.Omega.{arith}

@@ -4,7 +4,7 @@ use lib.ListN.{get_or, get_or-eq_default}
 use native.Mathlib.Omega.{arith}
 use native.Mathlib.Nat.{mul-le-mul}
 use Rattle.coeff_walk.specs.Item.{predicted, count_index}
-use Rattle.coeff_walk.specs.laws.Counts.{index_small}
+use Rattle.coeff_walk.proofs.laws.Counts.{index_small}
 use Rattle.coeff_varblock.proofs.count.count_cluster.Goals as goal
 
 pub overflow_mul-entry : goal.overflow_mul-entry

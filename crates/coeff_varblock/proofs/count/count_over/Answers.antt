@@ -1,7 +1,7 @@
 use native.Mathlib.Nat.{one-mul}
 use Prim.Native.Nat.{◌%◌, ◌^◌, ◌*◌}
 use lib.Pow.{pow_pos}
-use Rattle.coeff_walk.specs.laws.Counts.{shifted_left, power_le, count_over_lem}
+use Rattle.coeff_walk.proofs.laws.Counts.{shifted_left, power_le, count_over_lem}
 use native.Mathlib.Omega.{arith}
 use mathlib.Core.Path.{◌≡◌, ◌∙◌}
 use Rattle.coeff_varblock.proofs.count.count_over.Goals as goal

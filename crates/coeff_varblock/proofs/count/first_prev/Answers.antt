@@ -1,4 +1,4 @@
-use Rattle.coeff_walk.specs.laws.Counts.{shifted_left}
+use Rattle.coeff_walk.proofs.laws.Counts.{shifted_left}
 use native.Mathlib.Omega.{arith}
 use Rattle.coeff_varblock.proofs.count.first_prev.Goals as goal
 

@@ -1,4 +1,4 @@
-use Rattle.coeff_walk.specs.laws.Counts.{predicted_y0, predicted_x0, predicted_both}
+use Rattle.coeff_walk.proofs.laws.Counts.{predicted_y0, predicted_x0, predicted_both}
 use native.Mathlib.Omega.{arith}
 use Rattle.coeff_varblock.proofs.count.predict.Goals as goal
 

@@ -1,9 +1,10 @@
 use mathlib.Core.Path.{◌∙◌, sym}
 use Prim.Native.Nat.{◌+◌, ◌*◌, ◌<◌}
 use Rattle.layout_placing.specs.Reading.{Placed}
-use Rattle.layout_reading.specs.laws.Places.{place_left, place_taken}
+use Rattle.layout_reading.proofs.laws.Places.{place_left, place_taken}
 use Rattle.layout_reading.specs.laws.Outcome.{state_of}
-use Rattle.layout_filter.specs.laws.Finite.{DividedBounded, divided_bounded}
+use Rattle.layout_filter.specs.laws.Finite.{DividedBounded}
+use Rattle.layout_filter.proofs.laws.Finite.{divided_bounded}
 use lib.Arith.{digits_lt}
 use borrow.Author.Rules.{rules}
 use native.Mathlib.Omega.{arith}

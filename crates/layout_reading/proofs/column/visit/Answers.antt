@@ -1,7 +1,7 @@
-use Rattle.layout_placing.specs.laws.Visits.{by_judged, visit_taken, visit_ends, visit_judged}
+use Rattle.layout_placing.proofs.laws.Visits.{by_judged, visit_taken, visit_ends, visit_judged}
 use Rattle.layout_placing.specs.Reading.{Job, Placed, Going, visit, job_with}
 use Rattle.layout_reading.specs.laws.Outcome.{state_of}
-use Rattle.layout_column.specs.laws.Judged.{asks_most}
+use Rattle.layout_column.proofs.laws.Judged.{asks_most}
 use Rattle.layout_column.specs.Columns.{hf_mul_of}
 use Rattle.layout_column.specs.laws.Judged.{said_judged}
 use lib.Arith.{digits_lt}

@@ -3,9 +3,10 @@ use lib.ListN.{length}
 use Rattle.refusal.specs.Answer.{passed}
 use Rattle.refusal.specs.laws.Answer.{checked}
 use Rattle.layout_filter.specs.declared.ScaledFilter.{ScaledFilter}
-use Rattle.layout_filter.specs.laws.Finite.{ScaledBounded, scaled_bounded}
+use Rattle.layout_filter.specs.laws.Finite.{ScaledBounded}
+use Rattle.layout_filter.proofs.laws.Finite.{scaled_bounded}
 use Rattle.layout_placing.specs.Reading.{Job, job_with, job_by, reading}
-use Rattle.layout_reading.specs.laws.Lengths.{passed_checks, read_refused, read_works}
+use Rattle.layout_reading.proofs.laws.Lengths.{passed_checks, read_refused, read_works}
 use Rattle.layout_reading.specs.laws.Outcome.{told_by, read_checks}
 use borrow.Author.Rules.{rules}
 use Rattle.layout_reading.proofs.reading.read.Goals.{After-read_check-checked, In_default}

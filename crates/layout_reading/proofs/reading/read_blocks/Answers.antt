@@ -1,7 +1,7 @@
-use Rattle.layout_reading.specs.laws.Places.{stop_stays}
+use Rattle.layout_reading.proofs.laws.Places.{stop_stays}
 use Rattle.layout_placing.specs.Reading.{job_with}
 use Rattle.layout_reading.specs.laws.Outcome.{state_of, stepped}
-use Rattle.layout.specs.laws.Loops.{rows_left, cells_left, loop_start, loop_enter, loop_next, loop_stop, loop_leave, loop_finish}
+use Rattle.layout.proofs.laws.Loops.{rows_left, cells_left, loop_start, loop_enter, loop_next, loop_stop, loop_leave, loop_finish}
 use Rattle.layout_placing.specs.Reading.{Going, visit}
 use Rattle.layout_reading.specs.declared.column.Step.{Step}
 use mathlib.Core.Path.{refl}

@@ -3,7 +3,7 @@ use mathlib.Core.Bool.{true}
 use Prim.Native.Nat.{◌*◌, ◌≤◌}
 use native.Mathlib.Nat.{mul-le-mul}
 use Rattle.layout_filter.specs.Limits.{params_fit}
-use Rattle.layout_reading.specs.laws.Lengths.{check_params, check_wide, check_high, check_lengths, check_fine}
+use Rattle.layout_reading.proofs.laws.Lengths.{check_params, check_wide, check_high, check_lengths, check_fine}
 use borrow.Author.Rules.{rules}
 use borrow.Author.Tests.{not-true, not-false}
 use native.Mathlib.Omega.{arith}

@@ -1,6 +1,6 @@
 use mathlib.Core.Path.{◌∙◌}
 use Rattle.layout_placing.specs.Reading.{job_with}
-use Rattle.layout_reading.specs.laws.Lengths.{read_accepts, read_refuses, cleared}
+use Rattle.layout_reading.proofs.laws.Lengths.{read_accepts, read_refuses, cleared}
 use borrow.Author.Rules.{rules}
 use Rattle.layout_reading.proofs.reading.read_cleared.Goals as goal
 

@@ -1,6 +1,6 @@
 use mathlib.Core.Path.{◌∙◌}
 use Rattle.layout_placing.specs.Reading.{job_with}
-use Rattle.layout_reading.specs.laws.Lengths.{read_all, cleared}
+use Rattle.layout_reading.proofs.laws.Lengths.{read_all, cleared}
 use Rattle.layout_reading.proofs.reading.read_from_zeros.Goals as goal
 
 pub read_blocks-requires : goal.read_blocks-requires

@@ -1,7 +1,7 @@
 use Rattle.layout_reading.specs.declared.scan.Scanned.{Scanned}
-use Rattle.layout_placing.specs.laws.Cells.{cell_at, scan_start}
-use Rattle.layout_reading.specs.laws.ScanSteps.{refused_stays, taken_is}
-use Rattle.layout.specs.laws.Loops.{rows_left, cells_left, loop_enter, loop_next, loop_stop, loop_leave, loop_finish}
+use Rattle.layout_placing.proofs.laws.Cells.{cell_at, scan_start}
+use Rattle.layout_reading.proofs.laws.ScanSteps.{refused_stays, taken_is}
+use Rattle.layout.proofs.laws.Loops.{rows_left, cells_left, loop_enter, loop_next, loop_stop, loop_leave, loop_finish}
 use Rattle.layout_placing.specs.Scan.{Taking}
 use Rattle.layout_reading.specs.laws.Scan.{scanned}
 use Rattle.layout_reading.specs.declared.scan.Scanned.TheVariants.{Taken}

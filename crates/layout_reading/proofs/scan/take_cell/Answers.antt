@@ -1,6 +1,7 @@
-use Rattle.layout_placing.specs.laws.Cells.{cell_wide, cell_high, cell_overlap, cell_off, cell_sharpness, cell_on}
+use Rattle.layout_placing.proofs.laws.Cells.{cell_wide, cell_high, cell_overlap, cell_off, cell_sharpness, cell_on}
 use Rattle.layout_filter.specs.declared.DividedFilter.{DividedFilter}
-use Rattle.layout_filter.specs.laws.Finite.{DividedBounded, times_bounded}
+use Rattle.layout_filter.specs.laws.Finite.{DividedBounded}
+use Rattle.layout_filter.proofs.laws.Finite.{times_bounded}
 use mathlib.Core.Path.{subst}
 use Prim.Native.Nat.{◌+◌, ◌*◌, ◌<◌}
 use lib.Arith.{digits_lt}

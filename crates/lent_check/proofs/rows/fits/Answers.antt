@@ -1,6 +1,6 @@
 use borrow.Author.Tests.{le-leb, lt-leb}
 use Rattle.layout.specs.Kinds.{wide_of, high_of}
-use Rattle.layout.specs.laws.Kinds.{wide_sized, high_sized}
+use Rattle.layout.proofs.laws.Kinds.{wide_sized, high_sized}
 use Rattle.layout.specs.Check.{fitting}
 use mathlib.Core.Path.{◌∙◌, ap}
 use lib.Dec.{leb}

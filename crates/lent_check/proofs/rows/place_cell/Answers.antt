@@ -7,7 +7,7 @@ use Rattle.dct_select.specs.declared.Sides.{Sides}
 use Rattle.dct_select.specs.LookUp.{sides}
 use Rattle.layout.specs.Kinds.{wide_of, high_of}
 use Rattle.layout.specs.Valid.{Fits}
-use Rattle.layout.specs.laws.CheckLaws.{fitting_fits}
+use Rattle.layout.proofs.laws.CheckLaws.{fitting_fits}
 use Rattle.lent_check.specs.laws.Corners.{size_corner}
 use Rattle.lent_cells.specs.laws.Cells.{larger_of}
 use Rattle.lent_check.specs.laws.Steps.{place_plain, place_free, place_unfit, place_fit}

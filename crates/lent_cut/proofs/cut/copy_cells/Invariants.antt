@@ -4,9 +4,9 @@ use Prim.Native.Nat.{ℕ, ◌+◌, ◌*◌, ◌-◌, ◌≤◌, ◌<◌}
 use lib.Arith.{digits_lt}
 use lib.ListN.{length, length-set}
 use Rattle.layout.specs.Grid.{block_at, grid_of}
-use Rattle.lent_cut.specs.laws.CutSteps.{copy_start}
-use Rattle.layout.specs.laws.Fill.{write}
-use Rattle.layout.specs.laws.Loops.{rows_left, cells_left, loop_enter, loop_next, loop_leave, loop_finish}
+use Rattle.lent_cut.proofs.laws.CutSteps.{copy_start}
+use Rattle.layout.proofs.laws.Fill.{write}
+use Rattle.layout.proofs.laws.Loops.{rows_left, cells_left, loop_enter, loop_next, loop_leave, loop_finish}
 use borrow.Author.Rules.{rules}
 use native.Mathlib.Omega.{arith}
 use Rattle.lent_cut.proofs.cut.copy_cells.Given as goal

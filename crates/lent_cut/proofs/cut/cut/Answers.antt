@@ -3,7 +3,7 @@ use lib.ListN.{length}
 use Rattle.refusal.specs.Answer.{gives}
 use Rattle.refusal.specs.laws.Answer.{checked}
 use Rattle.lent_cut.specs.Calls.{cut_check}
-use Rattle.lent_cut.specs.laws.CutSteps.{passed, cut_refused, cut_done_lem}
+use Rattle.lent_cut.proofs.laws.CutSteps.{passed, cut_refused, cut_done_lem}
 use borrow.Author.Rules.{rules}
 use Rattle.lent_cut.proofs.cut.cut.Goals.{In-Fine}
 use Rattle.lent_cut.proofs.cut.cut.Goals as goal

@@ -7,7 +7,7 @@ use Rattle.layout.specs.Cut.{has_group, bw_of_group, bh_of_group}
 use Rattle.lent_sides.specs.Limits.{in_limits, lengths_fit}
 use Rattle.lent_sides.specs.laws.Limits.{in_limits_lem}
 use Rattle.lent_check.specs.laws.Laws.{lent_cells}
-use Rattle.lent_cut.specs.laws.CutSteps.{cut_size, cut_index, cut_lent, cut_buffers, cut_fault, cut_fine}
+use Rattle.lent_cut.proofs.laws.CutSteps.{cut_size, cut_index, cut_lent, cut_buffers, cut_fault, cut_fine}
 use borrow.Author.Rules.{rules}
 use native.Mathlib.Omega.{arith}
 use Rattle.lent_cut.proofs.cut.cut_check.Goals.{After-lengths_fit-2, Else-not-has_group, Else-not-in_limits, Else-not-lengths_fit}

@@ -1,4 +1,4 @@
-use Rattle.layout.specs.laws.CutLaws.{group_x_is}
+use Rattle.layout.proofs.laws.CutLaws.{group_x_is}
 use native.Mathlib.Omega.{arith}
 use borrow.Author.Rules.{rules}
 use Rattle.lent_cut.proofs.cut.group_x.Goals as goal

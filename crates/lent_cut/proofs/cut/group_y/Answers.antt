@@ -1,4 +1,4 @@
-use Rattle.layout.specs.laws.CutLaws.{group_y_is}
+use Rattle.layout.proofs.laws.CutLaws.{group_y_is}
 use native.Mathlib.Omega.{arith}
 use borrow.Author.Rules.{rules}
 use Rattle.lent_cut.proofs.cut.group_y.Goals as goal

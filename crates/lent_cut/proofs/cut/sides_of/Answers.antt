@@ -1,4 +1,4 @@
-use Rattle.layout.specs.laws.CutLaws.{starts_x, starts_y}
+use Rattle.layout.proofs.laws.CutLaws.{starts_x, starts_y}
 use Rattle.lent_sides.specs.laws.Limits.{in_limits_lem}
 use native.Mathlib.Omega.{arith}
 use Rattle.lent_cut.proofs.cut.sides_of.Goals as goal

@@ -2,7 +2,7 @@ use mathlib.Core.Path.{refl, ◌∙◌, ap}
 use mathlib.Core.Bool.{Bool, ◌&&◌}
 use Prim.Native.Nat.{◌-◌}
 use lib.ListN.{length}
-use Rattle.lent_lists.specs.laws.Finite.{SoFar, so_far_next, so_far_end}
+use Rattle.lent_lists.proofs.laws.Finite.{SoFar, so_far_next, so_far_end}
 use borrow.Author.Rules.{rules}
 use native.Mathlib.Omega.{arith}
 use Rattle.lent_lists.proofs.finite.all_finite.Goals as goal

@@ -1,4 +1,4 @@
-use Rattle.lent_lists.specs.laws.Finite.{finite_below}
+use Rattle.lent_lists.proofs.laws.Finite.{finite_below}
 use Rattle.lent_lists.proofs.finite.is_finite.Goals as goal
 
 pub returns : goal.returns

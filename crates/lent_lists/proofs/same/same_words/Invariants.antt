@@ -1,7 +1,7 @@
 use mathlib.Core.Path.{refl, sym}
 use Prim.Native.Nat.{◌-◌}
 use lib.ListN.{length}
-use Rattle.lent_lists.specs.laws.Same.{SoFar, so_far_next, so_far_end, other_length}
+use Rattle.lent_lists.proofs.laws.Same.{SoFar, so_far_next, so_far_end, other_length}
 use borrow.Author.Rules.{rules}
 use native.Mathlib.Omega.{arith}
 use Rattle.lent_lists.proofs.same.same_words.Given as goal

@@ -1,3 +1,0 @@
--- what is proved from the definitions
-pub mod Signed
-pub mod Exponent

@@ -1,0 +1,5 @@
+-- what is proved from the definitions
+pub mod Census
+pub mod Contexts
+pub mod Situations
+pub mod TooLarge

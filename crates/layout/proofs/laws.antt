@@ -1,0 +1,24 @@
+-- what is proved from the definitions
+pub mod Area
+pub mod Areas
+pub mod CheckLaws
+pub mod CheckValid
+pub mod Corners
+pub mod CutLaws
+pub mod Empty
+pub mod Fill
+pub mod Grid
+pub mod Groups
+pub mod Kinds
+pub mod Listed
+pub mod Loops
+pub mod Order
+pub mod Rectangles
+pub mod Rest
+pub mod RowByRow
+pub mod RowByRowSteps
+pub mod Rows
+pub mod Same
+pub mod Stretch
+pub mod Theorems
+pub mod ValidCheck

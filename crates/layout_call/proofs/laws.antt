@@ -1,0 +1,2 @@
+-- what is proved from the definitions
+pub mod CallSteps

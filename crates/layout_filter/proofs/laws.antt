@@ -1,0 +1,4 @@
+-- what is proved from the definitions
+pub mod Finite
+pub mod Limits
+pub mod Strength

@@ -1,3 +1,0 @@
--- one law for each way out of a cell, of a block
-pub mod Cells
-pub mod Visits

@@ -1,0 +1,4 @@
+-- what is proved from the definitions
+pub mod Lengths
+pub mod Places
+pub mod ScanSteps

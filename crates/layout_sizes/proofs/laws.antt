@@ -1,0 +1,3 @@
+-- what is proved from the definitions
+pub mod Bounds
+pub mod Counts

@@ -1,0 +1,3 @@
+-- what is proved from the definitions
+pub mod CutSteps
+pub mod Theorems

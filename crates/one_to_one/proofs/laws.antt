@@ -1,0 +1,21 @@
+-- what is proved from the definitions
+pub mod Chain
+pub mod Computes
+pub mod Correspond
+pub mod CountsUsed
+pub mod Demand3
+pub mod Empty
+pub mod FullWitness
+pub mod InsideLaws
+pub mod Items
+pub mod LowCells
+pub mod NeverOutside
+pub mod OneToOne
+pub mod OverCall
+pub mod Plain
+pub mod Spread
+pub mod Surplus
+pub mod SymbolsRead
+pub mod Wanted
+pub mod Ways
+pub mod Witness
