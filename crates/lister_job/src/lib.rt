@@ -97,6 +97,7 @@ fn size_needs(job: &[u8]) -> usize
 }
 
 // Bytes that column k, the last that has begun or is to begin, or an end in its place lacks.
+#[tactic(auto, using(crate::proofs::laws::Needed::column_first, crate::proofs::laws::Needed::column_over, crate::proofs::laws::Needed::column_other, crate::proofs::laws::Needed::column_rest))]
 fn column_needs(job: &[u8], k: usize) -> usize
     requires { (column_place k ≤ length job.now) × (length job.now < column_place k + 9) }
     ensures { result ≡ column_needs job.now k }

@@ -1,6 +1,6 @@
 -- Laws on a job's columns (document 01, The lister).
 use Rattle.std.specs.Prelude.{◌≡◌, List, ◌++◌, drop}
-use Prim.Native.Nat.{ℕ, ◌+◌, ◌-◌}
+use Prim.Native.Nat.{ℕ}
 use Rattle.laws.specs.Lists.{tabulate}
 use Rattle.lister_job.specs.Job.{type_at, mul_at, columns}
 
