@@ -1,6 +1,6 @@
 /*
- * The layout lister as a command, with what a Rattle program cannot have or does not: options, file
- * names, messages and an exit status. The listing itself is the proved program's,
+ * The layout lister as a command, with what the proved program does not have: options, file names,
+ * messages and an exit status. The listing itself is the proved program's,
  * crates/layout_lister: its object is linked in as it is, and the linker's --wrap leads its start,
  * its reads, with the place in the input, and its writes through here.
  *
@@ -10,6 +10,7 @@
 #include <errno.h>
 #include <fcntl.h>
 #include <getopt.h>
+#include <signal.h>
 #include <stdbool.h>
 #include <stdio.h>
 #include <string.h>
@@ -67,12 +68,14 @@ off_t __wrap_lseek(int file, off_t by, int from)
 
 /*
  * A write of the proved program, all of it: nothing where the input could not be read, and nothing of
- * what it says of a failure, which is told here.
+ * what it says of a failure, which is told here. Its start sets SIGPIPE aside; a reader that closes
+ * its pipe ends this command, as usual.
  */
 ssize_t __wrap_write(int file, const void *bytes, size_t length)
 {
     if (file != STDOUT_FILENO)
         return (ssize_t)length;
+    signal(SIGPIPE, SIG_DFL);
     listed = length > 6 && memcmp(bytes, "blocks", 6) == 0;
     for (size_t done = 0; done < length && read_error == 0;) {
         ssize_t moved = __real_write(file, (const char *)bytes + done, length - done);
