@@ -39,13 +39,13 @@ impl<'a> Function<'a> {
         self.head.iter().any(|line| line.starts_with(clause))
     }
 
-    /// What its contract cites: parameters and what the contract binds are not among it.
+    /// What its contract cites: parameters, of types too, and what the contract binds are not among it.
     pub fn cites(&self) -> Vec<&'a str> {
         let clause = |line: &&str| line.starts_with("requires") || line.starts_with("ensures");
         let start = self.head.iter().position(clause).unwrap_or(self.head.len());
         let parameters = self.head[..start]
             .iter()
-            .flat_map(|line| line.split(['(', ',']));
+            .flat_map(|line| line.split(['(', ',', '<']));
         let parameters = parameters.filter_map(|part| part.split_once(':'));
         let mut taken: BTreeSet<_> = parameters.map(|(name, _)| name.trim()).collect();
         let clauses: Vec<_> = self.head[start..]

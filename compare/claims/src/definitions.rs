@@ -8,7 +8,7 @@ pub fn of_code(source: &str) -> Vec<&str> {
         let line = without(line, &["pub ", "pub(crate) "]);
         let line = without(line, &["extern \"C\" "]);
         let (kind, rest) = line.split_once(' ')?;
-        let defines = matches!(kind, "fn" | "struct" | "enum" | "const");
+        let defines = matches!(kind, "fn" | "struct" | "enum" | "const" | "static");
         defines.then(|| first_name(rest))?
     });
     names.collect()

@@ -5,8 +5,6 @@ ghost use Rattle.refusal.specs.Said.{said_at};
 ghost use Rattle.refusal.specs.Handed.{with, handed};
 ghost use Rattle.coeff_context.specs.Census.{situation, census_of};
 
-use coeff_context::CensusAnswer;
-
 // Beside a refusal the context stays as it was.
 #[unsafe(no_mangle)]
 pub extern "C" fn netbuff_coefficient_context(
@@ -21,13 +19,13 @@ pub extern "C" fn netbuff_coefficient_context(
     ensures { with (said_at result x.new y.new) context.new ≡ handed (census_of (situation blocks count place prev)) context.old }
 {
     match coeff_context::coefficient_context(blocks, count, place, prev) {
-        CensusAnswer::Context(number) => {
+        Ok(number) => {
             *context = number;
             *x = 0;
             *y = 0;
             0
         }
-        CensusAnswer::Refused(refusal) => {
+        Err(refusal) => {
             let said = refusal.numbers();
             *x = said.x;
             *y = said.y;

@@ -8,7 +8,6 @@ ghost use Rattle.coeff_group.specs.PassGroup.{pass_group};
 ghost use Rattle.coeff_call.specs.Call.{lent, call};
 ghost use Rattle.c_coefficients.specs.Coefficients.{CoeffLeaves};
 
-use coeff_call::CoeffAnswer;
 use context_record::HfBlockContext;
 use lent_check::GroupSides;
 
@@ -45,16 +44,12 @@ pub extern "C" fn netbuff_coefficients<'a, 'b>(
     ensures { CoeffLeaves (with (said_at result x.new y.new) symbols_read.new) log.new grid0.new grid1.new grid2.new symbols_read.old
         (call (lent (pass_group (group_sides bw bh) kinds.now hf_mul.now (record_of num_block_clusters lengths.now lf_thresholds.now qf_thresholds.now block_ctx_map.now) lf_there lf0.now lf1.now lf2.now store.now) presets cluster_map.now shift bytes.now symbols.now log.old grid0.old grid1.old grid2.old)) }
 {
-    let list_lengths = *lengths;
-    let lf_lists = *lf_thresholds;
-    let qf_list = *qf_thresholds;
-    let context_map = *block_ctx_map;
     let contexts = HfBlockContext {
         num_block_clusters,
-        lengths: list_lengths,
-        lf_thresholds: lf_lists,
-        qf_thresholds: qf_list,
-        block_ctx_map: context_map,
+        lengths: *lengths,
+        lf_thresholds: *lf_thresholds,
+        qf_thresholds: *qf_thresholds,
+        block_ctx_map: *block_ctx_map,
     };
     let answer = coeff_call::write_hf_coeff(
         GroupSides { bw, bh },
@@ -77,13 +72,13 @@ pub extern "C" fn netbuff_coefficients<'a, 'b>(
         grid2,
     );
     match answer {
-        CoeffAnswer::Accepted(at) => {
+        Ok(at) => {
             *symbols_read = at;
             *x = 0;
             *y = 0;
             0
         }
-        CoeffAnswer::Refused(refusal) => {
+        Err(refusal) => {
             let said = refusal.numbers();
             *x = said.x;
             *y = said.y;

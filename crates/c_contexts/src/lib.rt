@@ -7,9 +7,8 @@ ghost use Rattle.context_record.specs.Record.{record_of};
 ghost use Rattle.context_call.specs.Call.{parsed};
 ghost use Rattle.c_contexts.specs.Contexts.{results, answered};
 
-use context_call::ContextAnswer;
-
 // Beside a refusal the record and the bits read stay as they were.
+#[tactic(auto, using(context_call::specs::laws::Parts::was_accepted, context_call::specs::laws::Parts::was_refused))]
 #[unsafe(no_mangle)]
 pub extern "C" fn netbuff_block_context<'a, 'b>(
     bytes: &'a [u8],
@@ -29,7 +28,7 @@ pub extern "C" fn netbuff_block_context<'a, 'b>(
         ≡ handed (answered (parsed bytes.now num_clusters map.now))
         (results (record_of num_block_clusters.old lengths.old lf_thresholds.old qf_thresholds.old block_ctx_map.old) bits_read.old) }
 {
-    let parts = context_call::parse_into(
+    let parsed = context_call::parse_into(
         bytes,
         num_clusters,
         map,
@@ -37,18 +36,17 @@ pub extern "C" fn netbuff_block_context<'a, 'b>(
         qf_thresholds,
         block_ctx_map,
     );
-    let answer = parts.answer;
-    let list_lengths = parts.lengths;
-    match answer {
-        ContextAnswer::Accepted(read) => {
+    match parsed {
+        Ok(parts) => {
+            let list_lengths = parts.lengths;
             *num_block_clusters = parts.num_block_clusters;
             *lengths = list_lengths;
-            *bits_read = read;
+            *bits_read = parts.bits_read;
             *x = 0;
             *y = 0;
             0
         }
-        ContextAnswer::Refused(refusal) => {
+        Err(refusal) => {
             let said = refusal.numbers();
             *x = said.x;
             *y = said.y;

@@ -9,9 +9,6 @@ ghost use Rattle.lent_likeness.specs.Like.{filtered};
 ghost use Rattle.lent_likeness.specs.Calls.{like_of};
 ghost use Rattle.c_groups.specs.Record.{CutLeaves};
 
-use lent_cut::cut::CutAnswer;
-use lent_likeness::LikeAnswer;
-
 // Beside a refusal the sides stay as they were.
 #[unsafe(no_mangle)]
 pub extern "C" fn netbuff_cut(
@@ -32,14 +29,14 @@ pub extern "C" fn netbuff_cut(
 {
     let answer = lent_cut::cut::cut(bw, bh, kinds, hf_mul, index, out_kinds, out_hf_mul);
     match answer {
-        CutAnswer::Accepted(group) => {
+        Ok(group) => {
             *out_bw = group.bw;
             *out_bh = group.bh;
             *x = 0;
             *y = 0;
             0
         }
-        CutAnswer::Refused(refusal) => {
+        Err(refusal) => {
             let said = refusal.numbers();
             *x = said.x;
             *y = said.y;
@@ -72,19 +69,13 @@ pub extern "C" fn netbuff_alike(
         bw, bh, kinds, hf_mul, sigma, bw2, bh2, kinds2, hf_mul2, sigma2,
     );
     match answer {
-        LikeAnswer::Alike => {
-            *alike = true;
+        Ok(like) => {
+            *alike = like;
             *x = 0;
             *y = 0;
             0
         }
-        LikeAnswer::Unlike => {
-            *alike = false;
-            *x = 0;
-            *y = 0;
-            0
-        }
-        LikeAnswer::Refused(refusal) => {
+        Err(refusal) => {
             let said = refusal.numbers();
             *x = said.x;
             *y = said.y;

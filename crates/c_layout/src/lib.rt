@@ -7,17 +7,16 @@ ghost use Rattle.layout_column_count.specs.Count.{counts, count_of};
 ghost use Rattle.layout_call.specs.Call.{inputs, layout_of};
 ghost use Rattle.c_layout.specs.Layout.{filter_of, LayoutLeaves};
 
-use layout_call::LayoutAnswer;
-use layout_column_count::ColumnCount;
 use layout_filter::Filter;
 
 fn filter_of(on: bool, multiplier: f32) -> Filter
     ensures { result ≡ filter_of on multiplier }
 {
     if on {
-        return Filter::On(multiplier);
+        Filter::On(multiplier)
+    } else {
+        Filter::Off
     }
-    Filter::Off
 }
 
 // Beside a refusal count and bits stay as they were.
@@ -38,14 +37,14 @@ pub extern "C" fn netbuff_column_count(
         ≡ handed (count_of width height (mode0 ∷ mode1 ∷ mode2 ∷ []) bytes.now) (counts count.old bits.old) }
 {
     match layout_column_count::column_count(width, height, [mode0, mode1, mode2], bytes) {
-        ColumnCount::Count(columns, read) => {
+        Ok((columns, read)) => {
             *count = columns;
             *bits = read;
             *x = 0;
             *y = 0;
             0
         }
-        ColumnCount::Refused(refusal) => {
+        Err(refusal) => {
             let said = refusal.numbers();
             *x = said.x;
             *y = said.y;
@@ -95,13 +94,13 @@ pub extern "C" fn netbuff_layout(
         sigma,
     );
     match answer {
-        LayoutAnswer::Accepted(columns) => {
+        Ok(columns) => {
             *used = columns;
             *x = 0;
             *y = 0;
             0
         }
-        LayoutAnswer::Refused(refusal) => {
+        Err(refusal) => {
             let said = refusal.numbers();
             *x = said.x;
             *y = said.y;

@@ -8,8 +8,6 @@ ghost use Rattle.order_store.specs.Store.{places_fit};
 ghost use Rattle.order_store.specs.LookedUp.{stretch_at, stretch_from};
 ghost use Rattle.c_orders.specs.Orders.{OrdersLeave};
 
-use order_call::OrdersAnswer;
-
 // Beside a refusal the number of symbols read stays as it was.
 #[unsafe(no_mangle)]
 pub extern "C" fn netbuff_orders(
@@ -23,15 +21,14 @@ pub extern "C" fn netbuff_orders(
     ensures { OrdersLeave (with (said_at result x.new y.new) symbols_read.new) store.new symbols_read.old
         (parsed bytes.now symbols.now store.old) }
 {
-    let answer = order_call::parse(bytes, symbols, &mut store[..]);
-    match answer {
-        OrdersAnswer::Accepted(at) => {
+    match order_call::parse(bytes, symbols, store) {
+        Ok(at) => {
             *symbols_read = at;
             *x = 0;
             *y = 0;
             0
         }
-        OrdersAnswer::Refused(refusal) => {
+        Err(refusal) => {
             let said = refusal.numbers();
             *x = said.x;
             *y = said.y;

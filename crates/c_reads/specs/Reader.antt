@@ -1,12 +1,10 @@
 -- What the exported reads hand out (document 01, Bits and Refused).
-use Rattle.std.specs.Prelude.{List, ℕ, ◌+◌, ◌*◌, get_or}
+use Rattle.std.specs.Prelude.{List, ℕ, ◌+◌, ◌*◌, Ok, Err, get_or}
 use Rattle.refusal.specs.declared.Refusal.TheVariants.{BitsEnd}
 use Rattle.refusal.specs.Said.{said}
 use Rattle.refusal.specs.Answer.{Answer, gives, refuses}
-use Rattle.bits.specs.declared.Got.{Got}
-use Rattle.bits.specs.declared.Got.TheVariants as got
 use Rattle.bits.specs.Bits.{Choice}
-use Rattle.bits.specs.Reads.{bits_before, choice_of}
+use Rattle.bits.specs.Reads.{Got, bits_before, choice_of}
 
 -- the results: the value, and byte and bit of the place behind it
 pub record Results : Type 0 where
@@ -19,8 +17,8 @@ results v b k = record { value = v; byte = b; bit = k }
 
 -- bits end: 3, with the bits read (document 01, Refused)
 abbrev pub answered : Got → Answer Results
-answered (got.Value v next) = gives (results v next.byte next.bit)
-answered (got.End taken) = refuses (said (BitsEnd taken))
+answered (Ok (v, next)) = gives (results v next.byte next.bit)
+answered (Err end) = refuses (said (BitsEnd end.taken))
 
 -- the bits before a place
 abbrev pub bits_at : ℕ → ℕ → ℕ

@@ -8,13 +8,13 @@ ghost use Rattle.bits.specs.Reads.{got_of};
 ghost use Rattle.coded_numbers.specs.Signed.{unpack_signed};
 ghost use Rattle.c_reads.specs.Reader.{results, answered, bits_at, choice};
 
-use bits::{BitPlace, Got, U32Specifier};
+use bits::{BitPlace, End, U32Specifier};
 use refusal::Refusal;
 
 // The value and the place behind it, or the refusal and the bits that the read took; value and place
 // then stay as they were.
 fn hand_out(
-    got: Got,
+    got: Result<(u32, BitPlace), End>,
     value: &mut u32,
     next_byte: &mut usize,
     next_bit: &mut u32,
@@ -24,16 +24,16 @@ fn hand_out(
         ≡ handed (answered got) (results value.old next_byte.old next_bit.old) }
 {
     match got {
-        Got::Value(v, next) => {
+        Ok((v, next)) => {
             *value = v;
             *next_byte = next.byte;
             *next_bit = next.bit;
             *taken = 0;
             0
         }
-        Got::End(bits) => {
-            let said = Refusal::BitsEnd(bits as usize).numbers();
-            *taken = bits;
+        Err(end) => {
+            let said = Refusal::BitsEnd(end.taken as usize).numbers();
+            *taken = end.taken;
             said.number
         }
     }

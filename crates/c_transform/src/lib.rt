@@ -6,7 +6,7 @@ ghost use Rattle.refusal.specs.Handed.{with, handed};
 ghost use Rattle.dct_select.specs.LookUp.{look_up};
 ghost use Rattle.c_transform.specs.Transform.{results, answered};
 
-use dct_select::{Looked, TransformType};
+use dct_select::TransformType;
 
 // Beside a refusal the four results stay as they were.
 #[unsafe(no_mangle)]
@@ -22,8 +22,8 @@ pub extern "C" fn netbuff_transform(
     ensures { with (said_at result x.new y.new) (results wide.new high.new order.new turn.new)
         ≡ handed (answered (look_up number)) (results wide.old high.old order.old turn.old) }
 {
-    match TransformType::from_number(number) {
-        Looked::Known(t) => {
+    match TransformType::try_from(number) {
+        Ok(t) => {
             let size = t.dct_select_size();
             *wide = size.wide;
             *high = size.high;
@@ -33,7 +33,7 @@ pub extern "C" fn netbuff_transform(
             *y = 0;
             0
         }
-        Looked::Refused(refusal) => {
+        Err(refusal) => {
             let said = refusal.numbers();
             *x = said.x;
             *y = said.y;

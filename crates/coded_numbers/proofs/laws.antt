@@ -1,3 +1,4 @@
 -- what is proved from the definitions
+pub mod ByStep
 pub mod Exponent
 pub mod Signed

@@ -1,12 +1,11 @@
 -- The coefficient call (document 01, Coefficients and Refused; document 02, No. 8).
-use Rattle.std.specs.Prelude.{Bool, List, [], ◌∷◌, ℕ, length, get_or}
+use Rattle.std.specs.Prelude.{Bool, List, [], ◌∷◌, ℕ, length, get_or, Result}
+use Rattle.refusal.specs.declared.Refusal.{Refusal}
 use Rattle.refusal.specs.declared.Said.{Said}
 use Rattle.refusal.specs.Said.{said}
-use Rattle.refusal.specs.Answer.{Answer, gives, refuses, answered_by}
+use Rattle.refusal.specs.Answer.{Answer, gives, refuses, answered, answered_by}
 use Rattle.bits.specs.Bits.{Read, read_bits}
 use Rattle.coded_numbers.specs.Exponent.{exponent}
-use Rattle.coeff_call.specs.declared.CoeffAnswer.{CoeffAnswer}
-use Rattle.coeff_call.specs.declared.CoeffAnswer.TheVariants.{Accepted, Refused}
 use Rattle.coeff_group.specs.PassGroup.{PassGroup}
 use Rattle.coeff_group.specs.Group.{PerChannel, Reading, going, refused}
 use Rattle.coeff_group.specs.Work.{preset_map_of, reading_by}
@@ -38,18 +37,14 @@ lent pass_group presets cluster_map shift bytes symbols log g0 g1 g2 =
       grids = g0 ∷ g1 ∷ g2 ∷ [];
     }
 
--- symbols read, or a refusal's number and position
-abbrev pub answered : CoeffAnswer → Answer ℕ
-answered (Accepted at) = gives at
-answered (Refused why) = refuses (said why)
-
 -- the answer, and what log and grids hold then
 pub record Outcome : Type 0 where
   pub answer : Answer ℕ
   pub log : List ℕ
   pub grids : PerChannel
 
-abbrev pub leaves : CoeffAnswer → (log g0 g1 g2 : List ℕ) → Outcome
+-- what the code answers, symbols read or a refusal, beside them
+abbrev pub leaves : Result ℕ Refusal → (log g0 g1 g2 : List ℕ) → Outcome
 leaves r log g0 g1 g2 = record { answer = answered r; log = log; grids = g0 ∷ g1 ∷ g2 ∷ [] }
 
 -- Checks before work: of log and grids the lengths alone (CallLaws, steady).

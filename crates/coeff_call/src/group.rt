@@ -6,10 +6,9 @@ ghost use Rattle.coeff_group.specs.laws.Due.{GroupReady, GroupShown, whole_of};
 
 use crate::plan::plan_of;
 use crate::varblock::read_varblock;
-use coeff_walk::WalkEnd;
-use coeff_walk::walked::{is_stopped, read_by};
 use context_record::HfBlockContext;
 use lent_check::GroupSides;
+use refusal::Refusal;
 
 // Holds the rows of counts. `preset_map` is the preset's part of the cluster map.
 pub(crate) fn read_group<'a>(
@@ -29,7 +28,7 @@ pub(crate) fn read_group<'a>(
     g0: &mut [u32],
     g1: &mut [u32],
     g2: &mut [u32],
-) -> WalkEnd
+) -> Result<usize, Refusal>
     requires { GroupReady (pass_group group kinds.now hf_mul.now contexts lf_there lf0.now lf1.now lf2.now store.now) contexts.num_block_clusters (length preset_map.now) shift (length log.old) }
     ensures { GroupShown result log.new (g0.new ∷ g1.new ∷ g2.new ∷ []) (whole_of shift contexts.num_block_clusters preset_map.now (pass_group group kinds.now hf_mul.now contexts lf_there lf0.now lf1.now lf2.now store.now) symbols.now log.old (g0.old ∷ g1.old ∷ g2.old ∷ [])) × AllUseUp (group_items (pass_group group kinds.now hf_mul.now contexts lf_there lf0.now lf1.now lf2.now store.now)) symbols.now 0 result }
 {
@@ -39,14 +38,11 @@ pub(crate) fn read_group<'a>(
     let lengths = contexts.lengths;
     let mut rows = [[0u32; 32]; 3];
     let mut at = 0;
-    let mut y = 0;
-    while y < bh {
-        let mut x = 0;
-        while x < bw {
+    for y in 0..bh {
+        for x in 0..bw {
             let i = y * bw + x;
             let kind = kinds[i];
             if kind < 2 {
-                x += 1;
                 continue;
             }
             let plan = plan_of(
@@ -64,17 +60,11 @@ pub(crate) fn read_group<'a>(
                 lf1,
                 lf2,
             );
-            let walk = read_varblock(
+            at = read_varblock(
                 plan, group, clusters, preset_map, store, symbols, at, shift, &mut rows, log, g0,
                 g1, g2,
-            );
-            if is_stopped(walk) {
-                return walk;
-            }
-            at = read_by(walk);
-            x += 1;
+            )?;
         }
-        y += 1;
     }
-    WalkEnd::Done(at)
+    Ok(at)
 }

@@ -2,11 +2,10 @@
 // The coefficients of a pass group (`hf_coeff.rs`).
 use crate::group::read_group;
 use coeff_checks::before_work;
-use coeff_preset::{PresetAnswer, read_preset};
-use coeff_walk::WalkEnd;
+use coeff_preset::read_preset;
 use context_record::HfBlockContext;
 use lent_check::GroupSides;
-use refusal::{Checked, Refusal};
+use refusal::Refusal;
 
 pub mod group;
 pub mod plan;
@@ -16,24 +15,6 @@ pub mod varblock;
 ghost use Rattle.std.specs.Prelude.{◌≡◌, ◌+◌, ◌*◌, ◌≤◌, ◌<◌, length, take, drop};
 ghost use Rattle.coeff_group.specs.PassGroup.{pass_group};
 ghost use Rattle.coeff_call.specs.Call.{lent, leaves, call};
-ghost use Rattle.coeff_call.specs.laws.CallSteps.{answer_by};
-
-// Symbols read, or a refusal.
-#[derive(Clone, Copy)]
-pub enum CoeffAnswer {
-    Accepted(usize),
-    Refused(Refusal),
-}
-
-// What a reading of the group gives.
-fn answer(walk: WalkEnd) -> CoeffAnswer
-    ensures { result ≡ answer_by walk }
-{
-    match walk {
-        WalkEnd::Done(at) => CoeffAnswer::Accepted(at),
-        WalkEnd::Stopped(why) => CoeffAnswer::Refused(why),
-    }
-}
 
 // The part of a preset in the cluster map.
 fn preset_map_of(cluster_map: &[u8], clusters: u32, preset: u32) -> &[u8]
@@ -46,7 +27,8 @@ fn preset_map_of(cluster_map: &[u8], clusters: u32, preset: u32) -> &[u8]
     &cluster_map[a..e]
 }
 
-// Reads the coefficients of a group: the preset number from `bytes`, then counts and coefficients from `symbols`. Adds them to the grids of channels 0, 1, 2 and logs the cluster of each symbol.
+// Reads the coefficients of a group: the preset number from `bytes`, then counts and coefficients from `symbols`. Adds them to
+// the grids of channels 0, 1, 2, logs the cluster of each symbol, and tells how many symbols are read.
 pub fn write_hf_coeff<'a>(
     group: GroupSides,
     kinds: &'a [u8],
@@ -66,10 +48,10 @@ pub fn write_hf_coeff<'a>(
     g0: &mut [u32],
     g1: &mut [u32],
     g2: &mut [u32],
-) -> CoeffAnswer
+) -> Result<usize, Refusal>
     ensures { leaves result log.new g0.new g1.new g2.new ≡ call (lent (pass_group group kinds.now hf_mul.now contexts lf_there lf0.now lf1.now lf2.now store.now) presets cluster_map.now shift bytes.now symbols.now log.old g0.old g1.old g2.old) }
 {
-    let checked = before_work(
+    before_work(
         group,
         kinds,
         hf_mul,
@@ -86,30 +68,24 @@ pub fn write_hf_coeff<'a>(
         g0.len(),
         g1.len(),
         g2.len(),
-    );
-    if let Checked::Refused(why) = checked {
-        return CoeffAnswer::Refused(why);
-    }
-    let chosen = read_preset(bytes, presets);
-    match chosen {
-        PresetAnswer::Refused(why) => CoeffAnswer::Refused(why),
-        PresetAnswer::Number(preset) => answer(read_group(
-            group,
-            kinds,
-            hf_mul,
-            contexts,
-            lf_there,
-            lf0,
-            lf1,
-            lf2,
-            store,
-            preset_map_of(cluster_map, contexts.num_block_clusters, preset),
-            shift,
-            symbols,
-            log,
-            g0,
-            g1,
-            g2,
-        )),
-    }
+    )?;
+    let preset = read_preset(bytes, presets)?;
+    read_group(
+        group,
+        kinds,
+        hf_mul,
+        contexts,
+        lf_there,
+        lf0,
+        lf1,
+        lf2,
+        store,
+        preset_map_of(cluster_map, contexts.num_block_clusters, preset),
+        shift,
+        symbols,
+        log,
+        g0,
+        g1,
+        g2,
+    )
 }

@@ -7,7 +7,7 @@ ghost use Rattle.coeff_group.specs.laws.Plans.{shape_of, plan_by};
 use coeff_group::plan::Plan;
 use coeff_walk::shape::Shape;
 use context_index::block_contexts;
-use dct_select::{Looked, TransformType};
+use dct_select::TransformType;
 use lent_check::GroupSides;
 
 // The exponent of each transform's number of blocks.
@@ -15,22 +15,16 @@ const EXPONENTS: [u8; 27] = [
     0, 0, 0, 0, 2, 4, 1, 1, 2, 2, 3, 3, 0, 0, 0, 0, 0, 0, 6, 5, 5, 8, 7, 7, 10, 9, 9,
 ];
 
-fn to_usize(x: u8) -> usize
-    ensures { result ≡ x }
-{
-    x as usize
-}
-
 // The exponent of the number of blocks of a corner's kind.
 fn exponent_of(kind: u8) -> usize
     requires { 2 ≤ kind }
     ensures { result ≡ exponent_of (kind - 2) }
 {
-    let t = to_usize(kind - 2);
+    let t = (kind - 2) as usize;
     if 27 <= t {
         return 0;
     }
-    to_usize(EXPONENTS[t])
+    EXPONENTS[t] as usize
 }
 
 // The corner, size and turn of a corner's kind.
@@ -38,9 +32,8 @@ pub(crate) fn shape_of(x: usize, y: usize, kind: u8) -> Shape
     requires { 2 ≤ kind }
     ensures { result ≡ shape_of x y (kind - 2) }
 {
-    let looked = TransformType::from_number((kind - 2) as u32);
-    match looked {
-        Looked::Known(t) => {
+    match TransformType::try_from(u32::from(kind - 2)) {
+        Ok(t) => {
             let size = t.dct_select_size();
             let turn = t.need_transpose();
             let exponent = exponent_of(kind);
@@ -52,7 +45,7 @@ pub(crate) fn shape_of(x: usize, y: usize, kind: u8) -> Shape
                 turn,
             }
         }
-        Looked::Refused(_) => Shape {
+        Err(_) => Shape {
             x,
             y,
             wide: 0,
@@ -67,10 +60,9 @@ pub(crate) fn order_of(kind: u8) -> usize
     requires { 2 ≤ kind }
     ensures { result ≡ order_of (kind - 2) }
 {
-    let looked = TransformType::from_number((kind - 2) as u32);
-    match looked {
-        Looked::Known(t) => t.order_id(),
-        Looked::Refused(_) => 0,
+    match TransformType::try_from(u32::from(kind - 2)) {
+        Ok(t) => t.order_id(),
+        Err(_) => 0,
     }
 }
 
@@ -78,10 +70,7 @@ pub(crate) fn order_of(kind: u8) -> usize
 pub(crate) fn number_at(grid: &[u32], i: usize) -> u32
     ensures { result ≡ get_or grid.now i 0 }
 {
-    if grid.len() <= i {
-        return 0;
-    }
-    grid[i]
+    grid.get(i).copied().unwrap_or(0)
 }
 
 // The varblock of a corner's kind and hf_mul at block x, y.

@@ -7,9 +7,5 @@ pub(crate) fn rewrite(row: &mut [u32; 32], x: usize, n: usize, v: u32)
     requires { x + n ≤ 32 }
     ensures { row.new ≡ fill_from row.old x n v }
 {
-    let mut k = 0;
-    while k < n {
-        row[x + k] = v;
-        k += 1;
-    }
+    row[x..x + n].fill(v);
 }

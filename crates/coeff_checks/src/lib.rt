@@ -6,17 +6,18 @@ use context_record::fit::is_fit;
 use lent_check::GroupSides;
 use lent_sides::limits::in_limits;
 use order_places::places_fit;
-use refusal::{Checked, Refusal};
+use refusal::Refusal;
 
 pub mod checks;
 
 ghost use Rattle.std.specs.Prelude.{◌≡◌};
-ghost use Rattle.refusal.specs.laws.Answer.{checked};
+ghost use Rattle.refusal.specs.Answer.{answered};
 ghost use Rattle.coeff_group.specs.PassGroup.{pass_group};
 ghost use Rattle.coeff_checks.specs.Checks.{before_work};
 
 // All checks before work: 2, 11, 12, 1, 18, stored places (13). Of the cluster map, the log and the grids they look at the
 // lengths alone.
+#[tactic(auto, unfolding(crate::specs::Checks::before_work))]
 pub fn before_work<'a>(
     group: GroupSides,
     kinds: &'a [u8],
@@ -34,19 +35,19 @@ pub fn before_work<'a>(
     g0_length: usize,
     g1_length: usize,
     g2_length: usize,
-) -> Checked
-    ensures { checked result ≡ before_work (pass_group group kinds.now hf_mul.now contexts lf_there lf0.now lf1.now lf2.now store.now) presets shift cluster_map_length log_length g0_length g1_length g2_length }
+) -> Result<(), Refusal>
+    ensures { answered result ≡ before_work (pass_group group kinds.now hf_mul.now contexts lf_there lf0.now lf1.now lf2.now store.now) presets shift cluster_map_length log_length g0_length g1_length g2_length }
 {
     let bw = group.bw;
     let bh = group.bh;
     if !in_limits(32, bw, bh) {
-        return Checked::Refused(Refusal::Size);
+        return Err(Refusal::Size);
     }
     if !parameters_fit(shift, presets) {
-        return Checked::Refused(Refusal::Parameter);
+        return Err(Refusal::Parameter);
     }
     if !is_fit(contexts) {
-        return Checked::Refused(Refusal::Context);
+        return Err(Refusal::Context);
     }
     let n = bh * bw;
     let clusters = contexts.num_block_clusters as usize;
@@ -71,13 +72,13 @@ pub fn before_work<'a>(
         n,
         read,
     ) {
-        return Checked::Refused(Refusal::Length);
+        return Err(Refusal::Length);
     }
     if !layout_fits(group, kinds, hf_mul) {
-        return Checked::Refused(Refusal::Layout);
+        return Err(Refusal::Layout);
     }
     if !places_fit(store) {
-        return Checked::Refused(Refusal::StoredPlace);
+        return Err(Refusal::StoredPlace);
     }
-    Checked::Fine
+    Ok(())
 }

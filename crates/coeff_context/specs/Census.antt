@@ -1,9 +1,6 @@
 -- The context census: the situations that it speaks of, and the context of each (document 02, No. 9).
 use Rattle.std.specs.Prelude.{◌≡◌, Bool, ◌&&◌, ◌||◌, ℕ, ◌+◌, ◌*◌, ◌-◌, ◌/◌, ◌^◌, ◌≤◌, leb, eqb, get_or}
-use Rattle.refusal.specs.Said.{said}
-use Rattle.refusal.specs.Answer.{Answer, gives, refuses, unless}
-use Rattle.coeff_context.specs.declared.CensusAnswer.{CensusAnswer}
-use Rattle.coeff_context.specs.declared.CensusAnswer.TheVariants.{Context, Refused}
+use Rattle.refusal.specs.Answer.{Answer, gives, unless}
 use Rattle.coeff_context.specs.Context.{FREQ, NUM_NONZERO, coeff_context}
 
 -- of a coefficient: the blocks of its varblock, the remaining count (how many that are not 0 are still due), its place, from 0, and the previous flag
@@ -60,7 +57,3 @@ speaks_of s = is_power s.blocks && leb 1 s.count && leb (s.count + s.place) (63 
 
 unfoldable pub census_of : Situation → Answer ℕ
 census_of s = unless 11 (speaks_of s) (gives (context_of s))
-
-abbrev pub answered : CensusAnswer → Answer ℕ
-answered (Context k) = gives k
-answered (Refused why) = refuses (said why)

@@ -1,5 +1,5 @@
 -- A pass group: what a coefficient call holds fixed, and the channels of its varblocks (document 01, Coefficients; `hf_coeff.rs`).
-use Rattle.std.specs.Prelude.{Bool, List, [], ◌∷◌, ◌++◌, ℕ, ◌+◌, ◌*◌, get_or, drop}
+use Rattle.std.specs.Prelude.{Bool, List, [], ◌∷◌, ◌++◌, ℕ, ◌*◌, get_or, drop}
 use Rattle.dct_select.specs.Transforms.{wide, high, order_of, turns}
 use Rattle.layout.specs.Grid.{block_at}
 use Rattle.layout.specs.Varblocks.{Varblock, varblocks_of}

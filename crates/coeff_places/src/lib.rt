@@ -1,8 +1,6 @@
 #![tactic(auto)]
 // The places of one channel of a varblock: the coefficients behind its count (`hf_coeff.rs`).
 use crate::walk::walk_places;
-use coeff_context::tables::{COEFF_FREQ_CONTEXT, COEFF_NUM_NONZERO_CONTEXT};
-use coeff_walk::WalkEnd;
 use coeff_walk::spot::Spot;
 use refusal::Refusal;
 
@@ -10,19 +8,9 @@ pub mod context;
 pub mod place;
 pub mod walk;
 
-ghost use Rattle.std.specs.Prelude.{◌≡◌, ◌≤◌, if◌then◌else◌};
+ghost use Rattle.std.specs.Prelude.{◌≡◌, ◌≤◌};
 ghost use Rattle.coeff_walk.specs.laws.Outcome.{WalkShown, UsesUp};
 ghost use Rattle.coeff_walk.specs.laws.Lent.{spot_small, lent_fits, places_read};
-
-// 1 for true.
-fn to_usize(b: bool) -> usize
-    ensures { (result ≡ (if b then 1 else 0)) × (result ≤ 1) }
-{
-    if b {
-        return 1;
-    }
-    0
-}
 
 // The limits hold.
 fn spot_small(spot: Spot, shift: u32) -> bool
@@ -32,6 +20,7 @@ fn spot_small(spot: Spot, shift: u32) -> bool
 }
 
 // What is lent fits: lengths and limits.
+#[tactic(auto, using(coeff_walk::proofs::laws::Counts::shifted_left), unfolding(coeff_walk::specs::laws::Lent::lent_fits))]
 fn lent_fits(
     spot: Spot,
     list_length: usize,
@@ -42,15 +31,11 @@ fn lent_fits(
 ) -> bool
     ensures { result ≡ lent_fits spot list_length at coeff_map_length shift log_length }
 {
-    if !spot_small(spot, shift) {
-        return false;
-    }
-    if log_length < at {
-        return false;
-    }
-    (list_length / 2 <= 63 << spot.exponent)
-        & (coeff_map_length == 458)
-        & (list_length / 2 <= log_length - at)
+    spot_small(spot, shift)
+        && at <= log_length
+        && list_length / 2 <= 63 << spot.exponent
+        && coeff_map_length == 458
+        && list_length / 2 <= log_length - at
 }
 
 // The coefficients behind a count of `count`: refused where what is lent does not fit. `list` is the channel's without its
@@ -67,26 +52,22 @@ pub fn read_places(
     shift: u32,
     log: &mut [u8],
     grid: &mut [u32],
-) -> WalkEnd
+) -> Result<usize, Refusal>
     ensures { WalkShown result log.new grid.new (places_read spot list.now symbols.now at count first_prev coeff_map.now shift log.old grid.old) × UsesUp count symbols.now at result }
 {
     if !lent_fits(spot, list.len(), at, coeff_map.len(), shift, log.len()) {
-        return WalkEnd::Stopped(Refusal::Length);
+        return Err(Refusal::Length);
     }
     if 63 << spot.exponent < count {
-        return WalkEnd::Stopped(Refusal::Count(at));
+        return Err(Refusal::Count(at));
     }
-    let nonzeros = COEFF_NUM_NONZERO_CONTEXT;
-    let frequencies = COEFF_FREQ_CONTEXT;
     walk_places(
-        &nonzeros,
-        &frequencies,
         list,
         spot,
         symbols,
         at,
         count,
-        to_usize(first_prev),
+        usize::from(first_prev),
         coeff_map,
         shift,
         log,

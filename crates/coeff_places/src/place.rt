@@ -4,21 +4,13 @@ ghost use Rattle.coeff_walk.specs.laws.Outcome.{spot_cells};
 
 use coeff_walk::spot::Spot;
 
-fn to_usize(x: u16) -> usize
-    ensures { (result ≡ x) × (result ≤ 65535) }
-{
-    x as usize
-}
-
 // The cell of place k.
 pub(crate) fn cell_of(list: &[u16], k: usize, spot: Spot) -> usize
     requires { (k < length list.now / 2) × (spot.width ≤ 256) × (spot.x ≤ 256) × (spot.y ≤ 256) }
     ensures { result ≡ slice_index (spot_cells spot list.now) k }
 {
-    let i = 2 * k;
-    let a = to_usize(list[i]);
-    let j = i + 1;
-    let b = to_usize(list[j]);
+    let a = list[2 * k] as usize;
+    let b = list[2 * k + 1] as usize;
     if spot.turn {
         return (spot.y + a) * spot.width + (spot.x + b);
     }

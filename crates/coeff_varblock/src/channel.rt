@@ -7,16 +7,9 @@ ghost use Rattle.coeff_group.specs.laws.Steps.{InGrid};
 
 use crate::count::{count_cluster, first_prev};
 use coeff_places::read_places;
-use coeff_walk::WalkEnd;
 use coeff_walk::shape::Shape;
 use coeff_walk::spot::Spot;
 use refusal::Refusal;
-
-fn to_usize(x: u32) -> usize
-    ensures { result ≡ x }
-{
-    x as usize
-}
 
 // The first cell of a varblock, in a grid of a group `bw` blocks wide.
 fn spot_of(v: Shape, bw: usize) -> Spot
@@ -47,18 +40,18 @@ fn read_counted<'a>(
     shift: u32,
     log: &mut [u8],
     grid: &mut [u32],
-) -> WalkEnd
+) -> Result<usize, Refusal>
     requires { ItemReady v bw block_context clusters (length preset_map.now) (length list.now) at shift (length log.old) }
     ensures { WalkShown result log.new grid.new (counted shift clusters preset_map.now (item_at v bw block_context list.now) row.now (drop at symbols.now) at log.old grid.old) × AllUseUp (item_at v bw block_context list.now ∷ []) symbols.now at result }
 {
     if symbols.len() <= at {
-        return WalkEnd::Stopped(Refusal::SymbolsEnd(at));
+        return Err(Refusal::SymbolsEnd(at));
     }
-    let n = to_usize(symbols[at]);
+    let n = symbols[at] as usize;
     log[at] = count_cluster(preset_map, row, v.x, v.y, block_context, clusters);
     let next = at + 1;
     if n == 0 {
-        return WalkEnd::Done(next);
+        return Ok(next);
     }
     let spot = spot_of(v, bw);
     let prev = first_prev(n, v.exponent);
@@ -79,7 +72,8 @@ fn read_counted<'a>(
     )
 }
 
-// Channel c, in its grid.
+// Channel c, in its grid. A call for each: the C interface lends three grids, and a choice among three that are lent, before one
+// call, loses what each of them ends as.
 pub(crate) fn read_in_grid<'a>(
     c: usize,
     v: Shape,
@@ -96,7 +90,7 @@ pub(crate) fn read_in_grid<'a>(
     g0: &mut [u32],
     g1: &mut [u32],
     g2: &mut [u32],
-) -> WalkEnd
+) -> Result<usize, Refusal>
     requires { (c < 3) × ItemReady v bw block_context clusters (length preset_map.now) (length list.now) at shift (length log.old) }
     ensures { InGrid c (g0.old ∷ g1.old ∷ g2.old ∷ []) result log.new (g0.new ∷ g1.new ∷ g2.new ∷ []) (λ g. counted shift clusters preset_map.now (item_at v bw block_context list.now) row.now (drop at symbols.now) at log.old g) × AllUseUp (item_at v bw block_context list.now ∷ []) symbols.now at result }
 {

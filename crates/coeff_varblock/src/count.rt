@@ -2,12 +2,6 @@
 ghost use Rattle.std.specs.Prelude.{◌≡◌, ◌+◌, ◌*◌, ◌^◌, ◌≤◌, ◌<◌, leb, get_or};
 ghost use Rattle.coeff_walk.specs.Item.{predicted, count_index, count_over};
 
-fn to_usize(x: u32) -> usize
-    ensures { (result ≡ x) × (result ≤ 4294967295) }
-{
-    x as usize
-}
-
 // The count that a row predicts at block x, y.
 fn predict(row: &[u32; 32], x: usize, y: usize) -> usize
     requires { x < 32 }
@@ -17,14 +11,12 @@ fn predict(row: &[u32; 32], x: usize, y: usize) -> usize
         if x == 0 {
             return 32;
         }
-        let w = x - 1;
-        return to_usize(row[w]);
+        return row[x - 1] as usize;
     }
     if x == 0 {
-        return to_usize(row[0]);
+        return row[0] as usize;
     }
-    let w = x - 1;
-    (to_usize(row[x]) + to_usize(row[w]) + 1) / 2
+    (row[x] as usize + row[x - 1] as usize + 1) / 2
 }
 
 fn count_index(p: usize) -> usize
@@ -37,6 +29,7 @@ fn count_index(p: usize) -> usize
 }
 
 // A count of at most four for each of 2 to the power `exponent` blocks.
+#[tactic(auto, using(coeff_walk::proofs::laws::Counts::shifted_left))]
 pub(crate) fn first_prev(n: usize, exponent: usize) -> bool
     requires { exponent ≤ 10 }
     ensures { result ≡ leb n (4 * 2 ^ exponent) }
@@ -45,6 +38,7 @@ pub(crate) fn first_prev(n: usize, exponent: usize) -> bool
 }
 
 // A count over 2 to the power `exponent` blocks, rounded up.
+#[tactic(auto, using(coeff_walk::proofs::laws::Counts::shifted_left, coeff_walk::proofs::laws::Counts::power_le, coeff_walk::proofs::laws::Counts::count_over_lem))]
 pub(crate) fn count_over(n: usize, exponent: usize) -> u32
     requires { (exponent ≤ 10) × (n ≤ 63 * 2 ^ exponent) }
     ensures { result ≡ count_over n (2 ^ exponent) }
@@ -67,8 +61,5 @@ pub(crate) fn count_cluster(
 {
     let predicted = predict(row, x, y);
     let entry = block_context + count_index(predicted) * clusters;
-    if preset_map.len() <= entry {
-        return 0;
-    }
-    preset_map[entry]
+    preset_map.get(entry).copied().unwrap_or(0)
 }

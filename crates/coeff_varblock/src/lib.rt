@@ -3,8 +3,6 @@
 use crate::channel::read_in_grid;
 use crate::count::count_over;
 use coeff_group::plan::Plan;
-use coeff_walk::WalkEnd;
-use coeff_walk::walked::{is_stopped, read_by};
 use lent_check::GroupSides;
 use order_store::{Stretch, stretch_of};
 use refusal::Refusal;
@@ -20,12 +18,6 @@ ghost use Rattle.coeff_group.specs.laws.Plans.{channel_walked, items_by, Planned
 ghost use Rattle.coeff_group.specs.laws.Channel.{ChannelShown};
 ghost use Rattle.coeff_group.specs.laws.Lent.{varblock_small, varblock_fits, planned_read};
 
-fn to_usize(x: u32) -> usize
-    ensures { result ≡ x }
-{
-    x as usize
-}
-
 // The channel that is walked n-th. A `match`, since a constant array is laid out anew wherever it is named.
 fn channel_walked(n: usize) -> usize
     requires { n < 3 }
@@ -39,6 +31,7 @@ fn channel_walked(n: usize) -> usize
 }
 
 // The list of channel c, where `lists` is that of channel 0: the three stand one behind the other.
+#[tactic(auto, using(coeff_group::proofs::laws::Stored::of_three))]
 fn list_of(store: &[u16], lists: Stretch, c: usize) -> &[u16]
     requires { (c < 3) × (lists.first + 3 * lists.len ≤ length store.now) }
     ensures { result.now ≡ take lists.len (drop (lists.first + c * lists.len) store.now) }
@@ -49,14 +42,8 @@ fn list_of(store: &[u16], lists: Stretch, c: usize) -> &[u16]
     &store[a..e]
 }
 
-// How the reading of a channel ended, and what its count comes to over the varblock's blocks; 0 where it was stopped.
-#[derive(Clone, Copy)]
-struct ChannelRead {
-    walk: WalkEnd,
-    count_over: u32,
-}
-
-// The channel that is walked n-th, of what fits. `lists` is where the order's list of channel 0 lies.
+// The channel that is walked n-th, of what fits: the symbols read, and what its count comes to over the varblock's blocks.
+// `lists` is where the order's list of channel 0 lies.
 fn read_channel<'a>(
     n: usize,
     lists: Stretch,
@@ -73,12 +60,12 @@ fn read_channel<'a>(
     g0: &mut [u32],
     g1: &mut [u32],
     g2: &mut [u32],
-) -> ChannelRead
+) -> Result<(usize, u32), Refusal>
     requires { (n < 3) × (lists ≡ stretch_at (length store.now) plan.order 0) × Planned plan group clusters preset_map.now store.now shift × (at + 64 * 2 ^ plan.shape.exponent ≤ length log.old) }
-    ensures { ChannelShown plan group clusters preset_map.now store.now symbols.now at shift rows.now log.old (g0.old ∷ g1.old ∷ g2.old ∷ []) n result.walk result.count_over log.new (g0.new ∷ g1.new ∷ g2.new ∷ []) }
+    ensures { ChannelShown plan group clusters preset_map.now store.now symbols.now at shift rows.now log.old (g0.old ∷ g1.old ∷ g2.old ∷ []) n result log.new (g0.new ∷ g1.new ∷ g2.new ∷ []) }
 {
     let c = channel_walked(n);
-    let walk = read_in_grid(
+    let next = read_in_grid(
         c,
         plan.shape,
         group.bw,
@@ -94,26 +81,13 @@ fn read_channel<'a>(
         g0,
         g1,
         g2,
-    );
-    if is_stopped(walk) {
-        return ChannelRead {
-            walk,
-            count_over: 0,
-        };
-    }
-    let count_over = count_over(to_usize(symbols[at]), plan.shape.exponent);
-    ChannelRead { walk, count_over }
+    )?;
+    let count_over = count_over(symbols[at] as usize, plan.shape.exponent);
+    Ok((next, count_over))
 }
 
-// How the reading of a varblock ended, and what the counts of channels 0, 1, 2 come to over its blocks; 0 where it was
-// stopped.
-#[derive(Clone, Copy)]
-pub struct VarblockRead {
-    pub walk: WalkEnd,
-    pub counts_over: [u32; 3],
-}
-
-// The three channels in turn, of what fits. `lists` is where the order's list of channel 0 lies.
+// The three channels in turn, of what fits: the symbols read, and what the counts of channels 0, 1, 2 come to over the
+// varblock's blocks. `lists` is where the order's list of channel 0 lies.
 fn read_channels<'a>(
     lists: Stretch,
     plan: Plan,
@@ -129,34 +103,21 @@ fn read_channels<'a>(
     g0: &mut [u32],
     g1: &mut [u32],
     g2: &mut [u32],
-) -> VarblockRead
+) -> Result<(usize, [u32; 3]), Refusal>
     requires { (lists ≡ stretch_at (length store.now) plan.order 0) × Planned plan group clusters preset_map.now store.now shift × (at + 192 * 2 ^ plan.shape.exponent ≤ length log.old) }
-    ensures { VarblockShown plan (items_by plan group store.now) symbols.now at result.walk result.counts_over rows.now log.new (g0.new ∷ g1.new ∷ g2.new ∷ []) (read_items shift clusters preset_map.now (items_by plan group store.now) (going (drop at symbols.now) at log.old (g0.old ∷ g1.old ∷ g2.old ∷ []) (three rows.now))) }
+    ensures { VarblockShown plan (items_by plan group store.now) symbols.now at result rows.now log.new (g0.new ∷ g1.new ∷ g2.new ∷ []) (read_items shift clusters preset_map.now (items_by plan group store.now) (going (drop at symbols.now) at log.old (g0.old ∷ g1.old ∷ g2.old ∷ []) (three rows.now))) }
 {
     let mut counts_over = [0u32; 3];
     let mut at = at;
-    let mut n = 0;
-    while n < 3 {
-        let channel = read_channel(
+    for n in 0..3 {
+        let (next, count_over) = read_channel(
             n, lists, plan, group, clusters, preset_map, store, symbols, at, shift, rows, log, g0,
             g1, g2,
-        );
-        let walk = channel.walk;
-        if is_stopped(walk) {
-            return VarblockRead {
-                walk,
-                counts_over: [0; 3],
-            };
-        }
-        let c = channel_walked(n);
-        counts_over[c] = channel.count_over;
-        at = read_by(walk);
-        n += 1;
+        )?;
+        counts_over[channel_walked(n)] = count_over;
+        at = next;
     }
-    VarblockRead {
-        walk: WalkEnd::Done(at),
-        counts_over,
-    }
+    Ok((at, counts_over))
 }
 
 // A varblock's limits hold.
@@ -176,6 +137,7 @@ fn varblock_small(plan: Plan, group: GroupSides, clusters: usize, shift: u32) ->
 }
 
 // What is lent for a varblock fits: lengths and limits, with `list_length` the numbers in each list of its order.
+#[tactic(auto, using(coeff_walk::proofs::laws::Counts::shifted_left), unfolding(coeff_group::specs::laws::Lent::varblock_fits))]
 fn varblock_fits(
     plan: Plan,
     group: GroupSides,
@@ -188,20 +150,16 @@ fn varblock_fits(
 ) -> bool
     ensures { result ≡ varblock_fits plan group clusters preset_map_length list_length at shift log_length }
 {
-    if !varblock_small(plan, group, clusters, shift) {
-        return false;
-    }
-    if log_length < at {
-        return false;
-    }
-    (preset_map_length == 495 * clusters)
-        & (list_length == 128 << plan.shape.exponent)
-        & (192 << plan.shape.exponent <= log_length - at)
+    varblock_small(plan, group, clusters, shift)
+        && at <= log_length
+        && preset_map_length == 495 * clusters
+        && list_length == 128 << plan.shape.exponent
+        && 192 << plan.shape.exponent <= log_length - at
 }
 
 // The three channels of a varblock, 1, 0, 2 in turn: refused where what is lent does not fit. No channel looks at another's
-// row, so the rows are lent for reading alone: whoever holds them rewrites them by the counts over blocks. `at` is how
-// many symbols are read.
+// row, so the rows are lent for reading alone: whoever holds them rewrites them by the counts over blocks, which stand behind
+// the symbols read, those of channels 0, 1, 2. `at` is how many symbols are read.
 pub fn read_planned<'a>(
     plan: Plan,
     group: GroupSides,
@@ -216,8 +174,8 @@ pub fn read_planned<'a>(
     g0: &mut [u32],
     g1: &mut [u32],
     g2: &mut [u32],
-) -> VarblockRead
-    ensures { VarblockShown plan (items_by plan group store.now) symbols.now at result.walk result.counts_over rows.now log.new (g0.new ∷ g1.new ∷ g2.new ∷ []) (planned_read plan group clusters preset_map.now store.now rows.now symbols.now at shift log.old (g0.old ∷ g1.old ∷ g2.old ∷ [])) }
+) -> Result<(usize, [u32; 3]), Refusal>
+    ensures { VarblockShown plan (items_by plan group store.now) symbols.now at result rows.now log.new (g0.new ∷ g1.new ∷ g2.new ∷ []) (planned_read plan group clusters preset_map.now store.now rows.now symbols.now at shift log.old (g0.old ∷ g1.old ∷ g2.old ∷ [])) }
 {
     let lists = stretch_of(store.len(), plan.order, 0);
     if !varblock_fits(
@@ -230,10 +188,7 @@ pub fn read_planned<'a>(
         shift,
         log.len(),
     ) {
-        return VarblockRead {
-            walk: WalkEnd::Stopped(Refusal::Length),
-            counts_over: [0; 3],
-        };
+        return Err(Refusal::Length);
     }
     read_channels(
         lists, plan, group, clusters, preset_map, store, symbols, at, shift, rows, log, g0, g1, g2,

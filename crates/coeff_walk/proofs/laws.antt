@@ -1,4 +1,5 @@
 -- what is proved from the definitions
+pub mod ByStep
 pub mod Counts
 pub mod Items
 pub mod Kept

@@ -3,13 +3,11 @@ use Rattle.std.specs.Prelude.{cond, List, [], ◌∷◌, ◌++◌, ℕ, ◌*◌,
 use Rattle.refusal.specs.declared.Refusal.TheVariants.{BitsEnd}
 use Rattle.refusal.specs.declared.Said.{Said}
 use Rattle.refusal.specs.Said.{said}
-use Rattle.refusal.specs.Answer.{Answer, gives, refuses, unless, passed, answered_by}
+use Rattle.refusal.specs.Answer.{Answer, gives, refuses, unless, passed, answered_by, answered}
 use Rattle.bits.specs.Bits.{Read, Value, Ended, read_bits}
 use Rattle.context_record.specs.declared.HfBlockContext.{HfBlockContext}
 use Rattle.context_record.specs.Record.{record_of, bsize_of}
 use Rattle.bytes_below.specs.Below.{bytes_below}
-use Rattle.context_call.specs.declared.ContextAnswer.{ContextAnswer}
-use Rattle.context_call.specs.declared.ContextAnswer.TheVariants.{Accepted, Refused}
 use Rattle.context_call.specs.declared.ContextResult.{ContextResult}
 use Rattle.context_thresholds.specs.Thresholds.{Lists, lists_of, read_lists, pad}
 
@@ -28,11 +26,6 @@ no_lists = lists_of [] [] [] []
 abbrev pub DEFAULT_MAP : List ℕ
 DEFAULT_MAP =
     0 ∷ 1 ∷ 2 ∷ 2 ∷ 3 ∷ 3 ∷ 4 ∷ 5 ∷ 6 ∷ 6 ∷ 6 ∷ 6 ∷ 6 ∷ 7 ∷ 8 ∷ 9 ∷ 9 ∷ 10 ∷ 11 ∷ 12 ∷ 13 ∷ 14 ∷ 14 ∷ 14 ∷ 14 ∷ 14 ∷ 7 ∷ 8 ∷ 9 ∷ 9 ∷ 10 ∷ 11 ∷ 12 ∷ 13 ∷ 14 ∷ 14 ∷ 14 ∷ 14 ∷ 14 ∷ []
-
--- the bits read, or a refusal
-abbrev pub answered : ContextAnswer → Answer ℕ
-answered (Accepted at) = gives at
-answered (Refused why) = refuses (said why)
 
 -- the answer, and the record handed back
 pub record Outcome : Type 0 where

@@ -1,3 +1,4 @@
 -- what is proved from the definitions
 pub mod Bounds
+pub mod ByStep
 pub mod Laws

@@ -14,7 +14,8 @@ fn with_place(map: &[u8]) -> &[u8]
     &map[..2496]
 }
 
-// A list, and 0 behind it.
+// A list, and 0 behind it. By hand, here and below: the library's copy asks the host for memmove, and the header promises memcpy
+// and memset alone.
 fn lay(list: &[u8], out: &mut [u8])
     requires { (length list.now ≤ 2496) × (length out.old ≡ 2496) }
     ensures { out.new ≡ pad 2496 list.now }

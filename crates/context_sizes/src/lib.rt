@@ -7,13 +7,11 @@ ghost use Rattle.context_sizes.specs.laws.Sizes.{capped_bsize};
 pub fn capped(n: u32) -> usize
     ensures { result ≡ min n 15 }
 {
-    if n < 15 {
-        return n as usize;
-    }
-    15
+    n.min(15) as usize
 }
 
 // The number of LF indices.
+#[tactic(auto, using(crate::specs::laws::Sizes::sizes_le, crate::specs::laws::Sizes::sizes_pos))]
 pub fn lf_size(lengths: [u32; 4]) -> usize
     ensures { (result ≡ (min (get_or lengths 0 0) 15 + 1) * (min (get_or lengths 1 0) 15 + 1) * (min (get_or lengths 2 0) 15 + 1)) × (1 ≤ result) × (result ≤ 4096) }
 {
@@ -24,6 +22,7 @@ pub fn lf_size(lengths: [u32; 4]) -> usize
 }
 
 // The product of the four (length + 1), a length above 15 counting as 15.
+#[tactic(auto, unfolding(crate::specs::laws::Sizes::capped_bsize))]
 pub fn bsize(lengths: [u32; 4]) -> usize
     ensures { result ≡ capped_bsize lengths }
 {

@@ -1,6 +1,6 @@
 -- What is said of a layout call (document 01, Layout and filter strength): its grid, its varblocks and filter strengths, and the same call with
 -- other columns or sharpness numbers.
-use Rattle.std.specs.Prelude.{List, ℕ, ◌+◌, ◌*◌, Float}
+use Rattle.std.specs.Prelude.{List, ℕ, Float}
 use Rattle.layout.specs.Grid.{block_at}
 use Rattle.layout.specs.Varblocks.{Varblock, varblocks_of}
 use Rattle.layout_sizes.specs.Blocks.{bw_in, bh_in}

@@ -1,24 +1,17 @@
 -- The layout call: its answer and what it leaves in kinds, hf_mul and sigma (document 01, Layout and filter strength; Refused).
-use Rattle.std.specs.Prelude.{Bool, ◌&&◌, List, ℕ, ◌*◌, length, Float}
+use Rattle.std.specs.Prelude.{Bool, ◌&&◌, List, ℕ, ◌*◌, length, Float, Result}
+use Rattle.refusal.specs.declared.Refusal.{Refusal}
 use Rattle.refusal.specs.declared.Said.{Said}
-use Rattle.refusal.specs.Said.{said}
-use Rattle.refusal.specs.Answer.{Answer, gives, refuses, unless, passed, answered_by}
+use Rattle.refusal.specs.Answer.{Answer, refuses, unless, passed, answered, answered_by}
 use Rattle.layout_sizes.specs.Blocks.{size_fits, modes_fit, bw_in, bh_in, counts_fit}
 use Rattle.layout_filter.specs.declared.Filter.{Filter}
 use Rattle.layout_filter.specs.Limits.{params_fit}
-use Rattle.layout_call.specs.declared.LayoutAnswer.{LayoutAnswer}
-use Rattle.layout_call.specs.declared.LayoutAnswer.TheVariants.{Accepted, Refused}
 use Rattle.layout_placing.specs.Reading.{Job, reading, job_by}
 use Rattle.layout_placing.specs.Outcome.{outcome}
 pub use Rattle.layout_placing.specs.Outcome.{Outcome, outcome_of}
 
--- the paper's number and values of each answer
-abbrev pub answered : LayoutAnswer → Answer ℕ
-answered (Accepted used) = gives used
-answered (Refused r) = refuses (said r)
-
 -- what a call leaves
-abbrev pub leaves : LayoutAnswer → List ℕ → List ℕ → List ℕ → Outcome
+abbrev pub leaves : Result ℕ Refusal → List ℕ → List ℕ → List ℕ → Outcome
 leaves r kinds hf_mul sigma = outcome (answered r) kinds hf_mul sigma
 
 -- what is lent to be read

@@ -2,30 +2,14 @@
 // The layout of an LF group and its filter strengths (`hf_metadata.rs`).
 ghost use Rattle.std.specs.Prelude.{◌≡◌};
 ghost use Rattle.layout_call.specs.Call.{inputs, leaves, layout_of};
-ghost use Rattle.layout_call.specs.laws.CallSteps.{answer_by};
 
 use layout_filter::Filter;
-use layout_reading::column::Step;
 use layout_reading::reading::read;
+use layout_sizes::{blocks_of, modes_fit, size_fits};
 use refusal::Refusal;
 
-// Accepted with the number of columns used, or refused.
-#[derive(Clone, Copy)]
-pub enum LayoutAnswer {
-    Accepted(usize),
-    Refused(Refusal),
-}
-
-fn answer(step: Step) -> LayoutAnswer
-    ensures { result ≡ answer_by step }
-{
-    match step {
-        Step::Going(used) => LayoutAnswer::Accepted(used),
-        Step::Stopped(_, why) => LayoutAnswer::Refused(why),
-    }
-}
-
 // Places the columns (type, mul) on the blocks of an LF group of width x height pixels. sigma takes bit patterns of f32.
+// Accepted with the number of columns used.
 pub fn layout(
     width: u32,
     height: u32,
@@ -39,17 +23,18 @@ pub fn layout(
     kinds: &mut [u8],
     hf_mul: &mut [u32],
     sigma: &mut [u32],
-) -> LayoutAnswer
+) -> Result<usize, Refusal>
     ensures { leaves result kinds.new hf_mul.new sigma.new ≡ layout_of (inputs width height modes types.now muls.now sharpness.now filter lookups scale) kinds.old hf_mul.old sigma.old }
 {
-    if !layout_sizes::size_fits(width, height) {
-        return LayoutAnswer::Refused(Refusal::Size);
+    if !size_fits(width, height) {
+        return Err(Refusal::Size);
     }
-    if !layout_sizes::modes_fit(modes) {
-        return LayoutAnswer::Refused(Refusal::Parameter);
+    if !modes_fit(modes) {
+        return Err(Refusal::Parameter);
     }
-    let blocks = layout_sizes::blocks_of(width, height, modes);
-    answer(read(
+    let blocks = blocks_of(width, height, modes);
+    read(
         kinds, hf_mul, sigma, types, muls, sharpness, filter, lookups, scale, blocks.bw, blocks.bh,
-    ))
+    )
+    .map_err(|stop| stop.why)
 }

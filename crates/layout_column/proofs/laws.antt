@@ -1,2 +1,3 @@
 -- what is proved from the definitions
+pub mod ByStep
 pub mod Judged

@@ -1,12 +1,11 @@
 -- The column count (document 01, Layout and filter strength; Refused).
-use Rattle.std.specs.Prelude.{List, ℕ, ◌+◌, ◌*◌}
+use Rattle.std.specs.Prelude.{List, ℕ, ◌+◌, ◌*◌, Result, Ok, Err}
+use Rattle.refusal.specs.declared.Refusal.{Refusal}
 use Rattle.refusal.specs.Said.{said, said_at}
 use Rattle.refusal.specs.Answer.{Answer, gives, refuses, unless}
 use Rattle.bits.specs.Bits.{Read, Value, Ended, read_bits}
 use Rattle.coded_numbers.specs.Exponent.{exponent}
 use Rattle.layout_sizes.specs.Blocks.{size_fits, modes_fit, bw_in, bh_in}
-use Rattle.layout_column_count.specs.declared.ColumnCount.{ColumnCount}
-use Rattle.layout_column_count.specs.declared.ColumnCount.TheVariants.{Count, Refused}
 
 -- a count and the bits read
 pub record Counted : Type 0 where
@@ -17,9 +16,9 @@ abbrev pub counts : ℕ → ℕ → Counted
 counts columns bits = record { columns = columns; bits = bits }
 
 -- the paper's number and values of each answer
-abbrev pub counted : ColumnCount → Answer Counted
-counted (Count n bits) = gives (counts n bits)
-counted (Refused r) = refuses (said r)
+abbrev pub counted : Result (ℕ × ℕ) Refusal → Answer Counted
+counted (Ok (n, bits)) = gives (counts n bits)
+counted (Err r) = refuses (said r)
 
 -- 1 plus the number that was read
 abbrev pub plus_one : Read ℕ → Answer Counted

@@ -1,14 +1,12 @@
 -- Filter strength of a block (document 01, Layout and filter strength): in f32, each step rounded once,
 -- multiplier × 65536, / scale, / hf_mul, × look-up[sharpness].
-use Rattle.std.specs.Prelude.{ℕ, false, List, pos, slice_index_or, to_bits, Float}
+use Rattle.std.specs.Prelude.{ℕ, false, List, pos, slice_index_or, to_bits, Float, Option, Some, None}
 use Rattle.std.specs.Float.{fin, nan, binary32}
 use Rattle.std.specs.Float.Ieee.{mul, div, of_int}
 use Rattle.layout_filter.specs.declared.Filter.{Filter}
 use Rattle.layout_filter.specs.declared.Filter.TheVariants.{Off, On}
-use Rattle.layout_filter.specs.declared.ScaledFilter.{ScaledFilter}
-use Rattle.layout_filter.specs.declared.ScaledFilter.TheVariants.{Off as ScaledOff, On as ScaledOn}
-use Rattle.layout_filter.specs.declared.DividedFilter.{DividedFilter}
-use Rattle.layout_filter.specs.declared.DividedFilter.TheVariants.{Off as DividedOff, On as DividedOn}
+use Rattle.layout_filter.specs.declared.ScaledMultiplier.{ScaledMultiplier}
+use Rattle.layout_filter.specs.declared.DividedMultiplier.{DividedMultiplier}
 
 -- +0.0, 65536 and the nearest f32 to a whole number, ties to even
 abbrev pub zero32 : Float
@@ -42,10 +40,10 @@ abbrev pub pattern : Float → ℕ
 pattern x = to_bits binary32 x
 
 -- the steps on a filter, off staying off
-unfoldable pub scaled_by : Filter → ℕ → ScaledFilter
-scaled_by Off scale = ScaledOff
-scaled_by (On m) scale = ScaledOn (scaled m scale)
+unfoldable pub scaled_by : Filter → ℕ → Option ScaledMultiplier
+scaled_by Off scale = None
+scaled_by (On m) scale = Some (record { 0 = scaled m scale })
 
-unfoldable pub divided_by : ScaledFilter → ℕ → DividedFilter
-divided_by ScaledOff h = DividedOff
-divided_by (ScaledOn a) h = DividedOn (divided a h)
+unfoldable pub divided_by : Option ScaledMultiplier → ℕ → Option DividedMultiplier
+divided_by None h = None
+divided_by (Some a) h = Some (record { 0 = divided a.0 h })

@@ -1,15 +1,9 @@
 #![tactic(auto)]
 // Runs the lister on recorded jobs: each a 16-bit length, the lower byte first, and that many bytes.
-ghost use Rattle.std.specs.Prelude.{◌≡◌, ◌<◌};
+ghost use Rattle.std.specs.Prelude.{◌<◌, length, IfSome};
 
 use std::io;
 use streams::read_full;
-
-fn to_usize(x: u8) -> usize
-    ensures { (result ≡ x) × (result < 256) }
-{
-    x as usize
-}
 
 fn run(rt: &impl Print, job: &[u8]) -> io::Result<()> {
     let mut out = [0u8; 90000];
@@ -17,34 +11,28 @@ fn run(rt: &impl Print, job: &[u8]) -> io::Result<()> {
     rt.write_all(&out[..k])
 }
 
-// Runs the job at a place and gives the place behind it; the same place where no whole job is left.
-fn run_at(rt: &impl Print, jobs: &[u8], at: usize) -> io::Result<usize> {
+// The first job and what follows it, if a whole job is left.
+fn split_first(jobs: &[u8]) -> Option<(&[u8], &[u8])>
+    ensures { IfSome result (λ split. length split.1.now < length jobs.now) }
+{
     if jobs.len() < 2 {
-        return Ok(at);
+        return None;
     }
-    if jobs.len() - 2 < at {
-        return Ok(at);
+    let length = usize::from(u16::from_le_bytes([jobs[0], jobs[1]]));
+    let behind = &jobs[2..];
+    if behind.len() < length {
+        return None;
     }
-    let length = to_usize(jobs[at]) + 256 * to_usize(jobs[at + 1]);
-    let start = at + 2;
-    if jobs.len() - start < length {
-        return Ok(at);
-    }
-    let end = start + length;
-    run(rt, &jobs[start..end])?;
-    Ok(end)
+    Some(behind.split_at(length))
 }
 
 fn main(rt: HostRuntime) -> io::Result<()> {
     let mut jobs = [0u8; 262144];
     let n = read_full(&mut rt.stdin(), &mut jobs);
-    let mut at = 0;
-    while at < n {
-        let next = run_at(&rt, &jobs[..n], at)?;
-        if next <= at {
-            return Ok(());
-        }
-        at = next;
+    let mut rest = &jobs[..n];
+    while let Some((job, behind)) = split_first(rest) {
+        run(&rt, job)?;
+        rest = behind;
     }
     Ok(())
 }

@@ -1,17 +1,16 @@
 #![tactic(auto)]
 // Layout lister: reads a job from standard input, and not a byte behind its end, and lists its
 // layout.
-ghost use Rattle.std.specs.Prelude.{◌≡◌, ◌≤◌, length};
+ghost use Rattle.std.specs.Prelude.{◌≤◌};
 
 use std::io;
 use std::io::Stdin;
 use streams::read_full;
 
 // Record by record, as many bytes as the job still needs, until it needs none or input ends: how
-// many there are. A job has at most 36,870.
-fn read_job(input: &mut Stdin, job: &mut [u8]) -> usize
-    requires { length job.old ≡ 36870 }
-    ensures { (result ≤ 36870) × (length job.new ≡ 36870) }
+// many there are. A job has at most 36,870. A step is what the job needs: no index is counted.
+fn read_job(input: &mut Stdin, job: &mut [u8; 36870]) -> usize
+    ensures { result ≤ 36870 }
 {
     let mut n = 0;
     loop {

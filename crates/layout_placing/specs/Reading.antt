@@ -1,5 +1,5 @@
 -- The layout reading (document 01, Layout and filter strength): blocks are visited row by row, a free block takes the next column.
-use Rattle.std.specs.Prelude.{cond, List, ℕ, ◌+◌, ◌*◌, ltb, eqb, length, get_or, set, replicate, Float}
+use Rattle.std.specs.Prelude.{cond, List, ℕ, ◌+◌, ◌*◌, ltb, eqb, length, get_or, set, replicate, Float, Option}
 use Rattle.refusal.specs.declared.Said.{Said}
 use Rattle.refusal.specs.Said as refusals
 use Rattle.refusal.specs.Answer.{Answer, unless, answered_by}
@@ -7,7 +7,7 @@ use Rattle.dct_select.specs.Transforms.{wide, high}
 use Rattle.layout.specs.RowByRow.{row_by_row}
 use Rattle.layout.specs.Grid.{block_at}
 use Rattle.layout_filter.specs.declared.Filter.{Filter}
-use Rattle.layout_filter.specs.declared.ScaledFilter.{ScaledFilter}
+use Rattle.layout_filter.specs.declared.ScaledMultiplier.{ScaledMultiplier}
 use Rattle.layout_filter.specs.Strength.{scaled_by, divided_by}
 use Rattle.layout_column.specs.Columns.{hf_mul_of, column_checks}
 use Rattle.layout_placing.specs.Scan.{Scan, Taking, Left, scan}
@@ -20,7 +20,7 @@ pub record Job : Type 0 where
   pub types : List ℕ
   pub muls : List ℕ
   pub sharpness : List ℕ
-  pub filter : ScaledFilter
+  pub filter : Option ScaledMultiplier
   pub lookups : List Float
 
 -- columns used so far, and what they have placed: kinds, hf_mul, bit patterns of sigma
@@ -50,7 +50,7 @@ placed bw kind h x y p (Taking kinds sigma) =
       sigma = sigma;
     })
 
-module _ (bw bh : ℕ) (filter : ScaledFilter) (lookups : List Float) (sharpness : List ℕ) where
+module _ (bw bh : ℕ) (filter : Option ScaledMultiplier) (lookups : List Float) (sharpness : List ℕ) where
   -- a varblock of w x n blocks at the free block (x, y)
   unfoldable pub place : ℕ → ℕ → ℕ → ℕ → ℕ → ℕ → Placed → Placing
   place kind h w n x y p = placed bw kind h x y p (scan bw bh (divided_by filter h) lookups sharpness x y w n (Taking p.kinds p.sigma))
@@ -90,7 +90,7 @@ module _ (J : Job) where
   unfoldable pub reading : Placing
   reading = row_by_row visit J.bw J.bh (Going start)
 
-abbrev pub job_with : ℕ → ℕ → List ℕ → List ℕ → List ℕ → ScaledFilter → List Float → Job
+abbrev pub job_with : ℕ → ℕ → List ℕ → List ℕ → List ℕ → Option ScaledMultiplier → List Float → Job
 job_with bw bh types muls sharpness filter lookups =
     record { bw = bw; bh = bh; types = types; muls = muls; sharpness = sharpness; filter = filter; lookups = lookups }
 

@@ -1,4 +1,6 @@
 -- what is proved from the definitions
+pub mod ByStep
 pub mod Lengths
+pub mod Mapped
 pub mod Places
 pub mod ScanSteps

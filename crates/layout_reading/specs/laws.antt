@@ -1,4 +1,3 @@
 -- what is proved from the definitions
 pub mod Scan
 pub mod Outcome
-pub mod Places

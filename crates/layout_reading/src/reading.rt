@@ -1,102 +1,74 @@
 // The reading of a layout: its blocks, visited row by row.
-ghost use Rattle.std.specs.Prelude.{◌≡◌, ◌*◌, ◌≤◌, length};
-ghost use Rattle.refusal.specs.laws.Answer.{checked};
+ghost use Rattle.std.specs.Prelude.{◌≡◌, ◌*◌, length, replicate};
+ghost use Rattle.refusal.specs.Answer.{answered};
 ghost use Rattle.layout_filter.specs.Limits.{params_fit};
-ghost use Rattle.layout_filter.specs.laws.Finite.{ScaledBounded};
 ghost use Rattle.layout.specs.RowByRow.{row_by_row};
-ghost use Rattle.layout_placing.specs.Reading.{Going, visit as visitOf, reading as reading_of, job_with, job_by};
-ghost use Rattle.layout_reading.specs.laws.Outcome.{state_of, stepped, told_by, handed, checks_of, read_of};
+ghost use Rattle.layout_placing.specs.Reading.{Going, visit as visitOf, reading as reading_of, job_by};
+ghost use Rattle.layout_reading.specs.laws.Outcome.{job_of, Fit, state_of, stepped, told_by, handed, checks_of, read_of};
 
-use crate::column::{Step, visit};
-use layout_filter::{Filter, ScaledFilter, params_fit};
+use crate::column::{Stop, visit};
+use crate::job::Job;
+use layout_filter::{Filter, params_fit};
 use layout_sizes::counts_fit;
-use refusal::{Checked, Refusal};
+use refusal::Refusal;
 
 // All blocks, over lengths that fit.
 fn read_blocks(
+    job: &Job,
     kinds: &mut [u8],
     hf_mul: &mut [u32],
     sigma: &mut [u32],
-    types: &[u32],
-    muls: &[u32],
-    sharpness: &[u32],
-    lookups: &[f32; 8],
-    filter: ScaledFilter,
-    bw: usize,
-    bh: usize,
-) -> Step
-    requires { (length kinds.old ≡ bh * bw) × (length hf_mul.old ≡ bh * bw) × (length sigma.old ≡ bh * bw) × (length sharpness.now ≡ bh * bw) × (length muls.now ≡ length types.now) × (bw ≤ 256) × (bh ≤ 256) × ScaledBounded filter lookups.now }
-    ensures { stepped result kinds.new hf_mul.new sigma.new ≡ row_by_row (visitOf (job_with bw bh types.now muls.now sharpness.now filter lookups.now)) bw bh (Going (state_of 0 kinds.old hf_mul.old sigma.old)) }
+) -> Result<usize, Stop>
+    requires { Fit (job.now.bh * job.now.bw) kinds.old hf_mul.old sigma.old }
+    ensures { stepped result kinds.new hf_mul.new sigma.new ≡ row_by_row (visitOf (job_of job.now)) job.now.bw job.now.bh (Going (state_of 0 kinds.old hf_mul.old sigma.old)) }
 {
     let mut used = 0;
-    let mut y = 0;
-    while y < bh {
-        let mut x = 0;
-        while x < bw {
-            let step = visit(
-                kinds, hf_mul, sigma, types, muls, sharpness, lookups, filter, bw, bh, used, x, y,
-            );
-            let Step::Going(next) = step else {
-                return step;
-            };
-            used = next;
-            x += 1;
+    for y in 0..job.bh {
+        for x in 0..job.bw {
+            used = visit(job, kinds, hf_mul, sigma, used, x, y)?;
         }
-        y += 1;
     }
-    Step::Going(used)
+    Ok(used)
+}
+
+fn clear(kinds: &mut [u8], hf_mul: &mut [u32], sigma: &mut [u32])
+    ensures { (kinds.new ≡ replicate (length kinds.old) 0) × (hf_mul.new ≡ replicate (length hf_mul.old) 0) × (sigma.new ≡ replicate (length sigma.old) 0) }
+{
+    kinds.fill(0);
+    hf_mul.fill(0);
+    sigma.fill(0);
 }
 
 // All blocks, from cleared buffers on.
+#[tactic(auto, unfolding(layout_placing::specs::Reading::reading))]
 fn read_from_zeros(
+    job: &Job,
     kinds: &mut [u8],
     hf_mul: &mut [u32],
     sigma: &mut [u32],
-    types: &[u32],
-    muls: &[u32],
-    sharpness: &[u32],
-    lookups: &[f32; 8],
-    filter: ScaledFilter,
-    bw: usize,
-    bh: usize,
-) -> Step
-    requires { (length kinds.old ≡ bh * bw) × (length hf_mul.old ≡ bh * bw) × (length sigma.old ≡ bh * bw) × (length sharpness.now ≡ bh * bw) × (length muls.now ≡ length types.now) × (bw ≤ 256) × (bh ≤ 256) × ScaledBounded filter lookups.now }
-    ensures { stepped result kinds.new hf_mul.new sigma.new ≡ reading_of (job_with bw bh types.now muls.now sharpness.now filter lookups.now) }
+) -> Result<usize, Stop>
+    requires { Fit (job.now.bh * job.now.bw) kinds.old hf_mul.old sigma.old }
+    ensures { stepped result kinds.new hf_mul.new sigma.new ≡ reading_of (job_of job.now) }
 {
-    zeros::clear_u8(kinds);
-    zeros::clear_u32(hf_mul);
-    zeros::clear_u32(sigma);
-    read_blocks(
-        kinds, hf_mul, sigma, types, muls, sharpness, lookups, filter, bw, bh,
-    )
+    clear(kinds, hf_mul, sigma);
+    read_blocks(job, kinds, hf_mul, sigma)
 }
 
 // All blocks, whatever the buffers held. A refusal leaves all three zero.
 fn read_cleared(
+    job: &Job,
     kinds: &mut [u8],
     hf_mul: &mut [u32],
     sigma: &mut [u32],
-    types: &[u32],
-    muls: &[u32],
-    sharpness: &[u32],
-    lookups: &[f32; 8],
-    filter: ScaledFilter,
-    bw: usize,
-    bh: usize,
-) -> Step
-    requires { (length kinds.old ≡ bh * bw) × (length hf_mul.old ≡ bh * bw) × (length sigma.old ≡ bh * bw) × (length sharpness.now ≡ bh * bw) × (length muls.now ≡ length types.now) × (bw ≤ 256) × (bh ≤ 256) × ScaledBounded filter lookups.now }
-    ensures { handed result kinds.new hf_mul.new sigma.new ≡ told_by (job_with bw bh types.now muls.now sharpness.now filter lookups.now) (reading_of (job_with bw bh types.now muls.now sharpness.now filter lookups.now)) }
+) -> Result<usize, Stop>
+    requires { Fit (job.now.bh * job.now.bw) kinds.old hf_mul.old sigma.old }
+    ensures { handed result kinds.new hf_mul.new sigma.new ≡ told_by (job_of job.now) (reading_of (job_of job.now)) }
 {
-    let step = read_from_zeros(
-        kinds, hf_mul, sigma, types, muls, sharpness, lookups, filter, bw, bh,
-    );
-    let Step::Stopped(placed, why) = step else {
-        return step;
-    };
-    zeros::clear_u8(kinds);
-    zeros::clear_u32(hf_mul);
-    zeros::clear_u32(sigma);
-    Step::Stopped(placed, why)
+    let answer = read_from_zeros(job, kinds, hf_mul, sigma);
+    if answer.is_err() {
+        clear(kinds, hf_mul, sigma);
+    }
+    answer
 }
 
 // Before work: the filter's numbers (11); at most 256 blocks each way and lengths that fit (1).
@@ -112,22 +84,19 @@ fn read_check(
     kinds: usize,
     hf_mul: usize,
     sigma: usize,
-) -> Checked
-    ensures { checked result ≡ checks_of (params_fit filter lookups scale) bw bh types muls sharpness kinds hf_mul sigma }
+) -> Result<(), Refusal>
+    ensures { answered result ≡ checks_of (params_fit filter lookups scale) bw bh types muls sharpness kinds hf_mul sigma }
 {
     if !params_fit(filter, lookups, scale) {
-        return Checked::Refused(Refusal::Parameter);
+        return Err(Refusal::Parameter);
     }
-    if 256 < bw {
-        return Checked::Refused(Refusal::Length);
-    }
-    if 256 < bh {
-        return Checked::Refused(Refusal::Length);
+    if 256 < bw || 256 < bh {
+        return Err(Refusal::Length);
     }
     if !counts_fit(types, muls, sharpness, kinds, hf_mul, sigma, bh * bw) {
-        return Checked::Refused(Refusal::Length);
+        return Err(Refusal::Length);
     }
-    Checked::Fine
+    Ok(())
 }
 
 // Reads a layout into lent buffers, and tells how many columns were placed. Refused before work: nothing is written.
@@ -143,10 +112,10 @@ pub fn read(
     scale: u32,
     bw: usize,
     bh: usize,
-) -> Step
+) -> Result<usize, Stop>
     ensures { handed result kinds.new hf_mul.new sigma.new ≡ read_of (job_by bw bh types.now muls.now sharpness.now filter lookups scale) kinds.old hf_mul.old sigma.old filter scale }
 {
-    let checked = read_check(
+    read_check(
         filter,
         lookups,
         scale,
@@ -158,12 +127,16 @@ pub fn read(
         kinds.len(),
         hf_mul.len(),
         sigma.len(),
-    );
-    if let Checked::Refused(why) = checked {
-        return Step::Stopped(0, why);
-    }
-    let scaled = filter.scaled_by(scale);
-    read_cleared(
-        kinds, hf_mul, sigma, types, muls, sharpness, &lookups, scaled, bw, bh,
     )
+    .map_err(|why| Stop { placed: 0, why })?;
+    let job = Job {
+        bw,
+        bh,
+        types,
+        muls,
+        sharpness,
+        filter: filter.scaled_by(scale),
+        lookups: &lookups,
+    };
+    read_cleared(&job, kinds, hf_mul, sigma)
 }

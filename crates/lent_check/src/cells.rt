@@ -14,10 +14,8 @@ pub(crate) fn cells_sound(kinds: &[u8], hf_mul: &[u32]) -> bool
         return false;
     }
     let mut flaws = 0;
-    let mut i = 0;
-    while i < kinds.len() {
-        flaws += flaw(kinds[i], hf_mul[i]);
-        i += 1;
+    for (i, &kind) in kinds.iter().enumerate() {
+        flaws += flaw(kind, hf_mul[i]);
     }
     flaws == 0
 }

@@ -5,32 +5,13 @@ ghost use Rattle.layout.specs.Kinds.{wide_of, high_of};
 ghost use Rattle.layout.specs.RowByRow.{along_row};
 ghost use Rattle.layout.specs.Grid.{block_at};
 ghost use Rattle.layout.specs.Check.{Fault, Until, fitting};
-ghost use Rattle.lent_sides.specs.laws.Sizes.{WIDES, HIGHS};
 ghost use Rattle.lent_check.specs.laws.Steps.{place_cell, place, close};
 ghost use Rattle.lent_check.specs.laws.Listing.{Flags, Flagged, looked, Listed};
 ghost use Rattle.lent_check.specs.laws.Claims.{claimed};
 
 use lent_cells::{gap, larger};
-use lent_sides::sizes::size_of;
-
-// a for the first n, b for the others.
-fn pick(i: usize, n: usize, a: u8, b: u8) -> u8
-    ensures { result ≡ cond (ltb i n) a b }
-{
-    if i < n {
-        return a;
-    }
-    b
-}
-
-fn most(a: u8, b: u8) -> u8
-    ensures { result ≡ max a b }
-{
-    if a < b {
-        return b;
-    }
-    a
-}
+use lent_sides::sizes::{HIGH, WIDE, size_of};
+use std::hint::select_unpredictable;
 
 // The first four of n numbers from x on, which must be clear, now have depth v. No branch hangs on how many there are, which
 // cannot be guessed; most corners have no more than four. Three numbers beyond the last are there to be looked at with it.
@@ -38,15 +19,13 @@ fn claim_four(depth: &mut [u8; 259], x: usize, n: usize, v: u8) -> bool
     requires { x < 256 }
     ensures { cond result (claimed depth.new (x + 4) (n - 4) v) Fault ≡ claimed depth.old x n v }
 {
-    let mut found = 0;
-    let mut i = 0;
-    while i < 4 {
+    let mut clear = true;
+    for i in 0..4 {
         let old = depth[x + i];
-        found = most(found, pick(i, n, old, 0));
-        depth[x + i] = pick(i, n, v, old);
-        i += 1;
+        clear &= (n <= i) | (old == 0);
+        depth[x + i] = select_unpredictable(i < n, v, old);
     }
-    found == 0
+    clear
 }
 
 // The n numbers from x on, which must be clear, now have depth v.
@@ -57,56 +36,27 @@ fn claim(depth: &mut [u8; 259], x: usize, n: usize, v: u8) -> bool
     if !claim_four(depth, x, n, v) {
         return false;
     }
-    let e = x + n;
-    let mut i = x + 4;
-    while i < e {
+    for i in x + 4..x + n {
         if 0 < depth[i] {
             return false;
         }
         depth[i] = v;
-        i += 1;
     }
     true
 }
 
 // A corner of this kind, w x h blocks, may stand at (x, y).
+#[tactic(auto, using(layout::proofs::laws::Kinds::wide_sized, layout::proofs::laws::Kinds::high_sized), unfolding(layout::specs::Check::fitting))]
 fn fits(bw: usize, bh: usize, kind: u8, w: usize, h: usize, x: usize, y: usize) -> bool
     requires { (x < 256) × (y < 256) × (2 ≤ kind) × (w ≡ wide_of kind) × (h ≡ high_of kind) }
     ensures { result ≡ fitting bw bh x y kind 1 }
 {
-    if 28 < kind {
-        return false;
-    }
-    if bw < x + w {
-        return false;
-    }
-    if bh < y + h {
-        return false;
-    }
-    if 32 < x % 32 + w {
-        return false;
-    }
-    y % 32 + h <= 32
-}
-
-fn to_usize(x: u8) -> usize
-    ensures { result ≡ x }
-{
-    x as usize
+    kind <= 28 && x + w <= bw && y + h <= bh && x % 32 + w <= 32 && y % 32 + h <= 32
 }
 
 // A corner of more than one block, at (x, y), on clear x's; any other cell is passed.
-fn place_cell(
-    depth: &mut [u8; 259],
-    wides: &[usize; 27],
-    highs: &[usize; 27],
-    bw: usize,
-    bh: usize,
-    kind: u8,
-    x: usize,
-    y: usize,
-) -> bool
-    requires { (wides.now ≡ WIDES) × (highs.now ≡ HIGHS) × (x < bw) × (bw ≤ 256) × (y < bh) × (bh ≤ 256) }
+fn place_cell(depth: &mut [u8; 259], bw: usize, bh: usize, kind: u8, x: usize, y: usize) -> bool
+    requires { (x < bw) × (bw ≤ 256) × (y < bh) × (bh ≤ 256) }
     ensures { cond result (Until depth.new) Fault ≡ place_cell bw bh kind x y depth.old }
 {
     if larger(kind) == 0 {
@@ -115,7 +65,7 @@ fn place_cell(
     if kind < 2 {
         return false;
     }
-    let size = size_of(wides, highs, kind);
+    let size = size_of(&WIDE, &HIGH, kind);
     let w = size.wide;
     let h = size.high;
     if !fits(bw, bh, kind, w, h, x, y) {
@@ -130,10 +80,8 @@ fn flag_row(flags: &mut [u8; 256], bw: usize, kinds: &[u8], y: usize)
     ensures { Flagged (block_at kinds.now bw) y bw flags.new }
 {
     let start = y * bw;
-    let mut x = 0;
-    while x < bw {
+    for x in 0..bw {
         flags[x] = larger(kinds[start + x]);
-        x += 1;
     }
 }
 
@@ -144,26 +92,16 @@ fn list_row(list: &mut [u8; 256], flags: &[u8; 256], bw: usize) -> usize
     ensures { Listed (looked (λ x. get_or flags.now x 0) bw 0) result list.new }
 {
     let mut n = 0;
-    let mut x = 0;
-    while x < bw {
+    for x in 0..bw {
         list[n] = x as u8;
-        n += to_usize(flags[x]);
-        x += 1;
+        n += usize::from(flags[x]);
     }
     n
 }
 
 // The corners of more than one block in row y.
-pub(crate) fn place_row(
-    depth: &mut [u8; 259],
-    wides: &[usize; 27],
-    highs: &[usize; 27],
-    bw: usize,
-    bh: usize,
-    kinds: &[u8],
-    y: usize,
-) -> bool
-    requires { (wides.now ≡ WIDES) × (highs.now ≡ HIGHS) × (bw ≤ 256) × (y < bh) × (bh ≤ 256) × (length kinds.now ≡ bh * bw) }
+pub(crate) fn place_row(depth: &mut [u8; 259], bw: usize, bh: usize, kinds: &[u8], y: usize) -> bool
+    requires { (bw ≤ 256) × (y < bh) × (bh ≤ 256) × (length kinds.now ≡ bh * bw) }
     ensures { cond result (Until depth.new) Fault ≡ along_row (place bw bh (block_at kinds.now bw)) bw 0 y (Until depth.old) }
 {
     let start = y * bw;
@@ -171,25 +109,14 @@ pub(crate) fn place_row(
     let mut flags = [0u8; 256];
     flag_row(&mut flags, bw, kinds, y);
     let n = list_row(&mut list, &flags, bw);
-    let mut i = 0;
-    while i < n {
-        let x = to_usize(list[i]);
+    for &listed in &list[..n] {
+        let x = usize::from(listed);
         let kind = kinds[start + x];
-        if !place_cell(depth, wides, highs, bw, bh, kind, x, y) {
+        if !place_cell(depth, bw, bh, kind, x, y) {
             return false;
         }
-        i += 1;
     }
     true
-}
-
-fn one_less(v: u8) -> u8
-    ensures { result ≡ v - 1 }
-{
-    if v == 0 {
-        return 0;
-    }
-    v - 1
 }
 
 // Row y has no gap; depths count from the next row on then. The loop has no early exit, and all in it is bytes, so that 16
@@ -200,12 +127,10 @@ pub(crate) fn close_row(depth: &mut [u8; 259], bw: usize, kinds: &[u8], y: usize
 {
     let start = y * bw;
     let mut gaps = 0;
-    let mut x = 0;
-    while x < bw {
+    for x in 0..bw {
         let v = depth[x];
-        gaps = most(gaps, gap(kinds[start + x], v));
-        depth[x] = one_less(v);
-        x += 1;
+        gaps = gaps.max(gap(kinds[start + x], v));
+        depth[x] = v.saturating_sub(1);
     }
     gaps == 0
 }

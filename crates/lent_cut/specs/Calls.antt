@@ -1,6 +1,5 @@
 -- What the cut of a lent layout answers, and what it leaves in the lent buffers (document 01, Layout, "Added by us"; Refused).
 use Rattle.std.specs.Prelude.{List, ℕ, length}
-use Rattle.refusal.specs.Said.{said}
 use Rattle.layout.specs.Check.{is_layout}
 use Rattle.layout.specs.Cut.{has_group, bw_of_group, bh_of_group, cut}
 use Rattle.lent_check.specs.declared.GroupSides.{GroupSides}
@@ -8,11 +7,6 @@ use Rattle.lent_check.specs.GroupSides.{group_sides}
 use Rattle.refusal.specs.declared.Said.{Said}
 use Rattle.refusal.specs.Answer.{Answer, gives, refuses, unless, passed, answered_by}
 use Rattle.lent_sides.specs.Limits.{in_limits, lengths_fit}
-use Rattle.lent_cut.specs.declared.cut.CutAnswer.{CutAnswer}
-
-abbrev pub answered : CutAnswer → Answer GroupSides
-answered (CutAnswer.Accepted g) = gives g
-answered (CutAnswer.Refused r) = refuses (said r)
 
 -- an answer, and the two lent buffers after it
 pub record Outcome : Type 0 where

@@ -2,31 +2,23 @@
 ghost use Rattle.std.specs.Prelude.{◌≡◌, true, ◌+◌, ◌*◌, ◌≤◌, ◌<◌, length};
 ghost use Rattle.layout.specs.Grid.{block_at, grid_of};
 ghost use Rattle.layout.specs.Cut.{groups, group_x, group_y, has_group, side, bw_of_group, bh_of_group};
-ghost use Rattle.refusal.specs.Answer.{gives};
-ghost use Rattle.refusal.specs.laws.Answer.{checked};
+ghost use Rattle.refusal.specs.Answer.{gives, answered};
 ghost use Rattle.lent_sides.specs.Limits.{in_limits};
 ghost use Rattle.lent_check.specs.GroupSides.{group_sides};
-ghost use Rattle.lent_cut.specs.Calls.{answered, outcome, cut_check, cut_of};
+ghost use Rattle.lent_cut.specs.Calls.{outcome, cut_check, cut_of};
 ghost use Rattle.lent_cut.specs.laws.CutSteps.{Passed, cut_done};
 
 use lent_check::GroupSides;
 use lent_check::check::is_lent_layout;
 use lent_sides::limits::{in_limits, lengths_fit};
-use refusal::{Checked, Refusal};
-
-// What the cut answers: the sides of the group.
-#[derive(Clone, Copy)]
-pub enum CutAnswer {
-    Accepted(GroupSides),
-    Refused(Refusal),
-}
+use refusal::Refusal;
 
 // Groups along a side of n blocks.
 fn groups_along(n: usize) -> usize
     requires { n ≤ 256 }
     ensures { result ≡ groups n }
 {
-    (n + 31) / 32
+    n.div_ceil(32)
 }
 
 // The layout has a group of this index.
@@ -40,6 +32,7 @@ fn has_group(bw: usize, bh: usize, index: usize) -> bool
 }
 
 // x among the groups, of a group that the layout has: so there is a group across, and it can be divided by their number.
+#[tactic(auto, using(layout::proofs::laws::CutLaws::group_x_is))]
 fn group_x(bw: usize, index: usize) -> usize
     requires { (1 ≤ bw) × (bw ≤ 256) }
     ensures { result ≡ group_x bw index }
@@ -49,6 +42,7 @@ fn group_x(bw: usize, index: usize) -> usize
 }
 
 // y among the groups, likewise.
+#[tactic(auto, using(layout::proofs::laws::CutLaws::group_y_is))]
 fn group_y(bw: usize, index: usize) -> usize
     requires { (1 ≤ bw) × (bw ≤ 256) }
     ensures { result ≡ group_y bw index }
@@ -62,14 +56,11 @@ fn blocks_along(n: usize, q: usize) -> usize
     requires { (32 * q ≤ n) × (n ≤ 256) }
     ensures { result ≡ side n q }
 {
-    let left = n - 32 * q;
-    if left < 32 {
-        return left;
-    }
-    32
+    (n - 32 * q).min(32)
 }
 
 // The sides of a group that the layout has.
+#[tactic(auto, using(layout::proofs::laws::CutLaws::starts_x, layout::proofs::laws::CutLaws::starts_y), unfolding(lent_sides::specs::Limits::in_limits))]
 fn sides_of(bw: usize, bh: usize, index: usize) -> GroupSides
     requires { (in_limits 256 bw bh ≡ true) × (has_group bw bh index ≡ true) }
     ensures { result ≡ group_sides (bw_of_group bw index) (bh_of_group bw bh index) }
@@ -85,6 +76,7 @@ fn sides_of(bw: usize, bh: usize, index: usize) -> GroupSides
 }
 
 // What comes before the cut: sides and index (2), lengths (1), 18.
+#[tactic(auto, unfolding(crate::specs::Calls::cut_check, lent_check::specs::laws::Laws::is_lent_layout, lent_sides::specs::Limits::in_limits))]
 fn cut_check(
     bw: usize,
     bh: usize,
@@ -93,26 +85,26 @@ fn cut_check(
     index: usize,
     out_kinds: usize,
     out_hf_mul: usize,
-) -> Checked
-    ensures { checked result ≡ cut_check bw bh kinds.now hf_mul.now index out_kinds out_hf_mul }
+) -> Result<(), Refusal>
+    ensures { answered result ≡ cut_check bw bh kinds.now hf_mul.now index out_kinds out_hf_mul }
 {
     if !in_limits(256, bw, bh) {
-        return Checked::Refused(Refusal::Size);
+        return Err(Refusal::Size);
     }
     if !has_group(bw, bh, index) {
-        return Checked::Refused(Refusal::Size);
+        return Err(Refusal::Size);
     }
     if !lengths_fit(bw, bh, kinds.len(), hf_mul.len()) {
-        return Checked::Refused(Refusal::Length);
+        return Err(Refusal::Length);
     }
     let group = sides_of(bw, bh, index);
     if !lengths_fit(group.bw, group.bh, out_kinds, out_hf_mul) {
-        return Checked::Refused(Refusal::Length);
+        return Err(Refusal::Length);
     }
     if !is_lent_layout(bw, bh, kinds, hf_mul) {
-        return Checked::Refused(Refusal::Layout);
+        return Err(Refusal::Layout);
     }
-    Checked::Fine
+    Ok(())
 }
 
 // The cells of a group whose first block is (first_x, first_y).
@@ -130,17 +122,13 @@ fn copy_cells(
     requires { (first_x + group_bw ≤ bw) × (first_y + group_bh ≤ 256) × ((first_y + group_bh) * bw ≤ length kinds.now) × (length hf_mul.now ≡ length kinds.now) × (length out_kinds.old ≡ group_bh * group_bw) × (length out_hf_mul.old ≡ group_bh * group_bw) }
     ensures { (out_kinds.new ≡ grid_of (λ x y. block_at kinds.now bw (first_x + x) (first_y + y)) group_bw group_bh) × (out_hf_mul.new ≡ grid_of (λ x y. block_at hf_mul.now bw (first_x + x) (first_y + y)) group_bw group_bh) }
 {
-    let mut y = 0;
-    while y < group_bh {
-        let mut x = 0;
-        while x < group_bw {
+    for y in 0..group_bh {
+        for x in 0..group_bw {
             let i = (first_y + y) * bw + (first_x + x);
             let j = y * group_bw + x;
             out_kinds[j] = kinds[i];
             out_hf_mul[j] = hf_mul[i];
-            x += 1;
         }
-        y += 1;
     }
 }
 
@@ -177,6 +165,7 @@ fn copy_group(
 }
 
 // Group `index` of a lent layout: its sides, its kinds and hf_mul into buffers of exactly its blocks. A refusal writes nothing.
+#[tactic(auto, using(crate::proofs::laws::CutSteps::passed, crate::proofs::laws::CutSteps::cut_refused, crate::proofs::laws::CutSteps::cut_done_lem))]
 pub fn cut(
     bw: usize,
     bh: usize,
@@ -185,10 +174,10 @@ pub fn cut(
     index: usize,
     out_kinds: &mut [u8],
     out_hf_mul: &mut [u32],
-) -> CutAnswer
+) -> Result<GroupSides, Refusal>
     ensures { outcome (answered result) out_kinds.new out_hf_mul.new ≡ cut_of bw bh kinds.now hf_mul.now index out_kinds.old out_hf_mul.old }
 {
-    let checked = cut_check(
+    cut_check(
         bw,
         bh,
         kinds,
@@ -196,12 +185,6 @@ pub fn cut(
         index,
         out_kinds.len(),
         out_hf_mul.len(),
-    );
-    match checked {
-        Checked::Refused(r) => CutAnswer::Refused(r),
-        Checked::Fine => {
-            let group = copy_group(bw, bh, kinds, hf_mul, index, out_kinds, out_hf_mul);
-            CutAnswer::Accepted(group)
-        }
-    }
+    )?;
+    Ok(copy_group(bw, bh, kinds, hf_mul, index, out_kinds, out_hf_mul))
 }

@@ -1,19 +1,12 @@
 -- What the likeness test of two lent layouts answers (document 01, Layout, "Added by us", and Refused; document 02, No. 12).
-use Rattle.std.specs.Prelude.{Bool, true, false, ◌&&◌, ◌||◌, ℕ, ◌*◌, eqb, length}
-use Rattle.refusal.specs.Said.{said}
-use Rattle.refusal.specs.Answer.{Answer, gives, refuses, unless}
+use Rattle.std.specs.Prelude.{Bool, ◌&&◌, ◌||◌, ℕ, ◌*◌, eqb, length}
+use Rattle.refusal.specs.Answer.{Answer, gives, unless}
 use Rattle.layout.specs.Check.{is_layout}
 use Rattle.layout.specs.Empty.{is_empty}
 use Rattle.lent_sides.specs.Limits.{in_limits, lengths_fit}
 use Rattle.lent_lists.specs.Same.{same}
 use Rattle.lent_lists.specs.Finite.{all_finite}
 use Rattle.lent_likeness.specs.Like.{FilteredLayout}
-use Rattle.lent_likeness.specs.declared.LikeAnswer.{LikeAnswer}
-
-abbrev pub answered : LikeAnswer → Answer Bool
-answered LikeAnswer.Alike = gives true
-answered LikeAnswer.Unlike = gives false
-answered (LikeAnswer.Refused r) = refuses (said r)
 
 abbrev pub sided : FilteredLayout → Bool
 sided L = in_limits 256 L.layout.bw L.layout.bh

@@ -1,152 +1,88 @@
 #![tactic(auto)]
 // Likeness of two lent layouts: the same varblocks, transform numbers and hf_mul included, and the same sigma.
-ghost use Rattle.std.specs.Prelude.{◌≡◌, ◌&&◌, ◌*◌, eqb};
+ghost use Rattle.std.specs.Prelude.{◌≡◌};
 ghost use Rattle.layout.specs.Empty.{is_empty};
-ghost use Rattle.lent_sides.specs.Limits.{in_limits, lengths_fit};
-ghost use Rattle.lent_lists.specs.Same.{same};
-ghost use Rattle.lent_lists.specs.Finite.{all_finite};
-ghost use Rattle.lent_check.specs.laws.Laws.{is_lent_layout};
+ghost use Rattle.refusal.specs.Answer.{answered};
 ghost use Rattle.lent_likeness.specs.Like.{filtered};
-ghost use Rattle.lent_likeness.specs.Calls.{answered, sides_alike, like_of};
+ghost use Rattle.lent_likeness.specs.Calls.{sided, strengths_finite, all_lengths_fit, sides_alike, alike, like_of};
+ghost use Rattle.lent_likeness.specs.laws.LikeSteps.{is_lent, of_filtered};
 
 use lent_check::check::is_lent_layout;
 use lent_lists::finite::all_finite;
-use lent_lists::same::{same_bytes, same_words};
+use lent_lists::same::same;
 use lent_sides::limits::{in_limits, lengths_fit};
 use refusal::Refusal;
 
-#[derive(Clone, Copy)]
-pub enum LikeAnswer {
-    Alike,
-    Unlike,
-    Refused(Refusal),
-}
-
-// Both layouts have sides within the limits.
-fn both_sided(bw: usize, bh: usize, bw2: usize, bh2: usize) -> bool
-    ensures { result ≡ in_limits 256 bw bh && in_limits 256 bw2 bh2 }
-{
-    if in_limits(256, bw, bh) {
-        return in_limits(256, bw2, bh2);
-    }
-    false
-}
-
-// Every sigma of both is finite.
-fn both_finite(sigma: &[u32], sigma2: &[u32]) -> bool
-    ensures { result ≡ all_finite sigma.now && all_finite sigma2.now }
-{
-    if all_finite(sigma) {
-        return all_finite(sigma2);
-    }
-    false
-}
-
-// As many kinds, hf_mul and sigma as bw x bh cells.
-fn all_lengths_fit(bw: usize, bh: usize, kinds: usize, hf_mul: usize, sigma: usize) -> bool
-    ensures { result ≡ lengths_fit bw bh kinds hf_mul && eqb sigma (bh * bw) }
-{
-    if lengths_fit(bw, bh, kinds, hf_mul) {
-        return sigma == kinds;
-    }
-    false
-}
-
-// The lengths of both.
-fn both_lengths_fit(
+// A layout as it is lent with its filter strengths, sigma as bit patterns of f32.
+#[derive(Drop)]
+struct Filtered<'a> {
     bw: usize,
     bh: usize,
-    kinds: usize,
-    hf_mul: usize,
-    sigma: usize,
-    bw2: usize,
-    bh2: usize,
-    kinds2: usize,
-    hf_mul2: usize,
-    sigma2: usize,
-) -> bool
-    ensures { result ≡ (lengths_fit bw bh kinds hf_mul && eqb sigma (bh * bw)) && (lengths_fit bw2 bh2 kinds2 hf_mul2 && eqb sigma2 (bh2 * bw2)) }
-{
-    if all_lengths_fit(bw, bh, kinds, hf_mul, sigma) {
-        return all_lengths_fit(bw2, bh2, kinds2, hf_mul2, sigma2);
-    }
-    false
+    kinds: &'a [u8],
+    hf_mul: &'a [u32],
+    sigma: &'a [u32],
 }
 
-// Both are layouts.
-fn both_layouts(
-    bw: usize,
-    bh: usize,
-    kinds: &[u8],
-    hf_mul: &[u32],
-    bw2: usize,
-    bh2: usize,
-    kinds2: &[u8],
-    hf_mul2: &[u32],
-) -> bool
-    ensures { result ≡ is_lent_layout bw bh kinds.now hf_mul.now && is_lent_layout bw2 bh2 kinds2.now hf_mul2.now }
-{
-    if is_lent_layout(bw, bh, kinds, hf_mul) {
-        return is_lent_layout(bw2, bh2, kinds2, hf_mul2);
+impl<'a> Filtered<'a> {
+    // Sides within the limits.
+    fn is_sided(&self) -> bool
+        ensures { result ≡ sided (of_filtered self.now) }
+    {
+        in_limits(256, self.bw, self.bh)
     }
-    false
-}
 
-// No blocks: width or height zero.
-fn is_empty(bw: usize, bh: usize) -> bool
-    ensures { result ≡ is_empty bw bh }
-{
-    if bw == 0 {
-        return true;
+    // Every sigma is finite, whatever the lengths.
+    fn is_finite(&self) -> bool
+        ensures { result ≡ strengths_finite (of_filtered self.now) }
+    {
+        all_finite(self.sigma)
     }
-    bh == 0
-}
 
-// No blocks in either.
-fn both_empty(bw: usize, bh: usize, bw2: usize, bh2: usize) -> bool
-    ensures { result ≡ is_empty bw bh && is_empty bw2 bh2 }
-{
-    if is_empty(bw, bh) {
-        return is_empty(bw2, bh2);
+    // As many kinds, hf_mul and sigma as bw x bh cells.
+    #[tactic(auto, using(crate::proofs::laws::LikeSteps::sigma_length))]
+    fn all_lengths_fit(&self) -> bool
+        ensures { result ≡ all_lengths_fit (of_filtered self.now) }
+    {
+        let kinds = self.kinds.len();
+        lengths_fit(self.bw, self.bh, kinds, self.hf_mul.len()) && self.sigma.len() == kinds
     }
-    false
-}
 
-// No blocks in either, or the same sides.
-fn sides_alike(bw: usize, bh: usize, bw2: usize, bh2: usize) -> bool
-    ensures { result ≡ sides_alike bw bh bw2 bh2 }
-{
-    if both_empty(bw, bh, bw2, bh2) {
-        return true;
+    // What 18 lets pass.
+    fn is_layout(&self) -> bool
+        ensures { result ≡ is_lent (of_filtered self.now) }
+    {
+        is_lent_layout(self.bw, self.bh, self.kinds, self.hf_mul)
     }
-    if bw == bw2 {
-        return bh == bh2;
-    }
-    false
-}
 
-// The same kinds, hf_mul and sigma.
-fn same_lists(
-    kinds: &[u8],
-    hf_mul: &[u32],
-    sigma: &[u32],
-    kinds2: &[u8],
-    hf_mul2: &[u32],
-    sigma2: &[u32],
-) -> bool
-    ensures { result ≡ same kinds.now kinds2.now && (same hf_mul.now hf_mul2.now && same sigma.now sigma2.now) }
-{
-    if !same_bytes(kinds, kinds2) {
-        return false;
+    // No blocks: width or height zero.
+    fn is_empty(&self) -> bool
+        ensures { result ≡ is_empty self.now.bw self.now.bh }
+    {
+        self.bw == 0 || self.bh == 0
     }
-    if !same_words(hf_mul, hf_mul2) {
-        return false;
+
+    // No blocks in either, or the same sides.
+    fn sides_alike(&self, other: &Filtered<'a>) -> bool
+        ensures { result ≡ sides_alike self.now.bw self.now.bh other.now.bw other.now.bh }
+    {
+        self.is_empty() && other.is_empty() || self.bw == other.bw && self.bh == other.bh
     }
-    same_words(sigma, sigma2)
+
+    // So the sides, and the same kinds, hf_mul and sigma.
+    #[tactic(auto, unfolding(crate::specs::Calls::alike))]
+    fn is_like(&self, other: &Filtered<'a>) -> bool
+        ensures { result ≡ alike (of_filtered self.now) (of_filtered other.now) }
+    {
+        self.sides_alike(other)
+            && same(self.kinds, other.kinds)
+            && same(self.hf_mul, other.hf_mul)
+            && same(self.sigma, other.sigma)
+    }
 }
 
 // Whether two lent layouts are alike; sigma as bit patterns of f32. Each refusal is tried over both before the next: sides (2), a
 // sigma that is not finite (11), lengths (1), 18.
+#[tactic(auto, unfolding(crate::specs::Calls::like_of, lent_check::specs::laws::Laws::is_lent_layout))]
 pub fn alike(
     bw: usize,
     bh: usize,
@@ -158,37 +94,34 @@ pub fn alike(
     kinds2: &[u8],
     hf_mul2: &[u32],
     sigma2: &[u32],
-) -> LikeAnswer
+) -> Result<bool, Refusal>
     ensures { answered result ≡ like_of (filtered bw bh kinds.now hf_mul.now sigma.now) (filtered bw2 bh2 kinds2.now hf_mul2.now sigma2.now) }
 {
-    if !both_sided(bw, bh, bw2, bh2) {
-        return LikeAnswer::Refused(Refusal::Size);
-    }
-    if !both_finite(sigma, sigma2) {
-        return LikeAnswer::Refused(Refusal::Parameter);
-    }
-    if !both_lengths_fit(
+    let one = Filtered {
         bw,
         bh,
-        kinds.len(),
-        hf_mul.len(),
-        sigma.len(),
-        bw2,
-        bh2,
-        kinds2.len(),
-        hf_mul2.len(),
-        sigma2.len(),
-    ) {
-        return LikeAnswer::Refused(Refusal::Length);
+        kinds,
+        hf_mul,
+        sigma,
+    };
+    let two = Filtered {
+        bw: bw2,
+        bh: bh2,
+        kinds: kinds2,
+        hf_mul: hf_mul2,
+        sigma: sigma2,
+    };
+    if !(one.is_sided() && two.is_sided()) {
+        return Err(Refusal::Size);
     }
-    if !both_layouts(bw, bh, kinds, hf_mul, bw2, bh2, kinds2, hf_mul2) {
-        return LikeAnswer::Refused(Refusal::Layout);
+    if !(one.is_finite() && two.is_finite()) {
+        return Err(Refusal::Parameter);
     }
-    if !sides_alike(bw, bh, bw2, bh2) {
-        return LikeAnswer::Unlike;
+    if !(one.all_lengths_fit() && two.all_lengths_fit()) {
+        return Err(Refusal::Length);
     }
-    if same_lists(kinds, hf_mul, sigma, kinds2, hf_mul2, sigma2) {
-        return LikeAnswer::Alike;
+    if !(one.is_layout() && two.is_layout()) {
+        return Err(Refusal::Layout);
     }
-    LikeAnswer::Unlike
+    Ok(one.is_like(&two))
 }

@@ -1,35 +1,11 @@
-// Whether two lists are the same: as long, and number for number.
+// Whether two lists are the same.
 ghost use Rattle.std.specs.Prelude.{◌≡◌};
-ghost use Rattle.lent_lists.specs.Same.{same};
+ghost use Rattle.lent_lists.specs.Same.{same_by};
 
-use crate::both;
-
-pub fn same_bytes(bytes: &[u8], others: &[u8]) -> bool
-    ensures { result ≡ same bytes.now others.now }
+// As long, and each element equal to its other.
+#[tactic(auto, using(crate::proofs::laws::Same::pointwise_same))]
+pub fn same<T: PartialEq>(list: &[T], others: &[T]) -> bool
+    ensures { result ≡ same_by T.eq list.now others.now }
 {
-    if bytes.len() != others.len() {
-        return false;
-    }
-    let mut equal = true;
-    let mut k = 0;
-    while k < bytes.len() {
-        equal = both(equal, bytes[k] == others[k]);
-        k += 1;
-    }
-    equal
-}
-
-pub fn same_words(words: &[u32], others: &[u32]) -> bool
-    ensures { result ≡ same words.now others.now }
-{
-    if words.len() != others.len() {
-        return false;
-    }
-    let mut equal = true;
-    let mut k = 0;
-    while k < words.len() {
-        equal = both(equal, words[k] == others[k]);
-        k += 1;
-    }
-    equal
+    list == others
 }

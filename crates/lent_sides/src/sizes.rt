@@ -4,12 +4,13 @@ ghost use Rattle.lent_sides.specs.laws.Sizes.{size_by};
 
 use dct_select::{Sides, TransformType};
 
-// Blocks across and down of each transform. A call takes them once and lends them on: a constant is laid out anew wherever it is named.
-pub const WIDE: [usize; 27] = [
+// Blocks across and down of each transform, in two tables, as `size_by` takes them. Static: a constant is laid out anew wherever it
+// is named.
+pub static WIDE: [usize; 27] = [
     1, 1, 1, 1, 2, 4, 1, 2, 1, 4, 2, 4, 1, 1, 1, 1, 1, 1, 8, 4, 8, 16, 8, 16, 32, 16, 32,
 ];
 
-pub const HIGH: [usize; 27] = [
+pub static HIGH: [usize; 27] = [
     1, 1, 1, 1, 2, 4, 2, 1, 4, 1, 4, 2, 1, 1, 1, 1, 1, 1, 8, 8, 4, 16, 16, 8, 32, 32, 16,
 ];
 

@@ -7,7 +7,6 @@ ghost use Rattle.lister.specs.Texts.{BAD_INPUT};
 ghost use Rattle.lister.specs.Listing.{bw_of, bh_of, layout_text, text_of};
 
 use crate::lines::{put_accepted, put_refused};
-use layout_call::LayoutAnswer;
 use layout_filter::Filter;
 
 mod lines;
@@ -50,30 +49,24 @@ fn list_layout(
         sigma,
     );
     match answer {
-        LayoutAnswer::Accepted(_) => put_accepted(out, kinds, hf_mul, bw, bh),
-        LayoutAnswer::Refused(why) => put_refused(out, why.numbers()),
+        Ok(_) => put_accepted(out, kinds, hf_mul, bw, bh),
+        Err(why) => put_refused(out, why.numbers()),
     }
 }
 
-// Buffers for 64 x 64 blocks, cut to the job's blocks.
-fn list_buffers(
-    out: &mut [u8],
-    width: u32,
-    height: u32,
-    types: &[u32],
-    muls: &[u32],
-    sharpness: &[u32],
-    kinds: &mut [u8],
-    hf_mul: &mut [u32],
-    sigma: &mut [u32],
-) -> usize
-    requires { (width ≤ 512) × (height ≤ 512) × (sharpness.now ≡ replicate 4096 0) × (kinds.old ≡ replicate 4096 0) × (hf_mul.old ≡ replicate 4096 0) × (sigma.old ≡ replicate 4096 0) }
+// Over buffers for 64 x 64 blocks, cut to the job's blocks: at most 512 pixels are 64 blocks each way.
+fn list_columns(out: &mut [u8], width: u32, height: u32, types: &[u32], muls: &[u32]) -> usize
+    requires { (width ≤ 512) × (height ≤ 512) }
     ensures { Puts out.old 0 (layout_text width height types.now muls.now) out.new result }
 {
     let blocks = layout_sizes::blocks_of(width, height, [0, 0, 0]);
     let bw = blocks.bw;
     let bh = blocks.bh;
     let n = bh * bw;
+    let sharpness = [0u32; 4096];
+    let mut kinds = [0u8; 4096];
+    let mut hf_mul = [0u32; 4096];
+    let mut sigma = [0u32; 4096];
     list_layout(
         out,
         width,
@@ -86,28 +79,6 @@ fn list_buffers(
         &mut sigma[..n],
         bw,
         bh,
-    )
-}
-
-// At most 512 pixels are 64 blocks each way.
-fn list_columns(out: &mut [u8], width: u32, height: u32, types: &[u32], muls: &[u32]) -> usize
-    requires { (width ≤ 512) × (height ≤ 512) }
-    ensures { Puts out.old 0 (layout_text width height types.now muls.now) out.new result }
-{
-    let sharpness = [0u32; 4096];
-    let mut kinds = [0u8; 4096];
-    let mut hf_mul = [0u32; 4096];
-    let mut sigma = [0u32; 4096];
-    list_buffers(
-        out,
-        width,
-        height,
-        types,
-        muls,
-        &sharpness,
-        &mut kinds,
-        &mut hf_mul,
-        &mut sigma,
     )
 }
 

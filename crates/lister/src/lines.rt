@@ -10,17 +10,10 @@ use refusal::Said;
 fn put_varblock(out: &mut [u8], at: usize, x: usize, y: usize, number: usize, hf_mul: u32) -> usize
     ensures { Puts out.old at (line_of (varblock x y number hf_mul)) out.new result }
 {
-    let behind_x = text::put_spaced(out, at, x as u64);
-    let behind_y = text::put_spaced(out, behind_x, y as u64);
-    let behind_number = text::put_spaced(out, behind_y, number as u64);
-    text::put_last(out, behind_number, hf_mul as u64)
-}
-
-fn number_of(kind: u8) -> usize
-    requires { 2 ≤ kind }
-    ensures { result ≡ kind - 2 }
-{
-    (kind - 2) as usize
+    let behind_x = text::put_number(out, at, x as u64, b' ');
+    let behind_y = text::put_number(out, behind_x, y as u64, b' ');
+    let behind_number = text::put_number(out, behind_y, number as u64, b' ');
+    text::put_number(out, behind_number, u64::from(hf_mul), b'\n')
 }
 
 // The line of the block (x, y), if it is a corner.
@@ -42,7 +35,7 @@ fn put_block(
     if kind < 2 {
         return at;
     }
-    put_varblock(out, at, x, y, number_of(kind), hf_mul[i])
+    put_varblock(out, at, x, y, usize::from(kind - 2), hf_mul[i])
 }
 
 // The varblocks, corners row by row.
@@ -58,14 +51,10 @@ fn put_varblocks(
     ensures { Puts out.old at (lines_of (varblocks_of bw bh kinds.now hf_mul.now)) out.new result }
 {
     let mut to = at;
-    let mut y = 0;
-    while y < bh {
-        let mut x = 0;
-        while x < bw {
+    for y in 0..bh {
+        for x in 0..bw {
             to = put_block(out, to, kinds, hf_mul, bw, bh, x, y);
-            x += 1;
         }
-        y += 1;
     }
     to
 }
@@ -82,18 +71,18 @@ pub(crate) fn put_accepted(
     ensures { Puts out.old 0 (accepted_text bw bh kinds.now hf_mul.now) out.new result }
 {
     let behind_blocks = text::put_bytes(out, 0, b"blocks ");
-    let behind_bw = text::put_spaced(out, behind_blocks, bw as u64);
-    let behind_bh = text::put_last(out, behind_bw, bh as u64);
+    let behind_bw = text::put_number(out, behind_blocks, bw as u64, b' ');
+    let behind_bh = text::put_number(out, behind_bw, bh as u64, b'\n');
     let behind_lines = put_varblocks(out, behind_bh, kinds, hf_mul, bw, bh);
     let behind_area = text::put_bytes(out, behind_lines, b"area ");
-    text::put_last(out, behind_area, (bw * bh) as u64)
+    text::put_number(out, behind_area, (bw * bh) as u64, b'\n')
 }
 
 pub(crate) fn put_refused(out: &mut [u8], said: Said) -> usize
     ensures { Puts out.old 0 (refused_text said) out.new result }
 {
     let behind_refused = text::put_bytes(out, 0, b"refused ");
-    let behind_number = text::put_spaced(out, behind_refused, said.number as u64);
-    let behind_x = text::put_spaced(out, behind_number, said.x as u64);
-    text::put_last(out, behind_x, said.y as u64)
+    let behind_number = text::put_number(out, behind_refused, u64::from(said.number), b' ');
+    let behind_x = text::put_number(out, behind_number, said.x as u64, b' ');
+    text::put_number(out, behind_x, said.y as u64, b'\n')
 }

@@ -4,20 +4,6 @@ ghost use Rattle.std.specs.Prelude.{◌≡◌, ◌+◌, ◌≤◌, ◌<◌, leng
 ghost use Rattle.lister_job.specs.Job.{number16 as number16Of, number32 as number32Of, column_place, has_size, size_needs, column_needs, needed as neededOf};
 ghost use Rattle.lister_job.specs.laws.JobSteps.{ReadColumns};
 
-fn to_u32(x: u8) -> u32
-    ensures { result ≡ x }
-{
-    x as u32
-}
-
-// Two bytes that are there.
-fn two_bytes(s: &[u8], i: usize) -> u32
-    requires { i + 2 ≤ length s.now }
-    ensures { result ≡ number16Of s.now i }
-{
-    to_u32(s[i]) + 256 * to_u32(s[i + 1])
-}
-
 // Bytes beyond the end count as 0.
 pub fn number16(s: &[u8], i: usize) -> u32
     ensures { result ≡ number16Of s.now i }
@@ -26,25 +12,23 @@ pub fn number16(s: &[u8], i: usize) -> u32
         return 0;
     }
     if s.len() == i + 1 {
-        return to_u32(s[i]);
+        return u32::from(s[i]);
     }
-    two_bytes(s, i)
+    u32::from(u16::from_le_bytes([s[i], s[i + 1]]))
 }
 
 fn number32(s: &[u8], i: usize) -> u32
     requires { i + 4 ≤ length s.now }
     ensures { result ≡ number32Of s.now i }
 {
-    two_bytes(s, i) + 65536 * two_bytes(s, i + 2)
+    u32::from_le_bytes([s[i], s[i + 1], s[i + 2], s[i + 3]])
 }
 
-// Into 4,096 places each.
-fn read_into(job: &[u8], types: &mut [u32], muls: &mut [u32]) -> usize
-    requires { (length types.old ≡ 4096) × (length muls.old ≡ 4096) }
+// The columns of a job, at most 4,096, and how many there are.
+pub fn read_columns(job: &[u8], types: &mut [u32; 4096], muls: &mut [u32; 4096]) -> usize
     ensures { ReadColumns job.now result types.old muls.old types.new muls.new }
 {
-    let mut n = 0;
-    while n < 4096 {
+    for n in 0..4096 {
         let i = 5 + 9 * n;
         if job.len() < i + 9 {
             return n;
@@ -54,16 +38,8 @@ fn read_into(job: &[u8], types: &mut [u32], muls: &mut [u32]) -> usize
         }
         types[n] = number32(job, i + 1);
         muls[n] = number32(job, i + 5);
-        n += 1;
     }
-    n
-}
-
-// The columns of a job, at most 4,096, and how many there are.
-pub fn read_columns(job: &[u8], types: &mut [u32; 4096], muls: &mut [u32; 4096]) -> usize
-    ensures { ReadColumns job.now result types.old muls.old types.new muls.new }
-{
-    read_into(job, types, muls)
+    4096
 }
 
 // A size's command byte with at most 512 pixels each way.

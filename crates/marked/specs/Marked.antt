@@ -1,5 +1,5 @@
 -- Document 01's marked examples and what document 02 adds to them, as rows of one list under one theorem.
-use Rattle.std.specs.Prelude.{◌≡◌, false, List, [], ◌∷◌, ◌++◌, ℕ, ◌*◌, ◌%◌, ◌^◌, ◌-◌, ◌<◌, pos, negsuc, length, get_or, take, drop, replicate, Float}
+use Rattle.std.specs.Prelude.{◌≡◌, Ok, false, List, [], ◌∷◌, ◌++◌, ℕ, ◌*◌, ◌%◌, ◌^◌, ◌-◌, ◌<◌, pos, negsuc, length, get_or, take, drop, replicate, Float}
 use Rattle.std.specs.Float.{fin}
 use Rattle.std.specs.Float.Ieee.{mul}
 use Rattle.refusal.specs.declared.Refusal.TheVariants.{Preset}
@@ -18,7 +18,6 @@ use Rattle.layout_call.specs.Call.{Outcome, inputs, layout_of}
 use Rattle.layout_accepted.specs.Marked.{off}
 use Rattle.order_store.specs.Store.{PLACES, stretch}
 use Rattle.order_call.specs.Call.{parsed}
-use Rattle.coeff_call.specs.declared.CoeffAnswer.TheVariants.{Accepted}
 use Rattle.refusal.specs.Answer.{gives, refuses}
 use Rattle.coeff_call.specs.Call.{leaves, outcome_of, refuse, preset_bits, call, reading as reading_with}
 use Rattle.lister.specs.Texts.{BAD_INPUT}
@@ -99,7 +98,7 @@ M10 = (map symbols log g0 g1 g2 : List ℕ) → Room 3 1 map log g0 g1 g2
 abbrev pub M11 : Type 0
 M11 = (map log g0 g1 g2 : List ℕ) → Room 1 1 map log g0 g1 g2
     → call (dct8 1 map [] (2 ∷ 3 ∷ 0 ∷ 4 ∷ 0 ∷ 0 ∷ []) log g0 g1 g2)
-    ≡ leaves (Accepted 6) (get_or map 300 0 ∷ get_or map 618 0 ∷ get_or map 558 0 ∷ get_or map 559 0 ∷ get_or map 307 0 ∷ get_or map 307 0 ∷ drop 6 log)
+    ≡ leaves (Ok 6) (get_or map 300 0 ∷ get_or map 618 0 ∷ get_or map 558 0 ∷ get_or map 559 0 ∷ get_or map 307 0 ∷ get_or map 307 0 ∷ drop 6 log)
     g0 (gains (gains g1 8 (2 ^ 32 - 2)) 2 2) g2
 
 -- M12, of document 02, No. 12: Hornuss and Dct8, one block each, are not alike now, though they have the same rectangles and so were alike before

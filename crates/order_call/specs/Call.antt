@@ -1,20 +1,14 @@
 -- What the order call answers and leaves (document 01, Orders and Refused; `HfPass::parse`).
-use Rattle.std.specs.Prelude.{◌≡◌, List, ℕ, ◌*◌, ◌≤◌, eqb, length, replicate}
+use Rattle.std.specs.Prelude.{◌≡◌, List, ℕ, ◌*◌, ◌≤◌, eqb, length, replicate, Result}
+use Rattle.refusal.specs.declared.Refusal.{Refusal}
 use Rattle.refusal.specs.declared.Refusal.TheVariants.{BitsEnd}
 use Rattle.refusal.specs.declared.Said.{Said}
 use Rattle.refusal.specs.Said.{said}
-use Rattle.refusal.specs.Answer.{Answer, gives, refuses, unless, passed, answered_by}
+use Rattle.refusal.specs.Answer.{Answer, gives, refuses, unless, passed, answered_by, answered}
 use Rattle.bits.specs.Bits.{Read, Value, Ended, Constant, Offset, read_u32}
 use Rattle.order_natural.specs.Places.{Place}
 use Rattle.order_store.specs.Store.{stored, PLACES}
-use Rattle.order_call.specs.declared.OrdersAnswer.{OrdersAnswer}
-use Rattle.order_call.specs.declared.OrdersAnswer.TheVariants as answer
 use Rattle.order_call.specs.Orders.{FromSymbols, Given, Refused, orders}
-
--- the symbols read, or a refusal
-abbrev pub answered : OrdersAnswer → Answer ℕ
-answered (answer.Accepted at) = gives at
-answered (answer.Refused why) = refuses (said why)
 
 -- the answer, and the store's final contents
 pub record Outcome : Type 0 where
@@ -24,8 +18,8 @@ pub record Outcome : Type 0 where
 abbrev pub outcome : Answer ℕ → List ℕ → Outcome
 outcome a s = record { answer = a; store = s }
 
--- what the code answers and leaves
-abbrev pub leaves : OrdersAnswer → List ℕ → Outcome
+-- what the code answers, the symbols read or a refusal, and what it leaves
+abbrev pub leaves : Result ℕ Refusal → List ℕ → Outcome
 leaves a s = outcome (answered a) s
 
 -- U32(95, 19, 0, 13 bits)

@@ -4,3 +4,4 @@ pub mod Accepted
 pub mod Wrote
 pub mod Lists
 pub mod Progress
+pub mod Filled

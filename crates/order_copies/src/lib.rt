@@ -1,10 +1,11 @@
 #![tactic(auto)]
 // The first of three lists, copied to the other two piece by piece: what was just read is still near when it is read again.
-ghost use Rattle.std.specs.Prelude.{◌≡◌, ◌+◌, ◌≤◌, min, length, drop};
+ghost use Rattle.std.specs.Prelude.{◌≡◌, ◌+◌, ◌≤◌, length, drop};
 ghost use Rattle.std.proofs.Math.Seq.{paste};
 ghost use Rattle.order_copies.specs.laws.Copies.{three_times};
 
-// m numbers from `from` on, written again from `to` on.
+// m numbers from `from` on, written again from `to` on. A loop by hand: the library's copy within a list asks the host for
+// memmove, and the header promises memcpy and memset alone.
 fn copy_to(list: &mut [u16], from: usize, to: usize, m: usize)
     requires { (from + m ≤ to) × (to + m ≤ length list.old) }
     ensures { list.new ≡ paste list.old to (drop from list.old) m }
@@ -17,21 +18,16 @@ fn copy_to(list: &mut [u16], from: usize, to: usize, m: usize)
     }
 }
 
-// At most 4,096 numbers at a time.
-fn piece_of(n: usize) -> usize
-    ensures { result ≡ min n 4096 }
-{
-    if n < 4096 { n } else { 4096 }
-}
-
 // The first third of the numbers, copied to the second and the last; what is left of a length that is no multiple of three stays.
 pub fn copy_twice(lists: &mut [u16])
     ensures { lists.new ≡ three_times lists.old }
 {
     let n = lists.len() / 3;
+    // By pieces of their own length, which the last has less of.
     let mut b = 0;
     while b < n {
-        let m = piece_of(n - b);
+        // At most 4,096 numbers at a time.
+        let m = (n - b).min(4096);
         copy_to(&mut lists[..], b, n + b, m);
         copy_to(&mut lists[..], b, 2 * n + b, m);
         b += m;

@@ -16,13 +16,14 @@ fn fill_order(lists: &mut [u16], order: usize)
     ensures { lists.new ≡ three_of order }
 {
     if order < 7 {
-        fill_small_order(&mut lists[..], order);
+        fill_small_order(lists, order);
         return;
     }
-    fill_natural_order(&mut lists[..], order);
+    fill_natural_order(lists, order);
 }
 
-// The natural order of each size, for all three channels; false, and nothing written, if the store has another length.
+// The natural order of each size, for all three channels; false, and nothing written, if the store has another length:
+// a test's answer, as `whole_store` is one.
 pub fn fill_natural_orders(store: &mut [u16]) -> bool
     ensures { (result ≡ whole_store store.old) × (store.new ≡ natural_store store.old) }
 {
@@ -30,15 +31,13 @@ pub fn fill_natural_orders(store: &mut [u16]) -> bool
         return false;
     }
     let mut first = 0;
-    let mut k = 0;
-    while k < 13 {
+    for k in 0..13 {
         let size = block_size(k);
         let width = size.width;
         let height = size.height;
         let e = first + 3 * (2 * (width * height));
         fill_order(&mut store[first..e], k);
         first = e;
-        k += 1;
     }
     true
 }

@@ -1,5 +1,5 @@
 -- The same by numbers (document 01, Orders): the numbers 0, 1, .. of the natural order are put in order, and each names its place.
-use Rattle.std.specs.Prelude.{List, [], ◌∷◌, ◌++◌, ℕ, zero, suc, ◌+◌, ◌-◌}
+use Rattle.std.specs.Prelude.{List, [], ◌∷◌, ◌++◌, ℕ, zero, suc, ◌-◌}
 use Rattle.order_permutation.specs.Digits.{chosen}
 
 -- o, o + 1, .., n of them

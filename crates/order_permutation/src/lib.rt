@@ -11,26 +11,14 @@ ghost use Rattle.order_permutation.specs.laws.Packed.{packed, unpacked};
 
 use order_digits::digits_below;
 
-fn to_usize(x: u32) -> usize
-    ensures { result ≡ x }
-{
-    x as usize
-}
-
-fn and_below(all: bool, x: u16, n: u16) -> bool
-    ensures { result ≡ (all && ltb x n) }
-{
-    if x < n { all } else { false }
-}
-
+// No way out before the end, so that many numbers are looked at together.
+#[tactic(auto, using(crate::specs::laws::Below::below_turn, crate::specs::laws::Below::below_end))]
 fn all_below(list: &[u16], n: u16) -> bool
     ensures { result ≡ all_below n list.now }
 {
     let mut all = true;
-    let mut i = 0;
-    while i < list.len() {
-        all = and_below(all, list[i], n);
-        i += 1;
+    for &x in list {
+        all &= x < n;
     }
     all
 }
@@ -40,9 +28,7 @@ fn pack(list: &mut [u16], size: usize)
     requires { (length list.old ≡ 2 * size) × (size ≤ 65536) × (all_below 256 list.old ≡ true) }
     ensures { (length list.new ≡ 2 * size) × (drop size list.new ≡ packed (paired list.old)) }
 {
-    let mut i = size;
-    while 0 < i {
-        i -= 1;
+    for i in (0..size).rev() {
         let x = list[2 * i];
         let y = list[2 * i + 1];
         list[size + i] = x + 256 * y;
@@ -54,16 +40,15 @@ fn unpack(list: &mut [u16], size: usize)
     requires { (length list.old ≡ 2 * size) × (size ≤ 65536) }
     ensures { list.new ≡ flat (unpacked (take size list.old)) }
 {
-    let mut i = size;
-    while 0 < i {
-        i -= 1;
+    for i in (0..size).rev() {
         let v = list[i];
         list[2 * i] = v % 256;
         list[2 * i + 1] = v / 256;
     }
 }
 
-// n numbers from `start` on come to `at`, not behind it.
+// n numbers from `start` on come to `at`, not behind it. A loop by hand: the library's copy within a list asks the host for
+// memmove, and the header promises memcpy and memset alone.
 fn lay(list: &mut [u16], start: usize, at: usize, n: usize)
     requires { (at ≤ start) × (0 < n → start + n ≤ length list.old) }
     ensures { list.new ≡ paste list.old at (drop start list.old) n }
@@ -81,19 +66,14 @@ fn close(list: &mut [u16], e: usize, n: usize, more: usize) -> usize
     requires { e + 1 + n + more ≤ length list.old }
     ensures { (n ≤ result) × (result ≤ n + more) × (list.new ≡ closed list.old e result) }
 {
+    let start = e + 1;
     if more < 32 {
-        lay(&mut list[..], e + 1, e, n);
+        lay(list, start, e, n);
         return n;
     }
-    let k = (n + 31) / 32 * 32;
-    lay(&mut list[..], e + 1, e, k);
+    let k = n.div_ceil(32) * 32;
+    lay(list, start, e, k);
     k
-}
-
-fn short_to_usize(x: u16) -> usize
-    ensures { result ≡ x }
-{
-    x as usize
 }
 
 // How many numbers a block takes, about four times the side of a square list: few blocks are passed, and few numbers move.
@@ -101,22 +81,12 @@ fn span_of(size: usize) -> usize
     requires { size ≤ 65536 }
     ensures { (result ≤ 1024) × (size ≤ 64 * result) }
 {
-    if size <= 1024 {
-        return 128;
+    match size {
+        0..=1024 => 128,
+        1025..=4096 => 256,
+        4097..=16384 => 512,
+        _ => 1024,
     }
-    if size <= 4096 {
-        return 256;
-    }
-    if size <= 16384 {
-        return 512;
-    }
-    1024
-}
-
-fn at_most(n: usize, most: usize) -> usize
-    ensures { result ≡ min n most }
-{
-    if n < most { n } else { most }
 }
 
 // How many numbers each of 64 blocks of `span` has.
@@ -126,12 +96,10 @@ fn counts_of(span: usize, free: usize) -> [u16; 64]
 {
     let mut c = [0u16; 64];
     let mut left = free;
-    let mut i = 0;
-    while i < 64 {
-        let n = at_most(left, span);
+    for i in 0..64 {
+        let n = left.min(span);
         c[i] = n as u16;
-        left = left - n;
-        i += 1;
+        left -= n;
     }
     c
 }
@@ -143,80 +111,59 @@ struct Spot {
     before: usize,
 }
 
-// From a block, back to where no more than d numbers stand before.
-fn back(count: &[u16; 64], block: usize, before: usize, d: usize) -> Spot
-    requires { (length count.now ≡ 64) × (block < 64) × (before ≡ sum_to block count.now) }
+// From a spot, back to where no more than d numbers stand before. A search: how many blocks it passes is not known before.
+fn back(count: &[u16; 64], from: Spot, d: usize) -> Spot
+    requires { (length count.now ≡ 64) × (from.block < 64) × (from.before ≡ sum_to from.block count.now) }
     ensures { (result.block < 64) × (result.before ≡ sum_to result.block count.now) × (result.before ≤ d) }
 {
-    let mut b = block;
-    let mut sum = before;
-    while d < sum {
-        b -= 1;
-        sum -= short_to_usize(count[b]);
+    let mut block = from.block;
+    let mut before = from.before;
+    while d < before {
+        block -= 1;
+        before -= usize::from(count[block]);
     }
-    Spot {
-        block: b,
-        before: sum,
-    }
+    Spot { block, before }
 }
 
-// On to the block in which the d-th of the remaining numbers stands.
-fn find(count: &[u16; 64], block: usize, before: usize, d: usize) -> Spot
-    requires { (length count.now ≡ 64) × (before ≡ sum_to block count.now) × (before ≤ d) × (d < total count.now) }
+// On to the block in which the d-th of the remaining numbers stands. A search too, and it ends within the blocks.
+#[tactic(auto, using(crate::specs::laws::Blocks::some_left, crate::specs::laws::Blocks::sum_step))]
+fn find(count: &[u16; 64], from: Spot, d: usize) -> Spot
+    requires { (length count.now ≡ 64) × (from.before ≡ sum_to from.block count.now) × (from.before ≤ d) × (d < total count.now) }
     ensures { (result.block < 64) × (result.before ≡ sum_to result.block count.now) × (result.before ≤ d) × (d < result.before + get_or count.now result.block 0) }
 {
-    let mut b = block;
-    let mut sum = before;
+    let mut block = from.block;
+    let mut before = from.before;
     loop {
-        let n = short_to_usize(count[b]);
-        if d - sum < n {
-            return Spot {
-                block: b,
-                before: sum,
-            };
+        let n = usize::from(count[block]);
+        if d - before < n {
+            return Spot { block, before };
         }
-        sum += n;
-        b += 1;
+        before += n;
+        block += 1;
     }
 }
 
-// A number that was taken out, and where: the search for the next one starts there.
-#[derive(Clone, Copy)]
-struct Taken {
-    value: u16,
-    block: usize,
-    before: usize,
-}
-
-// The d-th of the remaining numbers, taken out of its block.
+// The d-th of the remaining numbers, taken out of its block, and where it stood: the search for the next one starts there.
 fn take_out(
     rest: &mut [u16],
     count: &mut [u16; 64],
     span: usize,
-    block: usize,
-    before: usize,
+    from: Spot,
     d: usize,
-) -> Taken
-    requires { Ready span count.old rest.old × (block < 64) × (before ≡ sum_to block count.old) × (d < total count.old) }
-    ensures { Out span count.old rest.old d result.value count.new rest.new × (result.block < 64) × (result.before ≡ sum_to result.block count.new) }
+) -> (u16, Spot)
+    requires { Ready span count.old rest.old × (from.block < 64) × (from.before ≡ sum_to from.block count.old) × (d < total count.old) }
+    ensures { Out span count.old rest.old d result.0 count.new rest.new × (result.1.block < 64) × (result.1.before ≡ sum_to result.1.block count.new) }
 {
-    let near = back(count, block, before, d);
-    let s = find(count, near.block, near.before, d);
-    let b = s.block;
-    let sum = s.before;
-    let e = d - sum;
-    let n = short_to_usize(count[b]);
+    let s = find(count, back(count, from, d), d);
+    let e = d - s.before;
+    let n = usize::from(count[s.block]);
     let behind = n - 1 - e;
-    let start = b * span;
+    let start = s.block * span;
     let value = rest[start + e];
-    let end = at_most(start + span, rest.len());
+    let end = (start + span).min(rest.len());
     close(&mut rest[start..], e, behind, end - start - n);
-    count[b] = (n - 1) as u16;
-    Taken {
-        value,
-        block: b,
-        before: sum,
-    }
+    count[s.block] = (n - 1) as u16;
+    (value, s)
 }
 
 // A number for each digit, from `skip` on; what the blocks have left.
@@ -226,16 +173,14 @@ fn draw(list: &mut [u16], span: usize, size: usize, skip: usize, digits: &[u32])
 {
     let mut count = counts_of(span, size - skip);
     let from = size + skip;
-    let mut block = 0;
-    let mut before = 0;
-    let mut k = 0;
-    while k < digits.len() {
-        let d = to_usize(digits[k]);
-        let t = take_out(&mut list[from..], &mut count, span, block, before, d);
-        list[skip + k] = t.value;
-        block = t.block;
-        before = t.before;
-        k += 1;
+    let mut spot = Spot {
+        block: 0,
+        before: 0,
+    };
+    for (k, &d) in digits.iter().enumerate() {
+        let (value, next) = take_out(&mut list[from..], &mut count, span, spot, d as usize);
+        list[skip + k] = value;
+        spot = next;
     }
     count
 }
@@ -247,14 +192,14 @@ fn lay_rest(list: &mut [u16], span: usize, from: usize, at: usize, count: &[u16;
         × (take (at + total count.now) list.new ≡ take at list.old ++ remaining span count.now (drop from list.old)) }
 {
     let mut to = at;
-    let mut start = from;
-    let mut b = 0;
-    while b < 64 {
-        let n = short_to_usize(count[b]);
-        lay(&mut list[..], start, to, n);
-        to += n;
-        start += span;
-        b += 1;
+    for (b, &n) in count.iter().enumerate() {
+        let n = usize::from(n);
+        // A block without numbers may begin behind the list.
+        if 0 < n {
+            let start = from + b * span;
+            lay(list, start, to, n);
+            to += n;
+        }
     }
 }
 
@@ -263,8 +208,8 @@ fn pack_fixed(list: &mut [u16], size: usize, skip: usize)
     requires { (length list.old ≡ 2 * size) × (size ≤ 65536) × (skip ≤ size) × (all_below 256 list.old ≡ true) }
     ensures { PackedFixed size skip list.old list.new }
 {
-    pack(&mut list[..], size);
-    lay(&mut list[..], size, 0, skip);
+    pack(list, size);
+    lay(list, size, 0, skip);
 }
 
 // A number for each digit behind the fixed ones, then the numbers that remain.
@@ -274,29 +219,24 @@ fn draw_all(list: &mut [u16], size: usize, skip: usize, digits: &[u32])
         × (take size list.new ≡ take skip list.old ++ chosen 0 digits.now (drop (size + skip) list.old)) }
 {
     let span = span_of(size);
-    let count = draw(&mut list[..], span, size, skip, digits);
-    lay_rest(
-        &mut list[..],
-        span,
-        size + skip,
-        skip + digits.len(),
-        &count,
-    );
+    let count = draw(list, span, size, skip, digits);
+    lay_rest(list, span, size + skip, skip + digits.len(), &count);
 }
 
 fn reorder(list: &mut [u16], size: usize, skip: usize, digits: &[u32])
     requires { (length list.old ≡ 2 * size) × (size ≤ 65536) × (skip ≤ size) × (all_below 256 list.old ≡ true) × Below digits.now (size - skip) }
     ensures { list.new ≡ flat (ordered (0, 0) skip (paired list.old) digits.now) }
 {
-    if digits.len() == 0 {
+    if digits.is_empty() {
         return;
     }
-    pack_fixed(&mut list[..], size, skip);
-    draw_all(&mut list[..], size, skip, digits);
-    unpack(&mut list[..], size);
+    pack_fixed(list, size, skip);
+    draw_all(list, size, skip, digits);
+    unpack(list, size);
 }
 
-// The first `skip` places stay, the rest follows as the digits choose; false, and nothing moved, if they do not fit the list.
+// The first `skip` places stay, the rest follows as the digits choose; false, and nothing moved, if they do not fit the list:
+// a test's answer, as `permutable` is one, with nothing to hand back.
 pub fn permute(list: &mut [u16], skip: usize, digits: &[u32]) -> bool
     ensures { (result ≡ permutable list.old skip digits.now) × (list.new ≡ permuted list.old skip digits.now) }
 {
@@ -317,6 +257,6 @@ pub fn permute(list: &mut [u16], skip: usize, digits: &[u32]) -> bool
     if good != digits.len() {
         return false;
     }
-    reorder(&mut list[..], size, skip, digits);
+    reorder(list, size, skip, digits);
     true
 }

@@ -5,64 +5,45 @@ ghost use Rattle.order_store.specs.Store.{inside_all, places_fit};
 ghost use Rattle.order_places.specs.laws.Powers.{Power};
 ghost use Rattle.order_places.specs.laws.Ors.{or_each};
 
-use order_sizes::block_size;
+use order_sizes::{OrderSize, block_size};
 use order_store::NUMBERS;
 
-fn to_usize(x: u16) -> usize
-    ensures { result ≡ x }
+// Whether each x, y of a few is inside a size whose sides are powers of two: all x are below a power of two just if the or of all
+// is, and all y likewise.
+fn few_inside(list: &[u16], size: OrderSize) -> bool
+    requires { Power size.width × Power size.height }
+    ensures { result ≡ inside_all size.width size.height list.now }
 {
-    x as usize
-}
-
-// Whether each x, y of a few is inside: all x are below a power of two just if the or of all is, and all y likewise.
-fn few_inside(list: &[u16], width: usize, height: usize) -> bool
-    requires { Power width × Power height }
-    ensures { result ≡ inside_all width height list.now }
-{
-    let n = list.len() / 2;
     let mut xs: u16 = 0;
     let mut ys: u16 = 0;
-    let mut i = 0;
-    while i < n {
-        xs = xs | list[2 * i];
-        ys = ys | list[2 * i + 1];
-        i += 1;
+    for i in 0..list.len() / 2 {
+        xs |= list[2 * i];
+        ys |= list[2 * i + 1];
     }
-    if to_usize(xs) < width {
-        return to_usize(ys) < height;
-    }
-    false
+    usize::from(xs) < size.width && usize::from(ys) < size.height
 }
 
 // Number by number the or with a part of 64.
-fn or_into(ors: &mut [u16; 64], part: &[u16])
+fn or_into(ors: &mut [u16; 64], part: &[u16; 64])
     requires { (length ors.old ≡ 64) × (length part.now ≡ 64) }
     ensures { ors.new ≡ or_each ors.old part.now }
 {
-    let mut j = 0;
-    while j < 64 {
-        let v = ors[j] | part[j];
-        ors[j] = v;
-        j += 1;
+    for j in 0..64 {
+        ors[j] |= part[j];
     }
 }
 
-// Whether each x, y is inside, 32 places at a time.
-fn all_inside(list: &[u16], width: usize, height: usize) -> bool
-    requires { Power width × Power height }
-    ensures { result ≡ inside_all width height list.now }
+// Whether each x, y is inside a size, 32 places at a time.
+fn all_inside(list: &[u16], size: OrderSize) -> bool
+    requires { Power size.width × Power size.height }
+    ensures { result ≡ inside_all size.width size.height list.now }
 {
     let mut ors = [0u16; 64];
-    let mut at = 0;
-    while 64 <= list.len() - at {
-        let e = at + 64;
-        or_into(&mut ors, &list[at..e]);
-        at = e;
+    let (parts, rest) = list.as_chunks::<64>();
+    for part in parts {
+        or_into(&mut ors, part);
     }
-    if !few_inside(&ors, width, height) {
-        return false;
-    }
-    few_inside(&list[at..], width, height)
+    few_inside(&ors, size) && few_inside(rest, size)
 }
 
 // Whether a store is whole and every place of its 39 lists inside its order's size.
@@ -73,17 +54,13 @@ pub fn places_fit(store: &[u16]) -> bool
         return false;
     }
     let mut first = 0;
-    let mut i = 0;
-    while i < 39 {
+    for i in 0..39 {
         let size = block_size(i / 3);
-        let width = size.width;
-        let height = size.height;
-        let e = first + 2 * (width * height);
-        if !all_inside(&store[first..e], width, height) {
+        let e = first + 2 * (size.width * size.height);
+        if !all_inside(&store[first..e], size) {
             return false;
         }
         first = e;
-        i += 1;
     }
     true
 }

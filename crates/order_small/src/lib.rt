@@ -15,6 +15,7 @@ ghost use Rattle.order_small.specs.laws.Coordinates.{coordinate_of};
 ghost use Rattle.order_small.specs.laws.Small.{small_room, small_filled};
 
 // What a digit to the base 32 stands for: 0 to 9, then a to v.
+#[tactic(auto, unfolding(crate::specs::laws::Coordinates::coordinate_of))]
 fn coordinate(c: u8) -> u8
     ensures { result ≡ coordinate_of c }
 {
@@ -26,10 +27,8 @@ fn put_stretch(list: &mut [u16], stretch: &[u8])
     requires { length list.old ≡ length stretch.now }
     ensures { list.new ≡ map coordinate_of stretch.now }
 {
-    let mut j = 0;
-    while j < list.len() {
-        list[j] = coordinate(stretch[j]) as u16;
-        j += 1;
+    for (j, &c) in stretch.iter().enumerate() {
+        list[j] = u16::from(coordinate(c));
     }
 }
 
@@ -39,18 +38,19 @@ fn put_small(list: &mut [u16], order: usize)
     ensures { (list.new ≡ flat (natural (width_of order) (height_of order))) × (Facts (width_of order) (height_of order) (paired list.new)) }
 {
     match order {
-        0 => put_stretch(&mut list[..], &ORDER_0),
-        1 => put_stretch(&mut list[..], &ORDER_1),
-        2 => put_stretch(&mut list[..], &ORDER_2),
-        3 => put_stretch(&mut list[..], &ORDER_3),
-        4 => put_stretch(&mut list[..], &ORDER_4),
-        5 => put_stretch(&mut list[..], &ORDER_5),
-        _ => put_stretch(&mut list[..], &ORDER_6),
+        0 => put_stretch(list, &ORDER_0),
+        1 => put_stretch(list, &ORDER_1),
+        2 => put_stretch(list, &ORDER_2),
+        3 => put_stretch(list, &ORDER_3),
+        4 => put_stretch(list, &ORDER_4),
+        5 => put_stretch(list, &ORDER_5),
+        _ => put_stretch(list, &ORDER_6),
     }
 }
 
 // The natural order of one of orders 0 to 6, in each of three lists; false, and nothing written, if it is another order or the
-// lists are not as long.
+// lists are not as long: a test's answer, as `small_room` is one. It and `fill_natural_order` differ in more than the limit, as
+// `small_filled` and `filled` say.
 pub fn fill_small_order(lists: &mut [u16], order: usize) -> bool
     ensures { (result ≡ small_room lists.old order) × (lists.new ≡ small_filled lists.old order) }
 {
@@ -65,6 +65,6 @@ pub fn fill_small_order(lists: &mut [u16], order: usize) -> bool
         return false;
     }
     put_small(&mut lists[0..n], order);
-    copy_twice(&mut lists[..]);
+    copy_twice(lists);
     true
 }

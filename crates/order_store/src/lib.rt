@@ -9,6 +9,7 @@ ghost use Rattle.order_store.specs.LookedUp.{stretch_at};
 pub const NUMBERS: usize = 787968;
 
 // Where the three lists of an order begin. A `match`, since a constant array is laid out anew wherever it is named.
+#[tactic(auto, using(crate::specs::laws::Offsets::first_at))]
 fn first_of(order: usize) -> usize
     requires { order < 13 }
     ensures { result ≡ first_of (3 * order) }
@@ -31,6 +32,7 @@ fn first_of(order: usize) -> usize
 }
 
 // The numbers of one list of an order.
+#[tactic(auto, using(crate::specs::laws::Offsets::count_at))]
 fn numbers_of(order: usize) -> usize
     requires { order < 13 }
     ensures { result ≡ 2 * (width_of order * height_of order) }
@@ -59,7 +61,7 @@ pub struct Stretch {
     pub len: usize,
 }
 
-// Where a list lies in a store of so many numbers; nowhere, if there is none.
+// Where a list lies in a store of so many numbers; nowhere, 0 of 0, if there is none, as `stretch_at` and the C interface have it.
 pub fn stretch_of(numbers: usize, order: usize, channel: usize) -> Stretch
     ensures { result ≡ stretch_at numbers order channel }
 {
@@ -82,8 +84,5 @@ pub fn order(store: &[u16], order: usize, channel: usize) -> &[u16]
     ensures { result.now ≡ stretch store.now order channel }
 {
     let s = stretch_of(store.len(), order, channel);
-    let a = s.first;
-    let n = s.len;
-    let e = a + n;
-    &store[a..e]
+    &store[s.first..s.first + s.len]
 }

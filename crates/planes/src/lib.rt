@@ -7,28 +7,28 @@ ghost use Rattle.planes.specs.Planes.{halved, half, is_first};
 pub fn halved(shift: u32, n: usize) -> usize
     ensures { result ≡ halved shift n }
 {
-    if shift == 0 {
-        return n;
+    match shift {
+        0 => n,
+        _ => n.div_ceil(2),
     }
-    n - n / 2
 }
 
 // The plane's block in which the group's block x lies.
 pub fn half(shift: u32, x: usize) -> usize
     ensures { result ≡ half shift x }
 {
-    if shift == 0 {
-        return x;
+    match shift {
+        0 => x,
+        _ => x / 2,
     }
-    x / 2
 }
 
 // Block x is the first of those in its block of the plane.
 pub fn is_first(shift: u32, x: usize) -> bool
     ensures { result ≡ is_first shift x }
 {
-    if shift == 0 {
-        return true;
+    match shift {
+        0 => true,
+        _ => x % 2 == 0,
     }
-    x % 2 == 0
 }

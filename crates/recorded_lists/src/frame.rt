@@ -1,29 +1,38 @@
 // The records of a list, one behind the other.
-ghost use Rattle.std.specs.Prelude.{◌≡◌};
+ghost use Rattle.std.specs.Prelude.{◌≡◌, ◌<◌, ◌≤◌, length, IfOk, IfSome};
 ghost use Rattle.recorded_lists.specs.Frames.{frame_of};
 
 use crate::list::{has_room, second};
-use crate::to_usize;
 
-// What stands at a place of a list.
+// A record: the call's number, and where its body starts and ends.
 #[derive(Drop)]
-pub enum Frame {
-    // The call's number, and where its body starts and ends.
-    Record(u32, usize, usize),
-    End,
-    Malformed,
+pub struct Frame {
+    pub call: u32,
+    pub start: usize,
+    pub end: usize,
 }
 
-pub fn next(words: &[u32], at: usize) -> Frame
-    ensures { result ≡ frame_of words.now at }
+// A record that does not end in its list.
+#[derive(Drop)]
+pub struct Malformed;
+
+// The record at a place of a list, none at the list's end.
+pub fn next(words: &[u32], at: usize) -> Result<Option<Frame>, Malformed>
+    ensures value { result ≡ frame_of words.now at }
+    ensures goes_on { IfOk result (λ there. IfSome there (λ frame. (at < frame.start) × (frame.start ≤ frame.end) × (frame.end ≤ length words.now))) }
 {
     if at == words.len() {
-        return Frame::End;
+        return Ok(None);
     }
     let size = second(words, at);
     if !has_room(at, size, words.len()) {
-        return Frame::Malformed;
+        return Err(Malformed);
     }
     let start = at + 2;
-    Frame::Record(words[at], start, start + to_usize(size))
+    let end = start + size as usize;
+    Ok(Some(Frame {
+        call: words[at],
+        start,
+        end,
+    }))
 }

@@ -3,16 +3,11 @@
 ghost use Rattle.std.specs.Prelude.{◌≡◌, ◌+◌, ◌≤◌, leb, length, get_or};
 ghost use Rattle.recorded_lists.specs.Lists.{behind_one, place_of, span_of, byte_span_of, list_at, bytes_at};
 
-use crate::to_usize;
-
 // The number at a place, 0 behind the end.
 pub fn number(words: &[u32], at: usize) -> u32
     ensures { result ≡ get_or words.now at 0 }
 {
-    if at < words.len() {
-        return words[at];
-    }
-    0
+    words.get(at).copied().unwrap_or(0)
 }
 
 // The number behind the one at a place, 0 behind the end.
@@ -29,7 +24,7 @@ pub(crate) fn second(words: &[u32], at: usize) -> u32
 pub(crate) fn has_room(at: usize, n: u32, most: usize) -> bool
     ensures { result ≡ leb (at + 2 + n) most }
 {
-    let size = to_usize(n) + 2;
+    let size = n as usize + 2;
     if most < size {
         return false;
     }
@@ -44,7 +39,7 @@ fn behind_one(words: &[u32], at: usize) -> usize
     if !has_room(at, size, words.len()) {
         return words.len();
     }
-    at + 2 + to_usize(size)
+    at + 2 + size as usize
 }
 
 // The place behind the first k lists from a place on.
@@ -52,15 +47,13 @@ fn place(words: &[u32], from: usize, k: usize) -> usize
     ensures { result ≡ place_of words.now from k }
 {
     let mut at = from;
-    let mut i = 0;
-    while i < k {
+    for _ in 0..k {
         at = behind_one(words, at);
-        i += 1;
     }
     at
 }
 
-// A part of a list; nothing where it is not there.
+// A part of a list; nothing where it is not there, as `span_of` and `byte_span_of` of specs/Lists have it.
 #[derive(Drop)]
 struct Span {
     start: usize,
@@ -78,7 +71,7 @@ fn span_at(words: &[u32], at: usize) -> Span
     let start = at + 2;
     Span {
         start,
-        end: start + to_usize(count),
+        end: start + count as usize,
     }
 }
 
@@ -87,10 +80,8 @@ pub fn list(words: &[u32], from: usize, k: usize) -> &[u32]
     ensures { result.now ≡ list_at words.now (place_of words.now from k) }
 {
     let at = place(words, from, k);
-    let s = span_at(words, at);
-    let a = s.start;
-    let e = s.end;
-    &words[a..e]
+    let span = span_at(words, at);
+    &words[span.start..span.end]
 }
 
 // Where a list of bytes lies in so many bytes, if its head is at a place of the numbers.
@@ -101,7 +92,7 @@ fn byte_span(words: &[u32], at: usize, bytes: usize) -> Span
     if !has_room(at, 0, bytes / 4) {
         return Span { start: 0, end: 0 };
     }
-    let count = to_usize(second(words, at));
+    let count = second(words, at) as usize;
     let start = 4 * (at + 2);
     if bytes - start < count {
         return Span { start: 0, end: 0 };
@@ -117,8 +108,6 @@ pub fn bytes<'a>(body: &'a [u8], words: &[u32], from: usize, k: usize) -> &'a [u
     ensures { result.now ≡ bytes_at body.now words.now (place_of words.now from k) }
 {
     let at = place(words, from, k);
-    let s = byte_span(words, at, body.len());
-    let a = s.start;
-    let e = s.end;
-    &body[a..e]
+    let span = byte_span(words, at, body.len());
+    &body[span.start..span.end]
 }

@@ -1,14 +1,8 @@
 #![tactic(auto)]
 // The bytes of a file as numbers of four bytes, lowest byte first.
-ghost use Rattle.std.specs.Prelude.{◌≡◌, ◌++◌, ◌+◌, ◌*◌, ◌<◌, ◌≤◌, length, drop};
+ghost use Rattle.std.specs.Prelude.{◌≡◌, ◌++◌, ◌+◌, ◌*◌, ◌≤◌, length, drop};
 ghost use Rattle.recorded_words.specs.Words.{word_at, word_count, words_of};
 ghost use Rattle.io.specs.Counts.{IsPrefixLen};
-
-fn to_u32(x: u8) -> u32
-    ensures { (result ≡ x) × (result < 256) }
-{
-    x as u32
-}
 
 // The i-th number.
 fn word(file: &[u8], i: usize) -> u32
@@ -16,9 +10,7 @@ fn word(file: &[u8], i: usize) -> u32
     ensures { result ≡ word_at file.now i }
 {
     let p = 4 * i;
-    let low = to_u32(file[p]) + 256 * to_u32(file[p + 1]);
-    let high = to_u32(file[p + 2]) + 256 * to_u32(file[p + 3]);
-    low + 65536 * high
+    u32::from_le_bytes([file[p], file[p + 1], file[p + 2], file[p + 3]])
 }
 
 // As many whole numbers as there are and fit.
@@ -26,10 +18,7 @@ fn count(bytes: usize, room: usize) -> usize
     ensures value { result ≡ word_count bytes room }
     ensures result_bound { (4 * result ≤ bytes) × (result ≤ room) }
 {
-    if room < bytes / 4 {
-        return room;
-    }
-    bytes / 4
+    room.min(bytes / 4)
 }
 
 // Writes the whole numbers of a file, as many as fit, and gives how many.
@@ -38,10 +27,8 @@ pub fn decode(file: &[u8], out: &mut [u32]) -> usize
     ensures prefix_len { IsPrefixLen result out.new }
 {
     let n = count(file.len(), out.len());
-    let mut i = 0;
-    while i < n {
+    for i in 0..n {
         out[i] = word(file, i);
-        i += 1;
     }
     n
 }

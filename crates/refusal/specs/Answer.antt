@@ -1,7 +1,8 @@
 -- Answers of calls, and the chain of checks before work (document 01, Refused, and what then remains).
-use Rattle.std.specs.Prelude.{Bool, cond, ℕ}
+use Rattle.std.specs.Prelude.{Bool, cond, ℕ, Result, Ok, Err}
+use Rattle.refusal.specs.declared.Refusal.{Refusal}
 use Rattle.refusal.specs.declared.Said.{Said}
-use Rattle.refusal.specs.Said.{said_at}
+use Rattle.refusal.specs.Said.{said_at, said}
 
 -- a result, or a refusal's number and position
 pub data Answer (A : Type 0) : Type 0 where
@@ -20,3 +21,8 @@ passed = gives tt
 abbrev pub answered_by : {A O : Type 0} → Answer A → (Said → O) → (A → O) → O
 answered_by (refuses s) refuse work = refuse s
 answered_by (gives a) refuse work = work a
+
+-- what code answers: Ok gives its result, Err refuses with what its refusal says
+abbrev pub answered : {A : Type 0} → Result A Refusal → Answer A
+answered (Ok a) = gives a
+answered (Err r) = refuses (said r)

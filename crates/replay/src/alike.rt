@@ -1,18 +1,8 @@
 // Call 5: the likeness of two layouts. Width and height of each; kinds, hf_mul and sigma of each.
-use crate::answer::refuse;
+use crate::answer::put;
 use crate::lent::length;
-use lent_likeness::{LikeAnswer, alike};
+use lent_likeness::alike;
 use recorded_lists::list::{bytes, list};
-
-fn put(out: &mut [usize; 48], answer: LikeAnswer) {
-    match answer {
-        LikeAnswer::Alike => {
-            out[3] = 1;
-        }
-        LikeAnswer::Unlike => {}
-        LikeAnswer::Refused(why) => refuse(out, why),
-    }
-}
 
 pub(crate) fn replay(body: &[u8], words: &[u32], out: &mut [usize; 48]) -> usize {
     let answer = alike(
@@ -27,6 +17,6 @@ pub(crate) fn replay(body: &[u8], words: &[u32], out: &mut [usize; 48]) -> usize
         list(words, 4, 4),
         list(words, 4, 5),
     );
-    put(out, answer);
+    put(out, answer.map(|same| usize::from(same)));
     4
 }

@@ -10,18 +10,21 @@ pub(crate) fn refuse(out: &mut [usize; 48], why: Refusal) {
     out[2] = said.y;
 }
 
+// The answer of a call that gives one number.
+pub(crate) fn put(out: &mut [usize; 48], answer: Result<usize, Refusal>) {
+    match answer {
+        Ok(number) => out[3] = number,
+        Err(why) => refuse(out, why),
+    }
+}
+
 // How many of the first numbers of an answer are those at the end of a record.
-fn agreed_of(words: &[u32], count: usize, mine: &[usize]) -> usize {
+pub(crate) fn agreed(words: &[u32], count: usize, mine: &[usize]) -> usize {
     if mine.len() < count {
         return 0;
     }
     if words.len() < count {
         return 0;
     }
-    let at = words.len() - count;
-    agreeing(&words[at..], &mine[..count])
-}
-
-pub(crate) fn agreed(words: &[u32], count: usize, mine: &[usize; 48]) -> usize {
-    agreed_of(words, count, mine)
+    agreeing(&words[words.len() - count..], &mine[..count])
 }

@@ -2,42 +2,31 @@
 // grids there, how the store is changed, the store's length, presets, the cluster map's length,
 // shift, lengths of the grids and the log; the group's kinds and hf_mul, the record's three lists,
 // three LF grids, the order call's bytes and symbols, bytes, symbols.
-use crate::answer::refuse;
-use crate::lent::{fill_map, fit_bytes, fit_shorts, fit_words, length};
+use crate::answer::put;
+use crate::lent::{fill_map, length};
 use crate::{record, store};
-use coeff_call::{CoeffAnswer, write_hf_coeff};
+use coeff_call::write_hf_coeff;
 use lent_check::GroupSides;
-use recorded_answers::digest::{of_bytes, of_words};
+use recorded_answers::digest::of;
 use recorded_lists::list::{bytes, list, number};
 
-fn put(out: &mut [usize; 48], answer: CoeffAnswer) {
-    match answer {
-        CoeffAnswer::Accepted(symbols_read) => {
-            out[3] = symbols_read;
-        }
-        CoeffAnswer::Refused(why) => refuse(out, why),
-    }
-}
-
-fn group(words: &[u32]) -> GroupSides {
-    GroupSides {
-        bw: length(words, 0),
-        bh: length(words, 1),
-    }
-}
-
-fn write<'a>(
-    body: &'a [u8],
-    words: &'a [u32],
-    orders: &'a [u16],
-    cluster_map: &'a [u8],
+fn replay_in(
+    body: &[u8],
+    words: &[u32],
+    orders: &[u16],
+    cluster_map: &[u8],
     log: &mut [u8],
     g0: &mut [u32],
     g1: &mut [u32],
     g2: &mut [u32],
-) -> CoeffAnswer {
-    write_hf_coeff(
-        group(words),
+    out: &mut [usize; 48],
+) {
+    let group = GroupSides {
+        bw: length(words, 0),
+        bh: length(words, 1),
+    };
+    let answer = write_hf_coeff(
+        group,
         bytes(body, words, 18, 0),
         list(words, 18, 1),
         record::read(body, words),
@@ -55,50 +44,30 @@ fn write<'a>(
         g0,
         g1,
         g2,
-    )
-}
-
-fn put_left(out: &mut [usize; 48], log: &[u8], g0: &[u32], g1: &[u32], g2: &[u32]) {
-    out[4] = of_words(g0);
-    out[5] = of_words(g1);
-    out[6] = of_words(g2);
-    out[7] = of_bytes(log);
-}
-
-fn replay_in<'a>(
-    body: &'a [u8],
-    words: &'a [u32],
-    orders: &'a [u16],
-    cluster_map: &'a [u8],
-    log: &mut [u8],
-    g0: &mut [u32],
-    g1: &mut [u32],
-    g2: &mut [u32],
-    out: &mut [usize; 48],
-) {
-    put(
-        out,
-        write(body, words, orders, cluster_map, log, g0, g1, g2),
     );
-    put_left(out, log, g0, g1, g2);
+    put(out, answer);
+    out[4] = of(g0);
+    out[5] = of(g1);
+    out[6] = of(g2);
+    out[7] = of(log);
 }
 
 // Lends what is written.
-fn replay_lent<'a>(
-    body: &'a [u8],
-    words: &'a [u32],
-    orders: &'a [u16],
-    cluster_map: &'a [u8],
+fn replay_lent(
+    body: &[u8],
+    words: &[u32],
+    orders: &[u16],
+    cluster_map: &[u8],
     out: &mut [usize; 48],
 ) {
     let mut log = [0xa5u8; 16384];
     let mut g0 = [0x0bad_cafeu32; 4096];
     let mut g1 = [0x0bad_cafeu32; 4096];
     let mut g2 = [0x0bad_cafeu32; 4096];
-    let a = fit_words(&g0, length(words, 14));
-    let b = fit_words(&g1, length(words, 15));
-    let d = fit_words(&g2, length(words, 16));
-    let l = fit_bytes(&log, length(words, 17));
+    let a = length(words, 14).min(4096);
+    let b = length(words, 15).min(4096);
+    let d = length(words, 16).min(4096);
+    let l = length(words, 17).min(16384);
     replay_in(
         body,
         words,
@@ -112,39 +81,32 @@ fn replay_lent<'a>(
     );
 }
 
-fn replay_with<'a>(body: &'a [u8], words: &'a [u32], orders: &'a [u16], out: &mut [usize; 48]) {
+fn replay_with(body: &[u8], words: &[u32], orders: &[u16], out: &mut [usize; 48]) {
     let mut cluster_map = [0u8; 65536];
     fill_map(&mut cluster_map);
-    let m = fit_bytes(&cluster_map, length(words, 12));
+    let m = length(words, 12).min(65536);
     replay_lent(body, words, orders, &cluster_map[..m], out);
 }
 
 // The store is what the order call writes, changed.
-fn replay_after<'a>(
-    body: &'a [u8],
-    words: &'a [u32],
-    orders: &mut [u16],
+fn replay_whole(
+    body: &[u8],
+    words: &[u32],
+    orders: &mut [u16; 787968],
     out: &mut [usize; 48],
 ) -> usize {
     if !store::write(body, words, orders) {
         return 0;
     }
     store::change(words, orders);
-    let n = fit_shorts(orders, length(words, 10));
+    let n = length(words, 10).min(787968);
     replay_with(body, words, &orders[..n], out);
     8
 }
 
-fn replay_whole<'a>(
-    body: &'a [u8],
-    words: &'a [u32],
-    orders: &mut [u16; 787968],
-    out: &mut [usize; 48],
-) -> usize {
-    replay_after(body, words, orders, out)
-}
-
-pub(crate) fn replay<'a>(body: &'a [u8], words: &'a [u32], out: &mut [usize; 48]) -> usize {
+// A part is cut in a function of its own: where an array of this size is made, the check of a cut
+// goes too deep.
+pub(crate) fn replay(body: &[u8], words: &[u32], out: &mut [usize; 48]) -> usize {
     let mut orders = [0u16; 787968];
     replay_whole(body, words, &mut orders, out)
 }

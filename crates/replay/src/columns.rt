@@ -1,17 +1,7 @@
 // Call 2: the column count. Width, height and three modes; the bytes.
 use crate::answer::refuse;
-use layout_column_count::{ColumnCount, column_count};
+use layout_column_count::column_count;
 use recorded_lists::list::{bytes, number};
-
-fn put(out: &mut [usize; 48], answer: ColumnCount) {
-    match answer {
-        ColumnCount::Count(count, bits_read) => {
-            out[3] = count as usize;
-            out[4] = bits_read;
-        }
-        ColumnCount::Refused(why) => refuse(out, why),
-    }
-}
 
 // The modes of a record that begins with width, height and three modes.
 pub(crate) fn modes(words: &[u32]) -> [u32; 3] {
@@ -25,6 +15,12 @@ pub(crate) fn replay(body: &[u8], words: &[u32], out: &mut [usize; 48]) -> usize
         modes(words),
         bytes(body, words, 5, 0),
     );
-    put(out, answer);
+    match answer {
+        Ok((count, bits_read)) => {
+            out[3] = count as usize;
+            out[4] = bits_read;
+        }
+        Err(why) => refuse(out, why),
+    }
     5
 }

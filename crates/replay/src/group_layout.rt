@@ -1,22 +1,13 @@
 // Call 3: the layout and the filter strengths. Width, height, three modes, filter on, multiplier,
 // eight look-up numbers, scale, lengths of kinds, hf_mul and sigma; types, muls, sharpness.
-use crate::answer::refuse;
+use crate::answer::put;
 use crate::columns::modes;
 use crate::floats;
-use crate::lent::{fit_bytes, fit_words, length};
-use layout_call::{LayoutAnswer, layout};
+use crate::lent::length;
+use layout_call::layout;
 use layout_filter::Filter;
-use recorded_answers::digest::{of_bytes, of_words};
+use recorded_answers::digest::of;
 use recorded_lists::list::{list, number};
-
-fn put(out: &mut [usize; 48], answer: LayoutAnswer) {
-    match answer {
-        LayoutAnswer::Accepted(columns) => {
-            out[3] = columns;
-        }
-        LayoutAnswer::Refused(why) => refuse(out, why),
-    }
-}
 
 fn float(words: &[u32], at: usize) -> f32 {
     floats::of_pattern(number(words, at))
@@ -30,25 +21,21 @@ fn filter(words: &[u32]) -> Filter {
 }
 
 fn lookups(words: &[u32]) -> [f32; 8] {
-    [
-        float(words, 7),
-        float(words, 8),
-        float(words, 9),
-        float(words, 10),
-        float(words, 11),
-        float(words, 12),
-        float(words, 13),
-        float(words, 14),
-    ]
+    let mut lookups = [0.0; 8];
+    for (i, lookup) in lookups.iter_mut().enumerate() {
+        *lookup = float(words, 7 + i);
+    }
+    lookups
 }
 
-fn make_call(
+fn replay_in(
     words: &[u32],
     kinds: &mut [u8],
     hf_mul: &mut [u32],
     sigma: &mut [u32],
-) -> LayoutAnswer {
-    layout(
+    out: &mut [usize; 48],
+) {
+    let answer = layout(
         number(words, 0),
         number(words, 1),
         modes(words),
@@ -61,33 +48,20 @@ fn make_call(
         kinds,
         hf_mul,
         sigma,
-    )
-}
-
-fn put_left(out: &mut [usize; 48], kinds: &[u8], hf_mul: &[u32], sigma: &[u32]) {
-    out[4] = of_bytes(kinds);
-    out[5] = of_words(hf_mul);
-    out[6] = of_words(sigma);
-}
-
-fn replay_in(
-    words: &[u32],
-    kinds: &mut [u8],
-    hf_mul: &mut [u32],
-    sigma: &mut [u32],
-    out: &mut [usize; 48],
-) {
-    put(out, make_call(words, kinds, hf_mul, sigma));
-    put_left(out, kinds, hf_mul, sigma);
+    );
+    put(out, answer);
+    out[4] = of(kinds);
+    out[5] = of(hf_mul);
+    out[6] = of(sigma);
 }
 
 pub(crate) fn replay(words: &[u32], out: &mut [usize; 48]) -> usize {
     let mut kinds = [0xa5u8; 1024];
     let mut hf_mul = [0x0bad_cafeu32; 1024];
     let mut sigma = [0xbfc0_0000u32; 1024];
-    let k = fit_bytes(&kinds, length(words, 16));
-    let m = fit_words(&hf_mul, length(words, 17));
-    let s = fit_words(&sigma, length(words, 18));
+    let k = length(words, 16).min(1024);
+    let m = length(words, 17).min(1024);
+    let s = length(words, 18).min(1024);
     replay_in(
         words,
         &mut kinds[..k],

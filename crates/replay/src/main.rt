@@ -3,6 +3,7 @@
 // (compare/RECORD.md). The list is the file `answers.bin`.
 ghost use Rattle.io.specs.Counts.{IsPrefixLen};
 
+use call::CALLS;
 use recorded_lists::list::number;
 use recorded_words::decode;
 use std::rt::Files;
@@ -11,6 +12,7 @@ use streams::read_full;
 
 mod alike;
 mod answer;
+mod call;
 mod census;
 mod coefficients;
 mod columns;
@@ -19,7 +21,6 @@ mod cut;
 mod floats;
 mod group_layout;
 mod lent;
-mod names;
 mod orders;
 mod record;
 mod store;
@@ -38,43 +39,24 @@ fn read_file(rt: &impl Files, out: &mut [u8]) -> usize
 
 // A list begins with "NETBUFF2".
 fn is_list(file: &[u8], words: &[u32]) -> bool {
-    if file.len() % 4 != 0 {
-        return false;
-    }
-    if number(words, 0) != 0x4254_454e {
-        return false;
-    }
-    number(words, 1) == 0x3246_4655
+    file.len() % 4 == 0 && number(words, 0) == 0x4254_454e && number(words, 1) == 0x3246_4655
 }
 
-fn replay_all<'a>(rt: &impl Print, file: &'a [u8], words: &'a [u32]) -> io::Result<()> {
+fn replay_all(rt: &impl Print, file: &[u8], words: &[u32]) -> io::Result<()> {
     if !is_list(file, words) {
-        return names::text(rt, b"no recorded list\n");
+        return println!(rt; "no recorded list");
     }
     let mut records = 0;
-    for call in 1..10 {
+    for call in CALLS {
         records = walk::replay_call(rt, file, words, call)?;
     }
-    names::number(rt, records)?;
-    names::text(rt, b" records\n")
-}
-
-fn run(rt: &(impl Files + Print), file: &mut [u8], words: &mut [u32]) -> io::Result<()> {
-    let n = read_file(rt, file);
-    let k = decode(&file[..n], words);
-    replay_all(rt, &file[..n], &words[..k])
-}
-
-fn run_in(
-    rt: &(impl Files + Print),
-    file: &mut [u8; 262144],
-    words: &mut [u32; 65536],
-) -> io::Result<()> {
-    run(rt, file, words)
+    println!(rt; "{records} records")
 }
 
 fn main(rt: HostRuntime) -> io::Result<()> {
     let mut file = [0u8; 262144];
     let mut words = [0u32; 65536];
-    run_in(&rt, &mut file, &mut words)
+    let n = read_file(&rt, &mut file);
+    let k = decode(&file[..n], &mut words);
+    replay_all(&rt, &file[..n], &words[..k])
 }

@@ -3,50 +3,30 @@
 use context_record::HfBlockContext;
 use recorded_lists::list::{bytes, list, number};
 
-fn copy_bytes(from: &[u8], to: &mut [u8]) {
-    let mut i = 0;
-    while i < from.len() {
-        if to.len() <= i {
-            return;
-        }
-        to[i] = from[i];
-        i += 1;
-    }
-}
-
-fn copy_words(from: &[u32], to: &mut [u32]) {
-    let mut i = 0;
-    while i < from.len() {
-        if to.len() <= i {
-            return;
-        }
-        to[i] = from[i];
-        i += 1;
-    }
-}
-
-fn lengths(words: &[u32]) -> [u32; 4] {
-    [
-        number(words, 3),
-        number(words, 4),
-        number(words, 5),
-        number(words, 6),
-    ]
+// As many elements as there are and fit.
+fn copy<T: Copy>(from: &[T], to: &mut [T]) {
+    let n = from.len().min(to.len());
+    to[..n].copy_from_slice(&from[..n]);
 }
 
 // Of a coefficient call.
 pub(crate) fn read(body: &[u8], words: &[u32]) -> HfBlockContext {
-    let mut lf = [0u32; 45];
-    let mut qf = [0u32; 15];
-    let mut map = [0u8; 2496];
-    copy_words(list(words, 18, 2), &mut lf);
-    copy_words(list(words, 18, 3), &mut qf);
-    copy_bytes(bytes(body, words, 18, 4), &mut map);
+    let mut lf_thresholds = [0u32; 45];
+    let mut qf_thresholds = [0u32; 15];
+    let mut block_ctx_map = [0u8; 2496];
+    copy(list(words, 18, 2), &mut lf_thresholds);
+    copy(list(words, 18, 3), &mut qf_thresholds);
+    copy(bytes(body, words, 18, 4), &mut block_ctx_map);
     HfBlockContext {
         num_block_clusters: number(words, 2),
-        lengths: lengths(words),
-        lf_thresholds: lf,
-        qf_thresholds: qf,
-        block_ctx_map: map,
+        lengths: [
+            number(words, 3),
+            number(words, 4),
+            number(words, 5),
+            number(words, 6),
+        ],
+        lf_thresholds,
+        qf_thresholds,
+        block_ctx_map,
     }
 }

@@ -1,6 +1,6 @@
 // Call 1: the transform look-up. Its number; no lists.
 use crate::answer::refuse;
-use dct_select::{Looked, TransformType};
+use dct_select::TransformType;
 use recorded_lists::list::number;
 
 fn put_transform(out: &mut [usize; 48], t: TransformType) {
@@ -8,16 +8,13 @@ fn put_transform(out: &mut [usize; 48], t: TransformType) {
     out[3] = size.wide;
     out[4] = size.high;
     out[5] = t.order_id();
-    if t.need_transpose() {
-        out[6] = 1;
-    }
+    out[6] = usize::from(t.need_transpose());
 }
 
 pub(crate) fn replay(words: &[u32], out: &mut [usize; 48]) -> usize {
-    let looked = TransformType::from_number(number(words, 0));
-    match looked {
-        Looked::Known(t) => put_transform(out, t),
-        Looked::Refused(why) => refuse(out, why),
+    match TransformType::try_from(number(words, 0)) {
+        Ok(t) => put_transform(out, t),
+        Err(why) => refuse(out, why),
     }
     7
 }

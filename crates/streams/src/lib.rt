@@ -11,14 +11,12 @@ fn read_some<R: Read>(from: &mut R, buf: &mut [u8]) -> usize
     ensures in_bounds { IsPrefixLen result buf.new }
     ensures bytes { Consumes (R.remaining from.old) (R.remaining from.new) (take result buf.new) }
 {
-    match from.read(buf) {
-        Ok(n) => n,
-        Err(_) => 0,
-    }
+    from.read(buf).unwrap_or(0)
 }
 
 // Reads until buf is full, the input ends or a read fails, and returns how many bytes it put at the
-// start of buf. On an empty buf it makes no call.
+// start of buf. On an empty buf it makes no call. A step is what one read gives, so the loop counts
+// no index.
 pub fn read_full<R: Read>(from: &mut R, buf: &mut [u8]) -> usize
     ensures in_bounds { IsPrefixLen result buf.new }
     ensures bytes { Consumes (R.remaining from.old) (R.remaining from.new) (take result buf.new) }

@@ -1,33 +1,21 @@
 #![tactic(auto)]
 // Text written into lent bytes, as much of it as fits.
-ghost use Rattle.std.specs.Prelude.{◌≡◌, [], ◌∷◌, ◌++◌, min};
+ghost use Rattle.std.specs.Prelude.{◌≡◌, [], ◌∷◌, ◌++◌};
 ghost use Rattle.text.specs.Text.{Puts, decimal};
-
-fn least(a: usize, b: usize) -> usize
-    ensures { result ≡ min a b }
-{
-    if a < b { a } else { b }
-}
 
 // Puts s at the place at, and answers the place behind it.
 pub fn put_bytes(out: &mut [u8], at: usize, s: &[u8]) -> usize
     ensures { Puts out.old at s.now out.new result }
 {
-    let mut to = least(at, out.len());
-    let mut i = 0;
-    while i < s.len() {
-        if out.len() <= to {
-            return to;
-        }
-        out[to] = s[i];
-        to += 1;
-        i += 1;
-    }
-    to
+    let start = at.min(out.len());
+    let n = s.len().min(out.len() - start);
+    let end = start + n;
+    out[start..end].copy_from_slice(&s[..n]);
+    end
 }
 
 // Puts a number in decimal, with no zeros in front.
-fn put_number(out: &mut [u8], at: usize, n: u64) -> usize
+fn put_decimal(out: &mut [u8], at: usize, n: u64) -> usize
     ensures { Puts out.old at (decimal n) out.new result }
 {
     let mut digits = [0u8; 20];
@@ -35,18 +23,10 @@ fn put_number(out: &mut [u8], at: usize, n: u64) -> usize
     put_bytes(out, at, &digits[..k])
 }
 
-// A number and a space behind it.
-pub fn put_spaced(out: &mut [u8], at: usize, n: u64) -> usize
-    ensures { Puts out.old at (decimal n ++ (32 ∷ [])) out.new result }
+// A number and a byte behind it.
+pub fn put_number(out: &mut [u8], at: usize, n: u64, behind: u8) -> usize
+    ensures { Puts out.old at (decimal n ++ (behind ∷ [])) out.new result }
 {
-    let to = put_number(out, at, n);
-    put_bytes(out, to, b" ")
-}
-
-// A number and a line end behind it.
-pub fn put_last(out: &mut [u8], at: usize, n: u64) -> usize
-    ensures { Puts out.old at (decimal n ++ (10 ∷ [])) out.new result }
-{
-    let to = put_number(out, at, n);
-    put_bytes(out, to, b"\n")
+    let to = put_decimal(out, at, n);
+    put_bytes(out, to, &[behind])
 }

@@ -1,4 +1,4 @@
-use Rattle.std.proofs.Common.{◌/◌, ◌^◌, arith, rules}
+use Rattle.std.proofs.Common.{◌/◌, ◌^◌, arith}
 use Rattle.bits.specs.laws.Numbers.{mask_pos, masked_lt, masked}
 use Rattle.bits.proofs.cut.Goals as goal
 

@@ -1,5 +1,5 @@
-use Rattle.std.proofs.Common.{◌≡◌, ◌-◌, ◌*◌, ◌≤◌, take, drop, ◌∙◌, arith, rules}
-use Rattle.bits.specs.laws.Numbers.{number, laid}
+use Rattle.std.proofs.Common.{◌≡◌, ◌-◌, ◌*◌, ◌≤◌, take, drop}
+use Rattle.bits.specs.laws.Numbers.{number}
 use Rattle.bits.proofs.gather.Given as goal
 
 abbrev pub invariant-loop-k : goal.invariant-loop-k

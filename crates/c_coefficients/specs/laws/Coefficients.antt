@@ -1,12 +1,13 @@
 -- The call's own answer, as it is handed out.
-use Rattle.std.specs.Prelude.{◌≡◌, List, ℕ}
+use Rattle.std.specs.Prelude.{◌≡◌, List, ℕ, Result}
 use Rattle.std.proofs.Common.{ap, ◌∙◌}
-use Rattle.coeff_call.specs.declared.CoeffAnswer.{CoeffAnswer}
-use Rattle.coeff_call.specs.Call.{answered, Outcome, leaves}
+use Rattle.coeff_call.specs.Call.{Outcome, leaves}
+use Rattle.refusal.specs.declared.Refusal.{Refusal}
+use Rattle.refusal.specs.Answer.{answered}
 use Rattle.refusal.specs.Handed.{Handed, handed}
 use Rattle.c_coefficients.specs.Coefficients.{CoeffLeaves}
 
-pub coeff_leaves : (h : Handed ℕ) (a : CoeffAnswer) (log g0 g1 g2 : List ℕ) (kept : ℕ) (o : Outcome) → leaves a log g0 g1 g2 ≡ o → h ≡ handed (answered a) kept
+pub coeff_leaves : (h : Handed ℕ) (a : Result ℕ Refusal) (log g0 g1 g2 : List ℕ) (kept : ℕ) (o : Outcome) → leaves a log g0 g1 g2 ≡ o → h ≡ handed (answered a) kept
     → CoeffLeaves h log g0 g1 g2 kept o
 coeff_leaves h a log g0 g1 g2 kept o e f =
     record {

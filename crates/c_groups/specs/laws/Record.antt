@@ -1,17 +1,15 @@
 -- Laws: what the exported cut and likeness hand out (document 01, Layout, "Added by us", and Refused).
-use Rattle.std.specs.Prelude.{◌≡◌, Bool, List, ℕ}
+use Rattle.std.specs.Prelude.{◌≡◌, Bool, List, ℕ, Result}
 use Rattle.std.proofs.Common.{ap, ◌∙◌}
-use Rattle.refusal.specs.Answer.{Answer}
+use Rattle.refusal.specs.declared.Refusal.{Refusal}
+use Rattle.refusal.specs.Answer.{Answer, answered}
 use Rattle.refusal.specs.Handed.{Handed, handed}
 use Rattle.lent_check.specs.declared.GroupSides.{GroupSides}
-use Rattle.lent_cut.specs.declared.cut.CutAnswer.{CutAnswer}
-use Rattle.lent_cut.specs.Calls.{Outcome, outcome, answered}
-use Rattle.lent_likeness.specs.declared.LikeAnswer.{LikeAnswer}
-use Rattle.lent_likeness.specs.Calls.{answered as answered_alike}
+use Rattle.lent_cut.specs.Calls.{Outcome, outcome}
 use Rattle.c_groups.specs.Record.{CutLeaves}
 
 -- the call's own answer, handed on
-pub cut_leaves : (h : Handed GroupSides) (a : CutAnswer) (k m : List ℕ) (kept : GroupSides) (o : Outcome) → outcome (answered a) k m ≡ o → h ≡ handed (answered a) kept
+pub cut_leaves : (h : Handed GroupSides) (a : Result GroupSides Refusal) (k m : List ℕ) (kept : GroupSides) (o : Outcome) → outcome (answered a) k m ≡ o → h ≡ handed (answered a) kept
     → CutLeaves h k m kept o
 cut_leaves h a k m kept o e f =
     record {
@@ -20,5 +18,5 @@ cut_leaves h a k m kept o e f =
       hf_mul_is = ap (λ (z : Outcome). z.hf_mul) e;
     }
 
-pub like_handed : (h : Handed Bool) (a : LikeAnswer) (kept : Bool) (l : Answer Bool) → answered_alike a ≡ l → h ≡ handed (answered_alike a) kept → h ≡ handed l kept
+pub like_handed : (h : Handed Bool) (a : Result Bool Refusal) (kept : Bool) (l : Answer Bool) → answered a ≡ l → h ≡ handed (answered a) kept → h ≡ handed l kept
 like_handed h a kept l e f = f ∙ ap (λ (z : Answer Bool). handed z kept) e

@@ -1,18 +1,10 @@
 -- Laws: How many bits tell so many things apart (document 01, Layout's column count and Coefficients' preset number).
-use Rattle.std.specs.Prelude.{◌≡◌, refl, Bool, true, false, cond, ◌⊎◌, ℕ, zero, suc, ◌+◌, ◌-◌, ◌^◌, ◌≤◌, ◌<◌, leb}
-use Rattle.std.proofs.Common.{ap, ◌∙◌, inl, inr, arith, pow_pos, pow-add, pow_mono, le-leb, leb-true, leb-false}
+use Rattle.std.specs.Prelude.{◌≡◌, refl, Bool, true, false, cond, ◌⊎◌, ℕ, zero, suc, ◌+◌, ◌*◌, ◌-◌, ◌^◌, ◌≤◌, ◌<◌, leb}
+use Rattle.std.proofs.Common.{◌∙◌, inl, inr, arith, pow_pos, pow-add, pow_mono, leb-true, leb-false}
 use Rattle.laws.specs.laws.Cases.{le_or_lt}
-use Rattle.std.proofs.lemmas.Bool.{lt-leb}
+use Rattle.std.proofs.lemmas.Nat.{leading_length}
+use lib.Count.{count_leading_zeros}
 use Rattle.coded_numbers.specs.Exponent.{exponent, exponent_from}
-
-pub exponent_stop : (k e n : ℕ) → n ≤ 2 ^ e → exponent_from k e n ≡ e
-unfolding exponent_from
-exponent_stop zero e n h = refl
-exponent_stop (suc k) e n h = rw (le-leb n (2 ^ e) h)
-
-pub exponent_on : (k e n : ℕ) → 2 ^ e < n → exponent_from (suc k) e n ≡ exponent_from k (e + 1) n
-unfolding exponent_from
-exponent_on k e n h = rw (lt-leb n (2 ^ e) h)
 
 pub doubled : (e : ℕ) → 2 ^ (e + 1) ≡ 2 ^ e + 2 ^ e
 doubled e = pow-add 2 e 1 ∙ omega arith
@@ -52,15 +44,14 @@ least_from (suc k) e n m h l = go (leb n (2 ^ e)) refl (λ i. least_from k (e + 
 pub exponent_least : (n m : ℕ) → n ≤ 2 ^ m → exponent n ≤ m
 exponent_least n m l = least_from n 0 n m (omega arith) l
 
--- One turn of a search from exponent 0 on.
-pub exponent_turn : (e n : ℕ) → 2 ^ e < n → exponent_from (n - e) e n ≡ exponent_from (n - (e + 1)) (e + 1) n
-exponent_turn e n h =
-    let k : n - e ≡ suc (n - (e + 1)) = omega (arith, below_power e) in
-    ap (λ (i : ℕ). exponent_from i e n) k ∙ exponent_on (n - (e + 1)) e n h
-
-pub exponent_small : (e n w : ℕ) → 2 ^ e < n → n ≤ 2 ^ w → e < w
-exponent_small e n w h l = go (le_or_lt w e)
+-- the bits of the number before n
+pub exponent_length : (n a : ℕ) → n < 2 ^ 32 → a ≡ n - 1 → 32 - count_leading_zeros 32 a ≡ exponent n
+exponent_length n a h g =
+    let l = leading_length 32 a (omega arith) in
+    omega (arith, exponent_least n l.0 (omega arith), below l.0 l.3 (le_or_lt l.0 (exponent n)))
   where
-    go : (w ≤ e) ⊎ (e < w) → e < w
-    go (inl p) = absurd (omega (arith, pow_mono p))
-    go (inr p) = p
+    below : (m : ℕ) → 2 ^ m ≤ 2 * a + 1 → (m ≤ exponent n) ⊎ (exponent n < m) → m ≤ exponent n
+    below m k (inl p) = p
+    below m k (inr p) =
+        let q : exponent n + 1 ≤ m = omega arith in
+        absurd (omega (arith, pow_mono q, doubled (exponent n), exponent_above n, pow_pos (exponent n)))

@@ -4,7 +4,7 @@ use mathlib.Core.Path.{◌≡◌, ◌∙◌, sym}
 use Rattle.context_record.specs.Record.{fit}
 use Rattle.coeff_group.specs.PassGroup.{PassGroup, pass_group}
 use Rattle.coeff_checks.specs.Checks.{sides_fit, parameters_fit, all_lengths_fit, layout_fits}
-use Rattle.coeff_checks.proofs.laws.ChecksLaws.{most_blocks, lengths_are, layout_is, checks_pass, checks_2, checks_11, checks_12, checks_1, checks_18, checks_13}
+use Rattle.coeff_checks.proofs.laws.ChecksLaws.{most_blocks, lengths_are, layout_is, checks_pass, checks_1, checks_18, checks_13}
 use Rattle.coeff_checks.proofs.before_work.Goals.{After-layout_fits, After-other_lengths_fit, Else-not-in_limits, Else-not-is_fit, Else-not-layout_fits, Else-not-other_lengths_fit, Else-not-parameters_fit, Start}
 use Rattle.coeff_checks.proofs.before_work.Goals as goal
 
@@ -38,15 +38,6 @@ layout_by c =
 
 layout : (c : Else-not-layout_fits) → layout_fits (pass_group_at (goal.at.Else-not-layout_fits c).Start) ≡ true
 layout c = layout_by (goal.at.Else-not-layout_fits c).After-layout_fits ∙ c.if-not-layout_fits.false
-
-pub returns-then-not-in_limits : goal.returns-then-not-in_limits
-returns-then-not-in_limits c = let a = c.args in sym (checks_2 (pass_group_at (goal.at.returns-then-not-in_limits c).Start) a.presets a.shift a.cluster_map_length a.log_length a.g0_length a.g1_length a.g2_length (sym c.in_limits.ensures ∙ c.if-not-in_limits.true))
-
-pub returns-then-not-parameters_fit : goal.returns-then-not-parameters_fit
-returns-then-not-parameters_fit c = let a = c.args in sym (checks_11 (pass_group_at (goal.at.returns-then-not-parameters_fit c).Start) a.presets a.shift a.cluster_map_length a.log_length a.g0_length a.g1_length a.g2_length (sides (goal.at.returns-then-not-parameters_fit c).Else-not-in_limits) (sym c.parameters_fit.ensures ∙ c.if-not-parameters_fit.true))
-
-pub returns-then-not-is_fit : goal.returns-then-not-is_fit
-returns-then-not-is_fit c = let a = c.args in sym (checks_12 (pass_group_at (goal.at.returns-then-not-is_fit c).Start) a.presets a.shift a.cluster_map_length a.log_length a.g0_length a.g1_length a.g2_length (sides (goal.at.returns-then-not-is_fit c).Else-not-in_limits) (parameters (goal.at.returns-then-not-is_fit c).Else-not-parameters_fit) (sym c.is_fit.ensures ∙ c.if-not-is_fit.true))
 
 pub overflow_mul-n : goal.overflow_mul-n
 overflow_mul-n c = omega (arith, most_blocks (pass_group_at (goal.at.overflow_mul-n c).Start) (sides (goal.at.overflow_mul-n c).Else-not-in_limits))

@@ -1,15 +1,12 @@
 -- The checks before work by numbers, as the code makes them.
 use Rattle.std.specs.Prelude.{◌≡◌, refl, Bool, true, false, ◌&&◌, List, ℕ, ◌*◌, ◌≤◌, T, leb, eqb, length}
-use Rattle.std.proofs.Common.{sym, subst, mul-le-mul, arith, le-leb, eq-eqb}
+use Rattle.std.proofs.Common.{sym, subst, le-leb, eq-eqb}
 use Rattle.layout.specs.Check.{is_layout}
-use Rattle.refusal.specs.declared.Checked.{Checked}
-use Rattle.refusal.specs.declared.Checked.TheVariants.{Fine, Refused}
 use Rattle.refusal.specs.Answer.{gives, unless}
-use Rattle.refusal.specs.laws.Answer.{checked}
 use Rattle.lent_check.specs.Calls.{check_of}
 use Rattle.lent_sides.specs.Limits.{in_limits, lengths_fit as cells_fit}
 use Rattle.coeff_checks.specs.Checks.{three_fit}
-use Rattle.coeff_checks.specs.laws.Tests.{other_lengths_fit, passes, group_passes, is_fine}
+use Rattle.coeff_checks.specs.laws.Tests.{other_lengths_fit, passes, group_passes}
 
 -- tests that hold together
 pub two : (a b : Bool) → T (a && b) → T a × T b
@@ -33,9 +30,6 @@ four true true true true t = (tt, tt, tt, tt)
 pub truth : (b : Bool) → b ≡ true → T b
 truth b e = subst T (sym e) tt
 
-pub map_most : (clusters presets : ℕ) → clusters ≤ 16 → presets ≤ 256 → 495 * clusters * presets ≤ 2027520
-map_most clusters presets a b = mul-le-mul (let c : 495 * clusters ≤ 7920 = omega arith in c) b
-
 -- the lengths alone, once the limits are met
 pub other_lengths_are : (clusters presets cluster_map_length g0_length g1_length g2_length log_length n : ℕ) (read_fit : Bool) → clusters ≤ 16 → presets ≤ 256 → n ≤ 1024
     → other_lengths_fit clusters presets cluster_map_length g0_length g1_length g2_length log_length n read_fit ≡ read_fit && eqb cluster_map_length (495 * clusters * presets) && three_fit g0_length g1_length g2_length (64 * n) && leb (192 * n) log_length
@@ -49,7 +43,3 @@ passes_is bw bh kinds hf_mul a k m = rw (a, eq-eqb (length kinds) (bh * bw) k, e
     go : (b : Bool) → passes (unless 18 b (gives tt)) ≡ b
     go true = refl
     go false = refl
-
-pub passes_by : (bw bh : ℕ) (kinds hf_mul : List ℕ) (r : Checked) → checked r ≡ check_of 32 bw bh kinds hf_mul → is_fine r ≡ group_passes bw bh kinds hf_mul
-passes_by bw bh kinds hf_mul Fine e = rw (← e)
-passes_by bw bh kinds hf_mul (Refused why) e = rw (← e)

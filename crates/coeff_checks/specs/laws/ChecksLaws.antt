@@ -1,6 +1,5 @@
 -- The checks before work, outcome by outcome.
 use Rattle.std.specs.Prelude.{◌≤◌}
-use Rattle.refusal.specs.Said as refusals
 use Rattle.coeff_group.specs.PassGroup.{PassGroup}
 
 pub record Sides (P : PassGroup) : Type 0 where

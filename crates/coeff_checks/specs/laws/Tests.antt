@@ -1,7 +1,5 @@
 -- The checks before work by numbers, as the code makes them.
 use Rattle.std.specs.Prelude.{Bool, true, false, cond, ◌&&◌, List, ℕ, ◌*◌, leb, eqb}
-use Rattle.refusal.specs.declared.Checked.{Checked}
-use Rattle.refusal.specs.declared.Checked.TheVariants.{Fine, Refused}
 use Rattle.refusal.specs.Answer.{Answer, gives, refuses}
 use Rattle.lent_check.specs.Calls.{check_of}
 use Rattle.order_store.specs.Store.{PLACES}
@@ -31,8 +29,3 @@ passes (refuses s) = false
 
 abbrev pub group_passes : ℕ → ℕ → List ℕ → List ℕ → Bool
 group_passes bw bh kinds hf_mul = passes (check_of 32 bw bh kinds hf_mul)
-
--- what the check answered, as a test
-abbrev pub is_fine : Checked → Bool
-is_fine Fine = true
-is_fine (Refused why) = false

@@ -1,5 +1,5 @@
 -- Contexts of 458 and more, which 17 refuses (document 01, Refused): where they are met.
-use Rattle.std.specs.Prelude.{◌⊎◌, ◌↔◌, ℕ, ◌*◌, ◌-◌, ◌/◌, ◌<◌, ◌≤◌, T, leb}
+use Rattle.std.specs.Prelude.{◌⊎◌, ◌↔◌, ℕ, ◌*◌, ◌-◌, ◌/◌, ◌<◌, ◌≤◌, T}
 use Rattle.std.proofs.Common.{inl, inr, arith, le-div_iff_mul-le, le-leb, leb→le}
 use Rattle.std.proofs.lemmas.Bool.{lt-leb}
 use Rattle.laws.specs.Tables.{each}

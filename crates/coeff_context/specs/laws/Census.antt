@@ -1,6 +1,5 @@
 -- The context census (document 02, No. 9).
-use Rattle.std.specs.Prelude.{◌≡◌, ℕ, ◌-◌, ◌<◌}
-use Rattle.laws.specs.Tables.{each}
+use Rattle.std.specs.Prelude.{◌≡◌, ℕ, ◌<◌}
 use Rattle.coeff_context.specs.Census.{Situation, PowerOfTwo, InCensus, context_of}
 
 -- each number occurs, in varblocks of every block count

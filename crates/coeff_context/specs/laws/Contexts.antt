@@ -1,5 +1,5 @@
 -- Contexts of coefficients, where no more are due than places remain: they stay below 458, and each tells the entries that it is made of.
-use Rattle.std.specs.Prelude.{Bool, cond, ◌&&◌, List, [], ◌∷◌, ℕ, ◌+◌, ◌-◌, leb, eqb, get_or}
+use Rattle.std.specs.Prelude.{Bool, cond, ◌&&◌, List, [], ◌∷◌, ℕ, ◌+◌, leb, eqb, get_or}
 use Rattle.coeff_context.specs.Context.{NUM_NONZERO, FREQ}
 
 -- the sum of entry a of the one table and entry c of the other

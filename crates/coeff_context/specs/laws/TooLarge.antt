@@ -1,5 +1,5 @@
 -- Contexts of 458 and more, which 17 refuses (document 01, Refused): where they are met.
-use Rattle.std.specs.Prelude.{Bool, cond, ◌&&◌, ℕ, ◌-◌, leb}
+use Rattle.std.specs.Prelude.{Bool, cond, ◌&&◌, ℕ, leb}
 use Rattle.coeff_context.specs.laws.Contexts.{entries}
 
 -- One test over the 3,969 pairs of entries.

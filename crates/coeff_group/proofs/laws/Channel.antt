@@ -1,14 +1,12 @@
 -- One channel of a varblock, as the code takes it.
-use Rattle.std.specs.Prelude.{◌≡◌, refl, true, false, List, [], ◌∷◌, ℕ, suc, ◌+◌, ◌*◌, ◌^◌, ◌-◌, ◌<◌, ◌≤◌, length, get_or, set, drop}
+use Rattle.std.specs.Prelude.{◌≡◌, refl, List, [], ◌∷◌, ℕ, suc, ◌+◌, ◌*◌, ◌^◌, ◌-◌, ◌<◌, ◌≤◌, length, get_or, set, drop, Result, Ok, Err}
 use Rattle.std.proofs.Common.{ap, sym, subst, ◌∙◌, arith, length-drop, drop-cons, drop-drop, pow_pos}
 use Rattle.std.proofs.Math.Decide.{dec_lt, dec_le}
 use Rattle.refusal.specs.declared.Refusal.{Refusal}
 use Rattle.refusal.specs.declared.Refusal.TheVariants.{SymbolsEnd, Count}
 use Rattle.lent_check.specs.declared.GroupSides.{GroupSides}
-use Rattle.coeff_walk.specs.declared.WalkEnd.{WalkEnd}
-use Rattle.coeff_walk.specs.declared.WalkEnd.TheVariants.{Done, Stopped}
 use Rattle.coeff_walk.specs.Walk.{Walked, done, stopped}
-use Rattle.coeff_walk.specs.laws.Outcome.{is_stopped, answer_of, log_of, grid_after, AllUseUp}
+use Rattle.coeff_walk.specs.laws.Outcome.{answer_of, log_of, grid_after, AllUseUp}
 use Rattle.coeff_walk.specs.Item.{Item, new_row, count_over, count_cluster, counted}
 use Rattle.coeff_walk.specs.UsedUp.{Long}
 use Rattle.coeff_walk.specs.declared.shape.Shape.{Shape}
@@ -17,6 +15,7 @@ use Rattle.order_natural.proofs.laws.Flat.{length_paired}
 use Rattle.coeff_walk.proofs.laws.PlaceLaws.{length_places}
 use Rattle.coeff_walk.specs.laws.Items.{item_at, ItemReady}
 use Rattle.coeff_walk.proofs.laws.Items.{counted_15, counted_16}
+use Rattle.coeff_walk.proofs.laws.Used.{not_done}
 use Rattle.coeff_walk.specs.laws.Kept.{KeptBy}
 use Rattle.coeff_walk.proofs.laws.Kept.{counted_kept}
 use Rattle.coeff_group.specs.Group.{PerChannel, Reading, going, after, read_item}
@@ -34,7 +33,7 @@ counted_in shift clusters preset_map c it row [] at log g = refl
 counted_in shift clusters preset_map c it row (n ∷ us) at log g = refl
 
 -- nor in what it promises
-used_in : (c : ℕ) (it : Item) (symbols : List ℕ) (at : ℕ) (r : WalkEnd) → AllUseUp (it ∷ []) symbols at r → AllUseUp (in_channel c it ∷ []) symbols at r
+used_in : (c : ℕ) (it : Item) (symbols : List ℕ) (at : ℕ) (r : Result ℕ Refusal) → AllUseUp (it ∷ []) symbols at r → AllUseUp (in_channel c it ∷ []) symbols at r
 used_in c it symbols at r h to e = let q = h to e in record { dss = q.dss; long = same q.dss q.long; are = q.are }
   where
     same : (dss : List (List ℕ)) → Long (it ∷ []) dss → Long (in_channel c it ∷ []) dss
@@ -42,19 +41,17 @@ used_in c it symbols at r h to e = let q = h to e in record { dss = q.dss; long 
     same (ds ∷ []) l = l
     same (ds ∷ es ∷ dss) l = l
 
-module _ (shift clusters : ℕ) (preset_map : List ℕ) (c : ℕ) (it : Item) (row symbols : List ℕ) (at : ℕ) (log : List ℕ) (G : PerChannel) (r : WalkEnd) (log₁ : List ℕ) (G₁ : PerChannel)
+module _ (shift clusters : ℕ) (preset_map : List ℕ) (c : ℕ) (it : Item) (row symbols : List ℕ) (at : ℕ) (log : List ℕ) (G : PerChannel) (r : Result ℕ Refusal) (log₁ : List ℕ) (G₁ : PerChannel)
     (got : InGrid c G r log₁ G₁ (λ g. counted shift clusters preset_map it row (drop at symbols) at log g)) where
   abbrev w : Walked
   w = counted shift clusters preset_map it row (drop at symbols) at log (get_or G c [])
 
   -- the walk ended: the count was read
-  read_count : is_stopped r ≡ false → (at < length symbols) × (get_or symbols at 0 ≤ 63 * it.blocks)
-  read_count e = first (dec_lt at (length symbols))
+  read_count : (next : ℕ) → r ≡ Ok next → (at < length symbols) × (get_or symbols at 0 ≤ 63 * it.blocks)
+  read_count next e = first (dec_lt at (length symbols))
     where
       never : (why : ℕ → Refusal) (at' : ℕ) (log' g : List ℕ) → w ≡ stopped why at' log' g → ⊥
-      never why at' log' g q =
-          let z : true ≡ false = ap is_stopped (sym (got.answer ∙ ap answer_of q)) ∙ e in
-          let y : ◌≡◌ {A = ℕ} 0 1 = cc in omega arith
+      never why at' log' g q = not_done (why at') next (sym (got.answer ∙ ap answer_of q) ∙ e)
 
       small : at < length symbols → Dec (get_or symbols at 0 ≤ 63 * it.blocks) → (at < length symbols) × (get_or symbols at 0 ≤ 63 * it.blocks)
       small h (yes k) = (h, k)
@@ -75,11 +72,11 @@ module _ (shift clusters : ℕ) (preset_map : List ℕ) (c : ℕ) (it : Item) (r
     stepped_is = rw (same, counted_in shift clusters preset_map c it row (drop at symbols) at log (get_or G c []))
 
     -- the walk stopped
-    item_stops : is_stopped r ≡ true → (rows₁ : PerChannel) → Shown symbols most r rows₁ log₁ G₁ stepped
-    item_stops e rows₁ = rw stepped_is (go w refl)
+    item_stops : (why : Refusal) → r ≡ Err why → (rows₁ : PerChannel) → Shown symbols most r rows₁ log₁ G₁ stepped
+    item_stops why₁ e rows₁ = rw stepped_is (go w refl)
       where
         go : (x : Walked) → w ≡ x → Shown symbols most r rows₁ log₁ G₁ (after c G (set R c (new_row (in_channel c it) row (drop at symbols))) x)
-        go (done us at' log' g) q = absurd (let a : r ≡ Done at' = got.answer ∙ ap answer_of q in let z : is_stopped r ≡ false = ap is_stopped a in let y : ◌≡◌ {A = ℕ} 0 1 = cc in omega arith)
+        go (done us at' log' g) q = absurd (not_done why₁ at' (sym e ∙ got.answer ∙ ap answer_of q))
         go (stopped why at' log' g) q = record {
           it = record {
             answer = got.answer ∙ ap answer_of q;
@@ -89,17 +86,16 @@ module _ (shift clusters : ℕ) (preset_map : List ℕ) (c : ℕ) (it : Item) (r
         }
 
     -- the walk ended: the row is rewritten
-    item_goes : is_stopped r ≡ false → suc (length it.cells) ≤ most - at → at ≤ most
+    item_goes : (next : ℕ) → r ≡ Ok next → suc (length it.cells) ≤ most - at → at ≤ most
         → Shown symbols most r (row_by R c it.x it.wide (count_over (get_or symbols at 0) it.blocks)) log₁ G₁ stepped
-    item_goes e room start = rw stepped_is (go w refl (counted_kept shift clusters preset_map it row (drop at symbols) at log (get_or G c [])))
+    item_goes next e room start = rw stepped_is (go w refl (counted_kept shift clusters preset_map it row (drop at symbols) at log (get_or G c [])))
       where
         rows_are : set R c (new_row (in_channel c it) row (drop at symbols)) ≡ row_by R c it.x it.wide (count_over (get_or symbols at 0) it.blocks)
-        rows_are = rw (drop-cons symbols at 0 (read_count e).0, same)
+        rows_are = rw (drop-cons symbols at 0 (read_count next e).0, same)
 
         go : (x : Walked) → w ≡ x → KeptBy (suc (length it.cells)) (drop at symbols) at log (get_or G c []) x
             → Shown symbols most r (row_by R c it.x it.wide (count_over (get_or symbols at 0) it.blocks)) log₁ G₁ (after c G (set R c (new_row (in_channel c it) row (drop at symbols))) x)
-        go (stopped why at' log' g) q k =
-            absurd (let a : r ≡ Stopped (why at') = got.answer ∙ ap answer_of q in let z : is_stopped r ≡ true = ap is_stopped a in let y : ◌≡◌ {A = ℕ} 0 1 = cc in omega arith)
+        go (stopped why at' log' g) q k = absurd (not_done (why at') next (sym (got.answer ∙ ap answer_of q) ∙ e))
         go (done us at' log' g) q k =
             let m = k.most in let f = k.read in
             record {
@@ -152,8 +148,8 @@ module _ (p : Plan) (group : GroupSides) (clusters : ℕ) (preset_map store symb
   same_item : in_channel c it ≡ item_by p group store n (channel_walked n)
   same_item = rw (eo, ec)
 
-  module _ (r : WalkEnd) (log₁ : List ℕ) (G₁ : PerChannel) (got : InGrid c G r log₁ G₁ (λ g. counted shift clusters preset_map it (get_or rows c []) (drop at symbols) at log g)) where
-    pub channel_count : is_stopped r ≡ false → (at < length symbols) × (get_or symbols at 0 ≤ 63 * K)
+  module _ (r : Result ℕ Refusal) (log₁ : List ℕ) (G₁ : PerChannel) (got : InGrid c G r log₁ G₁ (λ g. counted shift clusters preset_map it (get_or rows c []) (drop at symbols) at log g)) where
+    pub channel_count : (next : ℕ) → r ≡ Ok next → (at < length symbols) × (get_or symbols at 0 ≤ 63 * K)
     channel_count = read_count shift clusters preset_map c it (get_or rows c []) symbols at log G r log₁ G₁ got
 
     module _ (R : PerChannel) (same : get_or R (channel_walked n) [] ≡ get_or rows (channel_walked n) []) where
@@ -161,19 +157,19 @@ module _ (p : Plan) (group : GroupSides) (clusters : ℕ) (preset_map store symb
       here = rw ec same
 
     -- the reading stopped in this channel
-    pub channel_stops : AllUseUp (it ∷ []) symbols at r → is_stopped r ≡ true → (count : ℕ) → ChannelShown p group clusters preset_map store symbols at shift rows log G n r count log₁ G₁
-    channel_stops used e count = record {
-      shown = λ R same. subst (λ (i : Item). Shown symbols (at + 64 * K) r (row_by R (channel_walked n) p.shape.x p.shape.wide count) log₁ G₁ (read_item shift clusters preset_map i (going (drop at symbols) at log G R))) same_item
-          (item_stops shift clusters preset_map c it (get_or rows c []) symbols at log G r log₁ G₁ got (at + 64 * K) R (here R same) e (row_by R (channel_walked n) p.shape.x p.shape.wide count));
-      used = rw (← same_item) (used_in c it symbols at r used);
+    pub channel_stops : AllUseUp (it ∷ []) symbols at r → (why : Refusal) → r ≡ Err why → ChannelShown p group clusters preset_map store symbols at shift rows log G n (Err why) log₁ G₁
+    channel_stops used why e = record {
+      shown = λ R same. subst (λ (i : Item). Shown symbols (at + 64 * K) (Err why) (row_by R (channel_walked n) p.shape.x p.shape.wide 0) log₁ G₁ (read_item shift clusters preset_map i (going (drop at symbols) at log G R))) same_item
+          (rw (← e) (item_stops shift clusters preset_map c it (get_or rows c []) symbols at log G r log₁ G₁ got (at + 64 * K) R (here R same) why e (row_by R (channel_walked n) p.shape.x p.shape.wide 0)));
+      used = rw (← e, ← same_item) (used_in c it symbols at r used);
     }
 
     -- the channel was read
-    pub channel_goes : AllUseUp (it ∷ []) symbols at r → is_stopped r ≡ false → (count : ℕ) → count ≡ count_over (get_or symbols at 0) K → ChannelShown p group clusters preset_map store symbols at shift rows log G n r count log₁ G₁
-    channel_goes used e count ev =
+    pub channel_goes : AllUseUp (it ∷ []) symbols at r → (next : ℕ) → r ≡ Ok next → (count : ℕ) → count ≡ count_over (get_or symbols at 0) K → ChannelShown p group clusters preset_map store symbols at shift rows log G n (Ok (next, count)) log₁ G₁
+    channel_goes used next e count ev =
         let l = item_size p.shape group.bw (get_or p.block_contexts n 0) order long in
         record {
-          shown = λ R same. subst (λ (i : Item). Shown symbols (at + 64 * K) r (row_by R (channel_walked n) p.shape.x p.shape.wide count) log₁ G₁ (read_item shift clusters preset_map i (going (drop at symbols) at log G R))) same_item
-              (rw (ev, ← ec) (item_goes shift clusters preset_map c it (get_or rows c []) symbols at log G r log₁ G₁ got (at + 64 * K) R (here R same) e (omega (arith, pow_pos p.shape.exponent)) (omega arith)));
-          used = rw (← same_item) (used_in c it symbols at r used);
+          shown = λ R same. subst (λ (i : Item). Shown symbols (at + 64 * K) (Ok next) (row_by R (channel_walked n) p.shape.x p.shape.wide count) log₁ G₁ (read_item shift clusters preset_map i (going (drop at symbols) at log G R))) same_item
+              (rw (← e, ev, ← ec) (item_goes shift clusters preset_map c it (get_or rows c []) symbols at log G r log₁ G₁ got (at + 64 * K) R (here R same) next e (omega (arith, pow_pos p.shape.exponent)) (omega arith)));
+          used = rw (← e, ← same_item) (used_in c it symbols at r used);
         }

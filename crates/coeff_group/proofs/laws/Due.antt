@@ -1,5 +1,5 @@
 -- A group as the code reads it: what is required, and what is still due.
-use Rattle.std.specs.Prelude.{◌≡◌, refl, length, get_or, drop, replicate}
+use Rattle.std.specs.Prelude.{◌≡◌, refl, length, get_or, drop, replicate, Result, Ok, Err}
 use Rattle.std.proofs.Math.Path.{ap, subst}
 use Rattle.std.proofs.Common.{sym, ◌∙◌}
 use Rattle.std.proofs.Math.Bool.{true, false}
@@ -19,9 +19,8 @@ use Rattle.lent_check.specs.declared.GroupSides.{GroupSides}
 use Rattle.lent_check.specs.GroupSides.{group_sides}
 use Rattle.order_store.specs.Store.{stretch}
 use Rattle.context_index.proofs.laws.Bounds.{context_lt}
-use Rattle.coeff_walk.specs.declared.WalkEnd.{WalkEnd}
-use Rattle.coeff_walk.specs.declared.WalkEnd.TheVariants.{Done}
-use Rattle.coeff_walk.specs.laws.Outcome.{is_stopped, read_by}
+use Rattle.refusal.specs.declared.Refusal.{Refusal}
+use Rattle.coeff_walk.proofs.laws.Used.{not_done}
 use Rattle.coeff_walk.specs.Item.{Item}
 use Rattle.coeff_group.specs.declared.plan.Plan.{Plan}
 use Rattle.coeff_group.specs.PassGroup.{PassGroup, item_of, channel_items}
@@ -153,8 +152,7 @@ module _ (shift clusters : ℕ) (preset_map : List ℕ) (P : PassGroup) (symbols
     room_of v l d = let m = d.room in omega arith
 
     module _ (x y : ℕ) (l : List layout.Varblock) (d : Dues (corner_at P x y ∷ l) at₀ rows log G) (its : List Item) (is : its ≡ channel_items P (corner_at P x y))
-        (w : WalkEnd) (rows₁ : PerChannel) (log₁ : List ℕ) (G₁ : PerChannel) (few : ℕ) (le : few ≡ at₀ + 192 * (wide (K P x y - 2) * high (K P x y - 2)))
-        (shown : Shown symbols few w rows₁ log₁ G₁ (read_items shift clusters preset_map its (going (drop at₀ symbols) at₀ log G rows))) where
+        (rows₁ : PerChannel) (log₁ : List ℕ) (G₁ : PerChannel) (few : ℕ) (le : few ≡ at₀ + 192 * (wide (K P x y - 2) * high (K P x y - 2))) where
       abbrev R : Reading
       R = read_items shift clusters preset_map its (going (drop at₀ symbols) at₀ log G rows)
 
@@ -164,10 +162,10 @@ module _ (shift clusters : ℕ) (preset_map : List ℕ) (P : PassGroup) (symbols
       due_after = ap (λ (i : List Item). read_group shift clusters preset_map P l (read_items shift clusters preset_map i (going (drop at₀ symbols) at₀ log G rows))) is ∙ d.due
 
       -- the varblock was read
-      due_step : is_stopped w ≡ false → length rows₁ ≡ 3 → Dues l (read_by w) rows₁ log₁ G₁
+      due_step : (at₁ : ℕ) → Shown symbols few (Ok at₁) rows₁ log₁ G₁ R → length rows₁ ≡ 3 → Dues l at₁ rows₁ log₁ G₁
       unfolding area
-      due_step e three =
-          let o = shown_on symbols few w rows₁ log₁ G₁ R shown e in
+      due_step at₁ shown three =
+          let o = shown_on symbols few at₁ rows₁ log₁ G₁ R shown in
           let m = d.room in
           let f = o.few in
           record {
@@ -177,17 +175,17 @@ module _ (shift clusters : ℕ) (preset_map : List ℕ) (P : PassGroup) (symbols
           }
 
       -- the reading stopped in it
-      due_stop : is_stopped w ≡ true → GroupShown w log₁ G₁ whole
-      due_stop e = go R refl shown
+      due_stop : (why : Refusal) → Shown symbols few (Err why) rows₁ log₁ G₁ R → GroupShown (Err why) log₁ G₁ whole
+      due_stop why₁ shown = go R refl shown
         where
-          go : (Q : Reading) → R ≡ Q → Shown symbols few w rows₁ log₁ G₁ Q → GroupShown w log₁ G₁ whole
-          go (going us at₁ log' G' rows') q s = absurd (let a : is_stopped w ≡ false = ap is_stopped s.it.answer in let z : ◌≡◌ {A = ℕ} 0 1 = cc in omega arith)
+          go : (Q : Reading) → R ≡ Q → Shown symbols few (Err why₁) rows₁ log₁ G₁ Q → GroupShown (Err why₁) log₁ G₁ whole
+          go (going us at₁ log' G' rows') q s = absurd (not_done why₁ at₁ s.it.answer)
           go (refused why at₁ log' G') q s =
               let f : refused why at₁ log' G' ≡ whole = sym (group_refused shift clusters preset_map P l why at₁ log' G') ∙ ap (read_group shift clusters preset_map P l) (sym q) ∙ due_after in
               record { answer = s.it.answer ∙ ap walk_of f; logged = sym s.it.logged ∙ ap log_by f; cells = sym s.it.cells ∙ ap grids_by f }
 
     -- nothing is due any more
-    pub due_end : (y : ℕ) → P.bh ≤ y → Dues (corners_from (K P) (M P) P.bw (P.bh - y) y) at₀ rows log G → GroupShown (Done at₀) log G whole
+    pub due_end : (y : ℕ) → P.bh ≤ y → Dues (corners_from (K P) (M P) P.bw (P.bh - y) y) at₀ rows log G → GroupShown (Ok at₀) log G whole
     unfolding corners_from read_group
     due_end y h d =
         let e : P.bh - y ≡ 0 = omega arith in
@@ -218,22 +216,25 @@ module _ (shift clusters : ℕ) (preset_map : List ℕ) (P : PassGroup) (symbols
         d.three,
       )
 
-  module _ (w : WalkEnd) (rows₁ : PerChannel) (log₁ : List ℕ) (G₁ : PerChannel)
-      (shown : Shown symbols (at₀ + 192 * 2 ^ p.shape.exponent) w rows₁ log₁ G₁ (read_items shift clusters preset_map (items_by p (group_at P) P.store) (going (drop at₀ symbols) at₀ log G rows))) where
+  module _ (rows₁ : PerChannel) (log₁ : List ℕ) (G₁ : PerChannel) where
     its : items_by p (group_at P) P.store ≡ channel_items P (corner_at P x y)
     its = ap (λ (q : Plan). items_by q (group_at P) P.store) ep ∙ items_are P clusters (length preset_map) shift room ready x y hx hy corner
 
+    -- how the reading of the corner ended
+    abbrev Ended : Result ℕ Refusal → Type 0
+    Ended w = Shown symbols (at₀ + 192 * 2 ^ p.shape.exponent) w rows₁ log₁ G₁ (read_items shift clusters preset_map (items_by p (group_at P) P.store) (going (drop at₀ symbols) at₀ log G rows))
+
     -- the reading stopped in it
-    pub corner_stop : is_stopped w ≡ true → GroupShown w log₁ G₁ whole
-    corner_stop e =
+    pub corner_stop : (why : Refusal) → Ended (Err why) → GroupShown (Err why) log₁ G₁ whole
+    corner_stop why shown =
         due_stop shift clusters preset_map P symbols (192 * (P.bw * P.bh)) whole at₀ rows log G x y (row_from P (x + 1) y) here (items_by p (group_at P) P.store) its
-        w rows₁ log₁ G₁ (at₀ + 192 * 2 ^ p.shape.exponent) few shown e
+        rows₁ log₁ G₁ (at₀ + 192 * 2 ^ p.shape.exponent) few why shown
 
     -- it was read
-    pub corner_step : is_stopped w ≡ false → length rows₁ ≡ 3 → (at₁ : ℕ) → at₁ ≡ read_by w → Due shift clusters preset_map P symbols (192 * (P.bw * P.bh)) whole (row_from P (x + 1) y) at₁ rows₁ log₁ G₁
-    corner_step e three at₁ q =
-        rw q (due_step shift clusters preset_map P symbols (192 * (P.bw * P.bh)) whole at₀ rows log G x y (row_from P (x + 1) y) here (items_by p (group_at P) P.store) its
-        w rows₁ log₁ G₁ (at₀ + 192 * 2 ^ p.shape.exponent) few shown e three)
+    pub corner_step : (at₁ : ℕ) → Ended (Ok at₁) → length rows₁ ≡ 3 → Due shift clusters preset_map P symbols (192 * (P.bw * P.bh)) whole (row_from P (x + 1) y) at₁ rows₁ log₁ G₁
+    corner_step at₁ shown three =
+        due_step shift clusters preset_map P symbols (192 * (P.bw * P.bh)) whole at₀ rows log G x y (row_from P (x + 1) y) here (items_by p (group_at P) P.store) its
+        rows₁ log₁ G₁ (at₀ + 192 * 2 ^ p.shape.exponent) few at₁ shown three
 
 pub due_start : (shift clusters : ℕ) (preset_map : List ℕ) (P : PassGroup) (symbols log : List ℕ) (G : PerChannel) → Layout P.bw P.bh P.kinds P.hf_mul
     → Due shift clusters preset_map P symbols (192 * (P.bw * P.bh)) (whole_of shift clusters preset_map P symbols log G) (rows_from P 0) 0 (replicate 3 (replicate 32 0)) log G

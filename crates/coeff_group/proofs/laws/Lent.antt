@@ -1,5 +1,5 @@
 -- A varblock as it is lent: what fits, and its reading.
-use Rattle.std.specs.Prelude.{◌≡◌, Bool, true, false, cond, ◌&&◌, List, [], ◌∷◌, ltb, leb, eqb, length, drop}
+use Rattle.std.specs.Prelude.{◌≡◌, Bool, true, false, cond, ◌&&◌, List, ltb, eqb, length, drop, Err}
 use Rattle.std.proofs.Math.Path.{refl, ap, sym}
 use Rattle.std.proofs.Common.{◌∙◌, arith}
 use Prim.Native.Nat.{ℕ, zero, suc, ◌+◌, ◌*◌, ◌-◌, ◌^◌, ◌<◌, ◌≤◌}
@@ -13,7 +13,6 @@ use Rattle.lent_check.specs.declared.GroupSides.{GroupSides}
 use Rattle.order_store.specs.declared.Stretch.{Stretch}
 use Rattle.order_store.specs.Store.{PLACES, first_of}
 use Rattle.order_store.specs.LookedUp.{stretch_from, stretch_at}
-use Rattle.coeff_walk.specs.declared.WalkEnd.TheVariants.{Stopped}
 use Rattle.coeff_walk.proofs.laws.Used.{not_done}
 use Rattle.coeff_group.specs.declared.plan.Plan.{Plan}
 use Rattle.coeff_group.specs.Group.{PerChannel, Reading, going, read_items}
@@ -125,8 +124,8 @@ module _ (p : Plan) (group : GroupSides) (clusters : ℕ) (preset_map store : Li
   abbrev whole : Reading
   whole = read_items shift clusters preset_map (items_by p group store) (going (drop at symbols) at log G (three rows))
 
-  pub varblock_refused : fitting ≡ false → VarblockShown p (items_by p group store) symbols at (Stopped Length) (0 ∷ 0 ∷ 0 ∷ []) rows log G (planned_read p group clusters preset_map store rows symbols at shift log G)
-  varblock_refused e = rw e (record { shown = record { it = record { answer = refl; logged = refl; cells = refl } }; used = λ to f. absurd (not_done Length to f); none = λ stops. refl; counted = λ long. refl })
+  pub varblock_refused : fitting ≡ false → VarblockShown p (items_by p group store) symbols at (Err Length) rows log G (planned_read p group clusters preset_map store rows symbols at shift log G)
+  varblock_refused e = rw e (record { shown = record { it = record { answer = refl; logged = refl; cells = refl } }; used = λ to f. absurd (not_done Length to f); counted = λ long. refl })
 
   pub varblock_reads : fitting ≡ true → whole ≡ planned_read p group clusters preset_map store rows symbols at shift log G
   varblock_reads e = rw e

@@ -28,7 +28,7 @@ use Rattle.coeff_walk.specs.laws.Walks.{gains, none}
 use Rattle.coeff_walk.proofs.laws.Walks.{none_long, gains_none, run, non_zeros_le, walk_sent}
 use Rattle.coeff_group.specs.laws.Cells.{In, adds}
 use Rattle.coeff_group.proofs.laws.Cells.{adds_in, adds_both}
-use Rattle.coeff_group.specs.laws.Reads.{joined, Sized, End, read_by, longer, Goes, Taken, Tells, Reads, stops, ends}
+use Rattle.coeff_group.specs.laws.Reads.{joined, Sized, End, read_by, longer, Tells, Reads, stops, ends}
 
 -- no symbol at any place
 abbrev nones : List Item → List (List ℕ)

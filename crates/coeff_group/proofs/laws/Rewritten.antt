@@ -1,14 +1,14 @@
 -- Rows of counts, rewritten by what the channels of a varblock have read, and what its reading hands back.
-use Rattle.std.specs.Prelude.{◌≡◌, refl, Bool, true, false, List, [], ◌∷◌, ℕ, zero, suc, ◌+◌, ◌≤◌, ◌<◌, length, get_or, set}
-use Rattle.std.proofs.Common.{ap, sym, subst, ◌∙◌, true≢false, arith, get_or-set_same, get_or-set_other}
-use Rattle.coeff_walk.specs.declared.WalkEnd.{WalkEnd}
-use Rattle.coeff_walk.specs.laws.Outcome.{is_stopped}
+use Rattle.std.specs.Prelude.{◌≡◌, refl, List, [], ◌∷◌, ℕ, zero, suc, ◌+◌, ◌≤◌, ◌<◌, length, get_or, set, Ok, Err}
+use Rattle.std.proofs.Common.{sym, subst, ◌∙◌, arith, get_or-set_same, get_or-set_other}
+use Rattle.refusal.specs.declared.Refusal.{Refusal}
+use Rattle.coeff_walk.proofs.laws.Used.{not_done}
 use Rattle.laws.specs.Lists.{fill_from}
 use Rattle.coeff_group.specs.declared.plan.Plan.{Plan}
 use Rattle.coeff_group.specs.Group.{PerChannel, Reading, going, refused}
 use Rattle.coeff_group.specs.laws.Steps.{row_by, Shown}
 use Rattle.coeff_group.specs.laws.Plans.{channel_walked}
-use Rattle.coeff_group.specs.laws.Rewritten.{three, rewritten, counts_by}
+use Rattle.coeff_group.specs.laws.Rewritten.{three, rewritten, counts_by, no_counts}
 
 module _ (p : Plan) (counts_over : List ℕ) (rows : PerChannel) where
   -- a channel's own row is still as it was when the channel is walked
@@ -39,10 +39,10 @@ row_first row x zero v h l = absurd (omega arith)
 row_first row x (suc n) v h l = row_before (set row x v) (x + 1) n v x (omega arith) ∙ get_or-set_same row x v 0 l
 
 -- the counts of a reading that was stopped, and of one that was not
-module _ (p : Plan) (symbols : List ℕ) (most : ℕ) (w : WalkEnd) (log : List ℕ) (G : PerChannel) where
-  pub counts_none : (rows : PerChannel) (R : Reading) → Shown symbols most w rows log G R → is_stopped w ≡ true → 0 ∷ 0 ∷ 0 ∷ [] ≡ counts_by p.shape.x R
-  counts_none rows (refused why at log' G') s e = refl
-  counts_none rows (going us at log' G' rows') s e = absurd (let f = s.it.answer in let z : ◌≡◌ {A = Bool} true false = sym e ∙ ap is_stopped f in true≢false z)
+module _ (p : Plan) (symbols : List ℕ) (most : ℕ) (log : List ℕ) (G : PerChannel) where
+  pub counts_none : (why : Refusal) (rows : PerChannel) (R : Reading) → Shown symbols most (Err why) rows log G R → no_counts ≡ counts_by p.shape.x R
+  counts_none why rows (refused why' at log' G') s = refl
+  counts_none why rows (going us at log' G' rows') s = absurd (not_done why at s.it.answer)
 
   module _ (counts_over : List ℕ) (rows : PerChannel) (some : 1 ≤ p.shape.wide) (inside : (c : ℕ) → c < 3 → p.shape.x < length (get_or rows c [])) where
     at_x : (c : ℕ) → c < 3 → get_or (fill_from (get_or rows c []) p.shape.x p.shape.wide (get_or counts_over c 0)) p.shape.x 0 ≡ get_or counts_over c 0
@@ -55,9 +55,9 @@ module _ (p : Plan) (symbols : List ℕ) (most : ℕ) (w : WalkEnd) (log : List 
     listed (a ∷ b ∷ []) e = absurd (omega arith)
     listed (a ∷ b ∷ c ∷ d ∷ l) e = absurd (omega arith)
 
-    pub counts_read : (R : Reading) → length counts_over ≡ 3 → Shown symbols most w (rewritten p counts_over rows 3) log G R → is_stopped w ≡ false → counts_over ≡ counts_by p.shape.x R
-    counts_read (refused why at log' G') e s f = absurd (let g = s.it.answer in let z : ◌≡◌ {A = Bool} true false = sym (ap is_stopped g) ∙ f in true≢false z)
-    counts_read (going us at log' G' rows') e s f =
+    pub counts_read : (at : ℕ) (R : Reading) → length counts_over ≡ 3 → Shown symbols most (Ok at) (rewritten p counts_over rows 3) log G R → counts_over ≡ counts_by p.shape.x R
+    counts_read at (refused why at' log' G') e s = absurd (not_done (why at') at (sym s.it.answer))
+    counts_read at (going us at' log' G' rows') e s =
         rw (s.it.counts, at_x 0 (omega arith), at_x 1 (omega arith), at_x 2 (omega arith)) (listed counts_over e)
 
 -- three rows as a list of three

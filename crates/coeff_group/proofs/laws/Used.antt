@@ -1,10 +1,9 @@
 -- What a reading that is done tells of its counts, from channels to the group (document 02, No. 8): they are used up.
-use Rattle.std.specs.Prelude.{◌≡◌, refl, List, [], ◌∷◌, ◌++◌, ℕ, ◌+◌, length, drop}
+use Rattle.std.specs.Prelude.{◌≡◌, refl, List, [], ◌∷◌, ◌++◌, ℕ, ◌+◌, length, drop, Result, Ok}
 use Rattle.std.proofs.Common.{ap, ◌∙◌, arith}
 use Rattle.std.proofs.Math.Path.{sym}
 use Rattle.std.proofs.lemmas.List.Edits.{sets}
-use Rattle.coeff_walk.specs.declared.WalkEnd.{WalkEnd}
-use Rattle.coeff_walk.specs.declared.WalkEnd.TheVariants.{Done}
+use Rattle.refusal.specs.declared.Refusal.{Refusal}
 use Rattle.coeff_walk.specs.Walk.{Walked, done, stopped}
 use Rattle.coeff_walk.specs.Item.{Item, counted}
 use Rattle.coeff_walk.specs.Sent.{sent}
@@ -46,18 +45,18 @@ module _ (shift clusters : ℕ) (preset_map : List ℕ) where
       go k l H dss (stops why) long f t = absurd (not_done (why (at + k)) at' (ap walk_of f))
 
   -- of any reading of items, as its end is told
-  pub reading_uses : (its : List Item) (symbols : List ℕ) (at : ℕ) (log : List ℕ) (G rows : PerChannel) (w : WalkEnd)
+  pub reading_uses : (its : List Item) (symbols : List ℕ) (at : ℕ) (log : List ℕ) (G rows : PerChannel) (w : Result ℕ Refusal)
       → w ≡ walk_of (read_items shift clusters preset_map its (going (drop at symbols) at log G rows)) → AllUseUp its symbols at w
   reading_uses its symbols at log G rows w e to f = go (read_items shift clusters preset_map its (going (drop at symbols) at log G rows)) refl (sym e ∙ f)
     where
-      go : (R : Reading) → read_items shift clusters preset_map its (going (drop at symbols) at log G rows) ≡ R → walk_of R ≡ Done to → CountsUsed its (between symbols at to)
+      go : (R : Reading) → read_items shift clusters preset_map its (going (drop at symbols) at log G rows) ≡ R → walk_of R ≡ Ok to → CountsUsed its (between symbols at to)
       go (going us at' log' G' rows') q h =
           let r = items_read its (drop at symbols) at log G rows us at' log' G' rows' q in
           record { dss = r.dss; long = r.long; are = front (drop at symbols) (sent r.dss) us at to r.are (omega (arith, ended_at to at' h, r.read)) }
       go (refused why at' log' G') q h = absurd (not_done (why at') to h)
 
   -- of one item, in a grid and with a row of its own
-  pub channel_uses : (it : Item) (row symbols : List ℕ) (at : ℕ) (log g : List ℕ) (r : WalkEnd)
+  pub channel_uses : (it : Item) (row symbols : List ℕ) (at : ℕ) (log g : List ℕ) (r : Result ℕ Refusal)
       → r ≡ answer_of (counted shift clusters preset_map (in_channel 0 it) row (drop at symbols) at log g) → AllUseUp (in_channel 0 it ∷ []) symbols at r
   unfolding read_items read_item
   channel_uses it row symbols at log g r e =
@@ -70,6 +69,6 @@ module _ (shift clusters : ℕ) (preset_map : List ℕ) where
       reading_uses (items_of P (varblocks P)) symbols 0 log G zero_rows w (e ∙ ap walk_of (group_items_lem shift clusters preset_map P (varblocks P) (going symbols 0 log G zero_rows)))
 
 -- what the code holds of a reading tells its end
-pub shown_walk : (symbols : List ℕ) (most : ℕ) (w : WalkEnd) (rows : PerChannel) (log : List ℕ) (G : PerChannel) (R : Reading) → Shown symbols most w rows log G R → w ≡ walk_of R
+pub shown_walk : (symbols : List ℕ) (most : ℕ) (w : Result ℕ Refusal) (rows : PerChannel) (log : List ℕ) (G : PerChannel) (R : Reading) → Shown symbols most w rows log G R → w ≡ walk_of R
 shown_walk symbols most w rows log G (going us at log' G' rows') s = s.it.answer
 shown_walk symbols most w rows log G (refused why at log' G') s = s.it.answer

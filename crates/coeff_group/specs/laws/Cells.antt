@@ -1,6 +1,5 @@
 -- Cells of the grids, each with its channel, and symbols added to them one after the other.
 use Rattle.std.specs.Prelude.{◌≡◌, ℕ, ◌^◌, ◌<◌, length, get_or, set}
-use mathlib.Core.List.Memᴰ
 use mathlib.Core.List.{List, [], ◌∷◌, Memᴰ}
 use Rattle.coded_numbers.specs.Signed.{symbol}
 use Rattle.coeff_walk.specs.Walk.{gain}

@@ -1,5 +1,5 @@
 -- A group as the code reads it: what is required, and what is still due.
-use Rattle.std.specs.Prelude.{◌≡◌, length, drop}
+use Rattle.std.specs.Prelude.{◌≡◌, length, drop, Result, Ok, Err}
 use Rattle.std.proofs.Math.Bool.{true}
 use mathlib.Core.List.{List}
 use Prim.Native.Nat.{ℕ, ◌+◌, ◌*◌, ◌-◌, ◌≤◌}
@@ -9,14 +9,13 @@ use Rattle.layout.specs.Varblocks.{corners_row, corners_from, area}
 use Rattle.layout.specs.Varblocks as layout
 use Rattle.order_store.specs.Store.{PLACES}
 use Rattle.context_record.specs.Record.{fit}
-use Rattle.coeff_walk.specs.declared.WalkEnd.{WalkEnd}
-use Rattle.coeff_walk.specs.declared.WalkEnd.TheVariants.{Done, Stopped}
+use Rattle.refusal.specs.declared.Refusal.{Refusal}
 use Rattle.coeff_group.specs.PassGroup.{PassGroup, varblocks}
 use Rattle.coeff_group.specs.Group.{PerChannel, zero_rows, Reading, going, refused, read_group}
 
-abbrev pub walk_of : Reading → WalkEnd
-walk_of (going us at log grids rows) = Done at
-walk_of (refused why at log grids) = Stopped (why at)
+abbrev pub walk_of : Reading → Result ℕ Refusal
+walk_of (going us at log grids rows) = Ok at
+walk_of (refused why at log grids) = Err (why at)
 
 abbrev pub log_by : Reading → List ℕ
 log_by (going us at log grids rows) = log
@@ -27,7 +26,7 @@ grids_by (going us at log grids rows) = grids
 grids_by (refused why at log grids) = grids
 
 -- what is handed back of a reading
-pub record GroupShown (r : WalkEnd) (log : List ℕ) (G : PerChannel) (R : Reading) : Type 0 where
+pub record GroupShown (r : Result ℕ Refusal) (log : List ℕ) (G : PerChannel) (R : Reading) : Type 0 where
   pub answer : r ≡ walk_of R
   pub logged : log ≡ log_by R
   pub cells : G ≡ grids_by R

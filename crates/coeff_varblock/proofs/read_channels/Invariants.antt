@@ -1,5 +1,4 @@
 use mathlib.Core.List.{[], ◌∷◌}
-use Prim.Native.Nat.{◌≤◌, ◌-◌}
 use mathlib.Core.Path.{◌≡◌}
 use lib.ListN.{length, drop}
 use Rattle.coeff_group.specs.Group.{going, read_items}
@@ -11,12 +10,5 @@ use Rattle.coeff_varblock.proofs.read_channels.Given as goal
 abbrev pub invariant-loop-n : goal.invariant-loop-n
 invariant-loop-n l =
     (length l.log ≡ length l.initial.log)
-    × (length l.g0 ≡ length l.initial.g0)
-    × (length l.g1 ≡ length l.initial.g1)
-    × (length l.g2 ≡ length l.initial.g2)
-    × (l.n ≤ 3)
     × (length l.counts_over ≡ 3)
     × ChannelsDue l.plan l.group l.clusters l.preset_map l.store l.symbols l.at-2 l.shift (read_items l.shift l.clusters l.preset_map (items_by l.plan l.group l.store) (going (drop l.at-2 l.symbols) l.at-2 l.initial.log (l.initial.g0 ∷ l.initial.g1 ∷ l.initial.g2 ∷ []) (three l.rows))) l.n l.at (rewritten l.plan l.counts_over l.rows l.n) l.log (l.g0 ∷ l.g1 ∷ l.g2 ∷ [])
-
-abbrev pub decreases-loop-n : goal.decreases-loop-n
-decreases-loop-n l = 3 - l.n

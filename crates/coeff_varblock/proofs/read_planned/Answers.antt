@@ -27,4 +27,4 @@ read_channels-requires c =
 pub returns : goal.returns
 returns c =
     let a = c.args in
-    subst (VarblockShown a.plan (items_by a.plan a.group a.store.now) a.symbols.now a.at c.read_channels.result.walk c.read_channels.result.counts_over a.rows.now c.read_channels.new.log (c.read_channels.new.g0 ∷ c.read_channels.new.g1 ∷ c.read_channels.new.g2 ∷ [])) (varblock_reads a.plan a.group a.clusters a.preset_map.now a.store.now a.rows.now a.symbols.now a.at a.shift a.log.now (a.g0.now ∷ a.g1.now ∷ a.g2.now ∷ []) (sym (fits (goal.at.returns c).After-varblock_fits) ∙ c.if-not-varblock_fits.false)) c.read_channels.ensures
+    subst (VarblockShown a.plan (items_by a.plan a.group a.store.now) a.symbols.now a.at c.read_channels.result a.rows.now c.read_channels.new.log (c.read_channels.new.g0 ∷ c.read_channels.new.g1 ∷ c.read_channels.new.g2 ∷ [])) (varblock_reads a.plan a.group a.clusters a.preset_map.now a.store.now a.rows.now a.symbols.now a.at a.shift a.log.now (a.g0.now ∷ a.g1.now ∷ a.g2.now ∷ []) (sym (fits (goal.at.returns c).After-varblock_fits) ∙ c.if-not-varblock_fits.false)) c.read_channels.ensures

@@ -1,7 +1,9 @@
 -- Counts: their bounds and contexts, and the steps of rewriting a row of them.
-use Rattle.std.specs.Prelude.{◌≡◌, refl, Bool, true, false, cond, List, ℕ, zero, suc, ◌+◌, ◌*◌, ◌-◌, ◌/◌, ◌%◌, ◌^◌, ◌<◌, ◌≤◌, leb, get_or, set}
-use Rattle.std.proofs.Common.{ap, ◌∙◌, arith, mul-le-mul, div-lt_iff_lt-mul, mod-eq_of_lt, le-leb, pow_mono}
+use Rattle.std.specs.Prelude.{◌≡◌, refl, Bool, true, false, cond, List, [], ◌∷◌, ◌++◌, ℕ, zero, suc, ◌+◌, ◌*◌, ◌-◌, ◌/◌, ◌%◌, ◌^◌, ◌<◌, ◌≤◌, leb, length, get_or, set, take, drop, replicate}
+use Rattle.std.proofs.Common.{ap, sym, ◌∙◌, append_assoc, add-one, length-set, arith, mul-le-mul, div-lt_iff_lt-mul, mod-eq_of_lt, le-leb, pow_mono}
 use Rattle.std.proofs.lemmas.Bool.{lt-leb}
+use Rattle.std.proofs.lemmas.List.{take-append-drop, drop-set-lt, drop-drop}
+use Rattle.std.proofs.Math.Seq.{take-suc-set}
 use Rattle.laws.specs.Lists.{fill_from}
 use Rattle.coeff_walk.specs.Item.{predicted, count_index, count_over}
 
@@ -34,20 +36,16 @@ predicted_both row x zero e f = absurd (e refl)
 predicted_both row zero (suc y) e f = absurd (f refl)
 predicted_both row (suc x) (suc y) e f = let z : suc x - 1 ≡ x = omega arith in rw z
 
--- rewriting, step by step
-pub row_start : (row : List ℕ) (x n v : ℕ) → fill_from row (x + 0) (n - 0) v ≡ fill_from row x n v
-row_start row x n v = let e : x + 0 ≡ x = omega arith in let f : n - 0 ≡ n = omega arith in rw (e, f)
-
-pub row_step : (row : List ℕ) (x n k v : ℕ) → k < n → fill_from row (x + k) (n - k) v ≡ fill_from (set row (x + k) v) (x + (k + 1)) (n - (k + 1)) v
+-- a row with one number n times from x on, as a part of it is filled
+pub row_filled : (row : List ℕ) (x n v : ℕ) → x + n ≤ length row → take x row ++ (replicate n v ++ drop n (drop x row)) ≡ fill_from row x n v
 unfolding fill_from
-row_step row x n k v h =
-    let e : n - k ≡ suc (n - (k + 1)) = omega arith in
-    let f : x + k + 1 ≡ x + (k + 1) = omega arith in
-    ap (λ (m : ℕ). fill_from row (x + k) m v) e ∙ ap (λ (p : ℕ). fill_from (set row (x + k) v) p (n - (k + 1)) v) f
-
-pub row_end : (row : List ℕ) (x n k v : ℕ) → k ≡ n → fill_from row (x + k) (n - k) v ≡ row
-unfolding fill_from
-row_end row x n k v h = let e : n - k ≡ 0 = omega arith in rw e
+row_filled row x zero v h = take-append-drop x row
+row_filled row x (suc n) v h =
+    let a : take (x + 1) (set row x v) ≡ take x row ++ (v ∷ []) = rw (add-one x) (take-suc-set row x v (omega arith)) in
+    let b : drop (x + 1) (set row x v) ≡ drop (x + 1) row = drop-set-lt (x + 1) row x v (omega arith) in
+    let d : drop n (drop (x + 1) row) ≡ drop (suc n) (drop x row) = drop-drop n (x + 1) row ∙ ap (λ (k : ℕ). drop k row) (omega arith) ∙ sym (drop-drop (suc n) x row) in
+    let e : (take x row ++ (v ∷ [])) ++ (replicate n v ++ drop (suc n) (drop x row)) ≡ take x row ++ (v ∷ (replicate n v ++ drop (suc n) (drop x row))) = append_assoc (take x row) (v ∷ []) (replicate n v ++ drop (suc n) (drop x row)) in
+    sym e ∙ (rw (a, b, d) at (row_filled (set row x v) (x + 1) n v (omega (arith, length-set row x v))))
 
 pub few_yes : (n m : ℕ) → n ≤ m → ◌≡◌ {A = ℕ} 1 (cond (leb n m) 1 0)
 few_yes n m h = rw (le-leb n m h)

@@ -1,11 +1,12 @@
 -- What is lent for one channel, and its outcomes.
-use Rattle.std.specs.Prelude.{◌≡◌, List, ℕ, ◌+◌, ◌*◌, ◌-◌, ◌/◌, ◌^◌, ◌<◌, ◌≤◌, Bool, true, cond, leb, length, get_or, set, take, drop}
+use Rattle.std.specs.Prelude.{◌≡◌, List, ℕ, ◌+◌, ◌*◌, ◌-◌, ◌/◌, ◌^◌, ◌<◌, ◌≤◌, Bool, true, cond, leb, length, get_or, set, take, drop, Result}
 use Rattle.std.proofs.Common.{ap, sym, subst, ◌∙◌, arith, length-set, length-drop, drop_of_length-le, drop-cons, length-take-le}
 use Rattle.std.proofs.Math.Numerals.{add-one}
 use borrow.Author.Tests.{le-leb, lt-leb, eq-eqb}
 use Rattle.std.proofs.Math.Pow.{pow_pos}
 use Rattle.laws.specs.laws.Lists.{tail_all}
 use Rattle.refusal.specs.declared.Refusal.TheVariants.{SymbolsEnd, Count}
+use Rattle.refusal.specs.declared.Refusal.{Refusal}
 use Rattle.coeff_walk.specs.Walk.{Walked, done, stopped, walk}
 use Rattle.order_natural.specs.Places.{paired}
 use Rattle.coeff_walk.specs.Places.{cells_of}
@@ -15,7 +16,6 @@ use Rattle.coeff_walk.specs.laws.Outcome.{WalkShown}
 use Rattle.coeff_walk.proofs.laws.Outcome.{walk_used}
 use Rattle.coeff_walk.specs.laws.Lent.{lent_fits, places_read}
 use Rattle.order_natural.proofs.laws.Flat.{paired_drop}
-use Rattle.coeff_walk.specs.declared.WalkEnd.{WalkEnd}
 use Rattle.coeff_walk.specs.declared.spot.Spot.{Spot}
 use Rattle.coeff_walk.specs.declared.shape.Shape.{Shape}
 use Rattle.coeff_walk.specs.laws.Items.{item_at, ItemReady, spot_of}
@@ -103,5 +103,5 @@ module _ (v : Shape) (bw block_context clusters : ℕ) (preset_map list row symb
     channel_goes h en ef k ek spot ep =
         rw (ep, length-set log at k, rest_fits, rest_places, part_is, ef, es, ek, en) (sym (counted_reads shift clusters preset_map it row symbols at log g h))
 
-pub handed_by : (r : WalkEnd) (log g : List ℕ) (w v : Walked) → WalkShown r log g w → w ≡ v → WalkShown r log g v
+pub handed_by : (r : Result ℕ Refusal) (log g : List ℕ) (w v : Walked) → WalkShown r log g w → w ≡ v → WalkShown r log g v
 handed_by r log g w v h e = subst (λ (x : Walked). WalkShown r log g x) e h

@@ -1,5 +1,5 @@
 -- The coefficients behind a count, as they are lent: what fits, and their reading.
-use Rattle.std.specs.Prelude.{◌≡◌, true, List, ℕ, ◌*◌, ◌-◌, ◌/◌, ◌^◌, ◌≤◌, leb, eqb, length}
+use Rattle.std.specs.Prelude.{◌≡◌, true, List, ℕ, ◌*◌, ◌-◌, ◌/◌, ◌^◌, ◌≤◌, length}
 use Rattle.std.proofs.Common.{arith, leb-true, eqb-true}
 use Rattle.laws.specs.laws.Cases.{and-true}
 use Rattle.coeff_walk.specs.declared.spot.Spot.{Spot}

@@ -1,10 +1,9 @@
 -- The walk that skips zeros in runs, as its loop uses it: where it stands, one turn, and how it ends.
-use Rattle.std.specs.Prelude.{◌≡◌, refl, List, ℕ, ◌+◌, ◌*◌, ◌-◌, ◌/◌, ◌^◌, ◌<◌, ◌≤◌, length, get_or, set, take, drop}
+use Rattle.std.specs.Prelude.{◌≡◌, refl, List, ℕ, ◌+◌, ◌*◌, ◌-◌, ◌/◌, ◌^◌, ◌<◌, ◌≤◌, length, get_or, set, take, drop, Ok, Err}
 use Rattle.std.proofs.Common.{sym, ◌∙◌, arith, length-set}
 use Rattle.coeff_context.specs.Context.{coeff_context, NUM_NONZERO}
 use Rattle.coeff_context.proofs.laws.Contexts.{entry_at, context_fits}
 use Rattle.coeff_walk.specs.Walk.{Walked, walk, gain}
-use Rattle.coeff_walk.specs.declared.WalkEnd.TheVariants.{Done, Stopped}
 use Rattle.refusal.specs.declared.Refusal.TheVariants.{SymbolsEnd, CountRemaining}
 use Rattle.coeff_walk.specs.declared.spot.Spot.{Spot}
 use Rattle.coeff_walk.specs.laws.Outcome.{spot_cells, WalkReady, WalkShown}
@@ -24,15 +23,15 @@ module _ {spot : Spot} {list symbols : List ℕ} {at : ℕ} {coeff_map : List �
       record { below = omega arith; due = d; flagged = r.flagged; log_long = refl; grid_long = refl; places = p; lent = q; last = l; same = rw z }
 
   module _ {whole : Walked} {stop : ℕ} {log grid : List ℕ} {left prev k : ℕ} (s : Sparse spot list symbols at coeff_map shift log₀ grid₀ whole stop log grid left prev k) where
-    pub sparse_used : left ≡ 0 → WalkShown (Done (at + k)) log grid whole
+    pub sparse_used : left ≡ 0 → WalkShown (Ok (at + k)) log grid whole
     sparse_used e = ends _ _ _ (walk_used shift (2 ^ spot.exponent) coeff_map (spot_cells spot list) symbols k prev left (at + k) log grid e) s.same
 
-    pub sparse_24 : length list / 2 ≤ k → (left ≡ 0 → ⊥) → WalkShown (Stopped (CountRemaining (at + k))) log grid whole
+    pub sparse_24 : length list / 2 ≤ k → (left ≡ 0 → ⊥) → WalkShown (Err (CountRemaining (at + k))) log grid whole
     sparse_24 h n =
         ends _ _ _ (walk_24 shift (2 ^ spot.exponent) coeff_map (spot_cells spot list) symbols k prev left (at + k) log grid (omega (arith, h, places_count spot.turn spot.width spot.x spot.y list)) (omega (arith, n))) s.same
 
     module _ {count first_prev : ℕ} (r : WalkReady spot list at count first_prev (length coeff_map) shift (length log₀)) where
-      pub sparse_15 : stop ≤ k → k < length list / 2 → (left ≡ 0 → ⊥) → WalkShown (Stopped (SymbolsEnd (at + k))) log grid whole
+      pub sparse_15 : stop ≤ k → k < length list / 2 → (left ≡ 0 → ⊥) → WalkShown (Err (SymbolsEnd (at + k))) log grid whole
       sparse_15 e h n =
           let b = s.below in
           let d = s.due in

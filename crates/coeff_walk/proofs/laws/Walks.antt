@@ -1,5 +1,5 @@
 -- What a walk reads, logs and adds, whatever the shift and whatever log and grid held: all of it in one induction.
-use Rattle.std.specs.Prelude.{◌≡◌, Bool, ◌⊎◌, length, get_or, set, replicate}
+use Rattle.std.specs.Prelude.{◌≡◌, Bool, ◌⊎◌, length, get_or, set}
 use Rattle.std.proofs.Math.Path.{refl, sym}
 use Rattle.std.proofs.Common.{ap, ap₂, ◌∙◌, inl, inr, add-one, length-append}
 use Rattle.std.proofs.Math.Bool.{true, false, cond}

@@ -1,8 +1,8 @@
 -- What is lent for one channel, and its outcomes.
-use Rattle.std.specs.Prelude.{◌≡◌, List, ℕ, ◌+◌, ◌*◌, ◌-◌, ◌^◌, ◌<◌, ◌≤◌, drop}
+use Rattle.std.specs.Prelude.{◌≡◌, List, ℕ, ◌+◌, ◌*◌, ◌^◌, ◌<◌, ◌≤◌, drop}
 use Rattle.order_natural.specs.Places.{paired}
 use Rattle.coeff_walk.specs.Places.{cells_of}
-use Rattle.coeff_walk.specs.Item.{Item, counted}
+use Rattle.coeff_walk.specs.Item.{Item}
 use Rattle.coeff_walk.specs.declared.spot.Spot.{Spot}
 use Rattle.coeff_walk.specs.declared.shape.Shape.{Shape}
 

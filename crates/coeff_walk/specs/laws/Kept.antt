@@ -1,6 +1,6 @@
 -- What a walk keeps: the symbols left are those behind the symbols read, log and grid keep their lengths.
 use Rattle.std.specs.Prelude.{◌≡◌, List, ℕ, ◌+◌, ◌≤◌, length, drop}
-use Rattle.coeff_walk.specs.Walk.{Walked, done, stopped, walk}
+use Rattle.coeff_walk.specs.Walk.{Walked, done, stopped}
 
 -- from symbols us at a position to what a walk ends in; at most n symbols are read
 pub record Kept (n : ℕ) (us : List ℕ) (at : ℕ) (log g us' : List ℕ) (at' : ℕ) (log' g' : List ℕ) : Type 0 where

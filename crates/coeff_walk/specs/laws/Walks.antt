@@ -5,8 +5,8 @@ use Prim.Native.Nat.{ℕ, ◌+◌, ◌*◌, ◌<◌, ◌≤◌}
 use Rattle.std.proofs.lemmas.List.Edits.{sets}
 use Rattle.refusal.specs.declared.Refusal.{Refusal}
 use Rattle.refusal.specs.declared.Refusal.TheVariants.{SymbolsEnd, TooManyZeros, Count, CountRemaining}
-use Rattle.coeff_walk.specs.Walk.{Walked, done, stopped, walk, gain}
-use Rattle.coeff_walk.specs.Sent.{Words, more, non_zeros, up_to}
+use Rattle.coeff_walk.specs.Walk.{Walked, done, stopped, gain}
+use Rattle.coeff_walk.specs.Sent.{Words, non_zeros, up_to}
 
 -- symbols added at places, one after the other
 abbrev pub gains : ℕ → List ℕ → List ℕ → List ℕ → List ℕ

@@ -1,5 +1,5 @@
 -- The ways out of the context call.
-use Rattle.std.specs.Prelude.{◌≡◌, true, false, List, [], ◌∷◌, ◌++◌, ℕ, ◌+◌, ◌-◌, ◌*◌, ◌≤◌, ◌<◌, T, leb, eqb, length}
+use Rattle.std.specs.Prelude.{◌≡◌, true, false, List, [], ◌∷◌, ◌++◌, ℕ, ◌+◌, ◌-◌, ◌*◌, ◌≤◌, ◌<◌, T, leb, eqb, length, Result, Ok, Err}
 use Rattle.std.proofs.Math.Path.{refl}
 use Rattle.std.proofs.Common.{ap, sym, ◌∙◌, arith}
 use borrow.Author.Tests.{le-leb, lt-leb, eq-eqb, ne_eqb, leb-true, eqb-true}
@@ -7,7 +7,6 @@ use Rattle.refusal.specs.declared.Refusal.TheVariants.{BitsEnd}
 use Rattle.refusal.specs.Said.{said_at as said_at, said}
 use Rattle.refusal.specs.Answer.{gives, refuses, passed}
 use Rattle.refusal.specs.laws.Answer.{pass}
-use Rattle.bits.specs.declared.BitPlace.{BitPlace}
 use Rattle.bits.specs.Bits.{Bytes, Read, Value, Ended, then, read_bits}
 use Rattle.bits.specs.Reads.{place_at, bits_before}
 use Rattle.bits.specs.laws.Laws.{before_at}
@@ -15,12 +14,12 @@ use Rattle.bits.specs.laws.Near.{Near}
 use Rattle.context_record.specs.Record.{bsize_of}
 use Rattle.bytes_below.specs.Below.{bytes_below}
 use Rattle.laws.specs.Tables.{every}
-use Rattle.context_thresholds.specs.declared.Kind.{Kind}
-use Rattle.context_thresholds.specs.declared.ListStep.TheVariants as list_step
+use Rattle.bits.specs.declared.End.{End}
+use Rattle.refusal.specs.declared.Refusal.{Refusal}
 use Rattle.context_thresholds.specs.declared.Thresholds.{Thresholds}
 use Rattle.context_thresholds.specs.Thresholds.{lists_of, lf_value, qf_value, read_list, read_lists, pad}
-use Rattle.context_thresholds.specs.laws.Steps.{read_value, thresholds_of}
-use Rattle.context_thresholds.specs.laws.Lists.{value_near, list_near}
+use Rattle.context_thresholds.specs.laws.Steps.{thresholds_of}
+use Rattle.context_thresholds.specs.laws.Lists.{list_near}
 use Rattle.context_record.specs.Record.{record_of}
 use Rattle.context_call.specs.Call.{Outcome, contexts_of, accepted, refused, judged, judged_as, judged_lists, or_ended, no_lists, DEFAULT_MAP, parsed}
 
@@ -66,66 +65,64 @@ module _ (count : ℕ) (map lengths : List ℕ) where
       let d = pass 12 (leb count 16) _ u c.1 in
       (leb-true n 64 a.0, eqb-true (length map) (39 * n) b.0, leb-true 1 count c.0, leb-true count 16 d.0, (pass 12 (bytes_below count map) passed u d.1).0)
 
+-- a list of the code, or the bits that end in it
+abbrev pub list_of : Read (List ℕ) → Result Thresholds Refusal
+list_of (Value vs at) = Ok (record { count = length vs; next = place_at at; values = pad 15 vs })
+list_of (Ended at) = Err (BitsEnd at)
+
 -- What a list's thresholds say of the reading.
-pub record WasList (s : List ℕ) (value : ℕ → Read ℕ) (p : ℕ) (t : Thresholds) (n : ℕ) (q : BitPlace) : Type 0 where
+pub record WasList (s : List ℕ) (value : ℕ → Read ℕ) (p : ℕ) (t : Thresholds) : Type 0 where
   pub vs : List ℕ
-  pub is : read_list s value p ≡ Value vs (bits_before q)
-  pub count : length vs ≡ n
+  pub is : read_list s value p ≡ Value vs (bits_before t.next)
+  pub count : length vs ≡ t.count
   pub values : t.values ≡ pad 15 vs
-  pub few : n ≤ 15
-  pub near : bits_before q ≤ p + 514
+  pub few : t.count ≤ 15
+  pub near : bits_before t.next ≤ p + 514
 
 -- What an end of the bits in a list says.
 pub record WasShort (s : List ℕ) (value : ℕ → Read ℕ) (p k : ℕ) : Type 0 where
   pub is : read_list s value p ≡ Ended (p + k)
   pub near : k ≤ 516
 
-module _ (s : List ℕ) (value : ℕ → Read ℕ) (near : (p : ℕ) → Near (λ (v : ℕ). Unit) (value p) p 34 2) (h : Bytes s) (p : ℕ) (t : Thresholds) (e : t ≡ thresholds_of p (read_list s value p)) where
+module _ (s : List ℕ) (h : Bytes s) (value : ℕ → Read ℕ) (near : (p : ℕ) → Near (λ (v : ℕ). Unit) (value p) p 34 2) (p : ℕ) where
   goes : Near (λ (vs : List ℕ). (length vs ≤ 15) × T (every (λ (v : ℕ). true) vs)) (read_list s value p) p 514 516
   goes = list_near value (λ (v : ℕ). true) near s h p
 
-  says : (r : Read (List ℕ)) → read_list s value p ≡ r → t ≡ thresholds_of p r
-  says r i = e ∙ ap (thresholds_of p) i
-
-  was_list : (n : ℕ) (q : BitPlace) → t.step ≡ list_step.Listed n q → WasList s value p t n q
-  was_list n q f = go (read_list s value p) refl
+  pub list_was : (t : Thresholds) → list_of (read_list s value p) ≡ Ok t → WasList s value p t
+  list_was t f = go (read_list s value p) refl
     where
-      go : (r : Read (List ℕ)) → read_list s value p ≡ r → WasList s value p t n q
-      go (Ended at) i = absurd (let z : ◌≡◌ {A = ℕ} 0 1 = cc (says (Ended at) i) in omega arith)
+      go : (r : Read (List ℕ)) → read_list s value p ≡ r → WasList s value p t
+      go (Ended at) i = absurd (let z : ◌≡◌ {A = ℕ} 0 1 = cc (rw i at f) in omega arith)
       go (Value vs at) i =
-          let g : list_step.Listed (length vs) (place_at at) ≡ list_step.Listed n q = sym (ap (λ (x : Thresholds). x.step) (says (Value vs at) i)) ∙ f in
-          let a : length vs ≡ n = cc in
-          let b : place_at at ≡ q = cc in
-          let c : at ≡ bits_before q = sym (before_at at) ∙ ap bits_before b in
+          let g : ◌≡◌ {A = Thresholds} (record { count = length vs; next = place_at at; values = pad 15 vs }) t = cc (rw i at f) in
+          let c : at ≡ bits_before t.next = sym (before_at at) ∙ ap (λ (x : Thresholds). bits_before x.next) g in
+          let n : length vs ≡ t.count = ap (λ (x : Thresholds). x.count) g in
           let k = goes.value vs at i in
           record {
             vs = vs;
             is = i ∙ ap (λ (x : ℕ). Value vs x) c;
-            count = a;
-            values = ap (λ (x : Thresholds). x.values) (says (Value vs at) i);
-            few = omega (arith, k.0.0);
-            near = omega (arith, k.2);
+            count = n;
+            values = sym (ap (λ (x : Thresholds). x.values) g);
+            few = omega (arith, n, k.0.0);
+            near = omega (arith, c, k.2);
           }
 
-  was_short : (k : ℕ) → t.step ≡ list_step.End k → WasShort s value p k
-  was_short k f = go (read_list s value p) refl
+  pub list_ended : (k : ℕ) → thresholds_of p (read_list s value p) ≡ Err (record { taken = k }) → WasShort s value p k
+  list_ended k f = go (read_list s value p) refl
     where
       go : (r : Read (List ℕ)) → read_list s value p ≡ r → WasShort s value p k
-      go (Value vs q) i = absurd (let z : ◌≡◌ {A = ℕ} 0 1 = cc (says (Value vs q) i) in omega arith)
+      go (Value vs q) i = absurd (let z : ◌≡◌ {A = ℕ} 0 1 = cc (rw i at f) in omega arith)
       go (Ended q) i =
-          let g : list_step.End (q - p) ≡ list_step.End k = sym (ap (λ (x : Thresholds). x.step) (says (Ended q) i)) ∙ f in
-          let a : q - p ≡ k = cc in
+          let g : ◌≡◌ {A = End} (record { taken = q - p }) (record { taken = k }) = cc (rw i at f) in
+          let a : q - p ≡ k = ap (λ (x : End). x.taken) g in
           let l = goes.end q i in
-          let b : q ≡ p + k = omega arith in
-          record { is = i ∙ ap (λ (x : ℕ). Ended x) b; near = omega arith }
+          let b : q ≡ p + k = omega (arith, a, l) in
+          record { is = i ∙ ap (λ (x : ℕ). Ended x) b; near = omega (arith, a, l) }
 
--- of a list of either kind, as the code reads it
-module _ (s : List ℕ) (h : Bytes s) (kind : Kind) (p : BitPlace) (t : Thresholds) (e : t ≡ thresholds_of (bits_before p) (read_list s (read_value kind s) (bits_before p))) where
-  pub list_was : (n : ℕ) (q : BitPlace) → t.step ≡ list_step.Listed n q → WasList s (read_value kind s) (bits_before p) t n q
-  list_was = was_list s (read_value kind s) (value_near s h kind) h (bits_before p) t e
-
-  pub list_ended : (k : ℕ) → t.step ≡ list_step.End k → WasShort s (read_value kind s) (bits_before p) k
-  list_ended = was_short s (read_value kind s) (value_near s h kind) h (bits_before p) t e
+-- a refusal of a list says where the bits end
+pub short_of : (r : Read (List ℕ)) (why : Refusal) → list_of r ≡ Err why → (at : ℕ) × (r ≡ Ended at) × (BitsEnd at ≡ why)
+short_of (Value vs at) why e = absurd (let z : ◌≡◌ {A = ℕ} 0 1 = cc in omega arith)
+short_of (Ended at) why e = (at, refl, cc)
 
 -- The four lists one after the other.
 module _ (s : List ℕ) (p : ℕ) where
@@ -147,6 +144,10 @@ module _ (s : List ℕ) (p : ℕ) where
         pub whole : read_lists s p ≡ then (read_list s (qf_value s) at2) (λ d at. Value (lists_of a b c d) at)
         unfolding read_lists
         whole = rw (e0, e1, e2)
+
+        pub short3 : (at : ℕ) → read_list s (qf_value s) at2 ≡ Ended at → read_lists s p ≡ Ended at
+        unfolding read_lists
+        short3 at e = rw (e0, e1, e2, e)
 
 -- behind the LF lists, which are read into lengths and places: the qf list, then the tests
 abbrev pub judged_qf : ℕ → List ℕ → ℕ → ℕ → ℕ → List ℕ → List ℕ → ℕ → Outcome

@@ -1,5 +1,5 @@
 -- Laws: The context call's answer and record, with lists and map in lent memory.
-use Rattle.std.specs.Prelude.{◌≡◌, refl, Bool, true, false, cond, List, ℕ, eqb, replicate}
+use Rattle.std.specs.Prelude.{◌≡◌, refl, Bool, true, false, cond, List, ℕ, eqb, replicate, Result, Ok, Err}
 use Rattle.std.proofs.Common.{ap, sym, ◌∙◌}
 use Rattle.refusal.specs.declared.Refusal.{Refusal}
 use Rattle.refusal.specs.declared.Refusal.TheVariants.{BitsEnd}
@@ -9,11 +9,10 @@ use Rattle.refusal.specs.Answer.{Answer, gives, refuses, answered_by}
 use Rattle.bits.specs.Bits.{Read, Value, Ended, read_bits}
 use Rattle.context_record.specs.declared.HfBlockContext.{HfBlockContext}
 use Rattle.context_thresholds.specs.Thresholds.{read_lists}
-use Rattle.context_call.specs.declared.ContextAnswer.{ContextAnswer}
-use Rattle.context_call.specs.declared.ContextAnswer.TheVariants.{Accepted, Refused}
 use Rattle.context_call.specs.declared.ContextParts.{ContextParts}
-use Rattle.context_call.specs.Call.{Outcome, answered, contexts_of, accepted, refused, judged, judged_lists, or_ended, by_first, no_lists, DEFAULT_MAP, parsed}
+use Rattle.context_call.specs.Call.{Outcome, contexts_of, accepted, refused, judged, judged_lists, or_ended, by_first, no_lists, DEFAULT_MAP, parsed}
 use Rattle.context_call.specs.Parts.{kept_by, or_kept, with_lists}
+use Rattle.context_record.specs.Record.{record_of}
 
 pub kept_same : (lf qf map : List ℕ) (o p : Outcome) → o ≡ p → or_kept o lf qf map ≡ or_kept p lf qf map
 kept_same lf qf map o p e = ap (λ (z : Outcome). or_kept z lf qf map) e
@@ -22,24 +21,32 @@ abbrev outcome_of : Answer ℕ → HfBlockContext → Outcome
 outcome_of a c = record { answer = a; contexts = c }
 
 -- What an answer says of the outcome o and of the places, which held lf₀, qf₀ and map₀.
-module _ (r : ContextParts) (lf qf map lf₀ qf₀ map₀ : List ℕ) (o : Outcome) (e : with_lists r lf qf map ≡ or_kept o lf₀ qf₀ map₀) where
-  says : (a : ContextAnswer) → r.answer ≡ a → answered a ≡ o.answer
-  says a f = sym (ap answered f) ∙ ap (λ (z : Outcome). z.answer) e
+module _ (r : Result ContextParts Refusal) (lf qf map lf₀ qf₀ map₀ : List ℕ) (o : Outcome) (e : with_lists r lf qf map ≡ or_kept o lf₀ qf₀ map₀) where
+  pub was_accepted : (p : ContextParts) → r ≡ Ok p → accepted p.bits_read (record_of p.num_block_clusters p.lengths lf qf map) ≡ o
+  was_accepted p f =
+      let c = record_of p.num_block_clusters p.lengths lf qf map in
+      let w : accepted p.bits_read c ≡ or_kept o lf₀ qf₀ map₀ = ap (λ (x : Result ContextParts Refusal). with_lists x lf qf map) (sym f) ∙ e in
+      let g : gives p.bits_read ≡ o.answer = ap (λ (z : Outcome). z.answer) w in
+      let h : c ≡ o.contexts = ap (λ (z : Outcome). z.contexts) w ∙ rw (← g) in
+      ap (λ (a : Answer ℕ). outcome_of a c) g ∙ ap (outcome_of o.answer) h
 
-  places : (with_lists r lf qf map).contexts ≡ kept_by o.answer o.contexts lf₀ qf₀ map₀
-  places = ap (λ (z : Outcome). z.contexts) e
-
-  pub was_accepted : (at : ℕ) → r.answer ≡ Accepted at → accepted at (with_lists r lf qf map).contexts ≡ o
-  was_accepted at f =
-      let g : gives at ≡ o.answer = says (Accepted at) f in
-      let h : (with_lists r lf qf map).contexts ≡ o.contexts = places ∙ rw (← g) in
-      ap (λ (a : Answer ℕ). outcome_of a (with_lists r lf qf map).contexts) g ∙ ap (outcome_of o.answer) h
-
-  pub was_refused : (why : Refusal) → r.answer ≡ Refused why → (refuses (said why) ≡ o.answer) × (lf ≡ lf₀) × (qf ≡ qf₀) × (map ≡ map₀)
+  pub was_refused : (why : Refusal) → r ≡ Err why → (refuses (said why) ≡ o.answer) × (lf ≡ lf₀) × (qf ≡ qf₀) × (map ≡ map₀)
   was_refused why f =
-      let g : refuses (said why) ≡ o.answer = says (Refused why) f in
-      let h : (with_lists r lf qf map).contexts ≡ kept_by (refuses (said why)) o.contexts lf₀ qf₀ map₀ = places ∙ rw (← g) in
+      let w : with_lists (Err why) lf qf map ≡ or_kept o lf₀ qf₀ map₀ = ap (λ (x : Result ContextParts Refusal). with_lists x lf qf map) (sym f) ∙ e in
+      let g : refuses (said why) ≡ o.answer = ap (λ (z : Outcome). z.answer) w in
+      let h : (with_lists (Err why) lf qf map).contexts ≡ kept_by (refuses (said why)) o.contexts lf₀ qf₀ map₀ = ap (λ (z : Outcome). z.contexts) w ∙ rw (← g) in
       (g, ap (λ (c : HfBlockContext). c.lf_thresholds) h, ap (λ (c : HfBlockContext). c.qf_thresholds) h, ap (λ (c : HfBlockContext). c.block_ctx_map) h)
+
+-- Refused: the places stay.
+pub refused_is : (lf qf map : List ℕ) (a : Result ContextParts Refusal) (why : Refusal) → a ≡ Err why → with_lists a lf qf map ≡ or_kept (refused (said why)) lf qf map
+unfolding contexts_of
+refused_is lf qf map a why e = rw e
+
+-- the bits end
+pub refused_at : {A : Type 0} (lf qf map : List ℕ) (a : Result ContextParts Refusal) (why : Refusal) (r : Read A) (k : A → ℕ → Outcome) (at : ℕ)
+    → a ≡ Err why → BitsEnd at ≡ why → r ≡ Ended at → with_lists a lf qf map ≡ or_kept (or_ended r k) lf qf map
+unfolding contexts_of
+refused_at lf qf map a why r k at e w f = rw (e, ← w, f)
 
 -- Where the places held 0, they hold the record of the call by value.
 abbrev Plain : Outcome → Type 0

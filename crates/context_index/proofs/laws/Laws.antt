@@ -1,30 +1,21 @@
--- Laws on counting thresholds, as a loop over indices uses them.
-use Rattle.std.specs.Prelude.{◌≡◌, ℕ, suc, ◌+◌, ◌*◌, ◌<◌, ◌≤◌, min, Bool, true, false, cond, List, [], ◌∷◌, length, take, drop, slice_index, refl}
-use Rattle.std.proofs.Common.{sym, mul-le-mul, le-mul_of_pos_right, add-one, arith, length-drop, drop_of_length-le, ⊎_elim, take_all, take-take, drop-cons, get_or-take, get_or-drop}
+-- Laws on counting thresholds.
+use Rattle.std.specs.Prelude.{◌≡◌, ℕ, ◌+◌, ◌*◌, ◌<◌, ◌≤◌, min, Bool, true, false, cond, List, [], ◌∷◌, length, take, drop, slice_index, count_by, refl}
+use Rattle.std.proofs.Common.{sym, mul-le-mul, le-mul_of_pos_right, arith, length-drop, ⊎_elim, take_all, take-take}
 use Rattle.std.proofs.Math.ListN.{length-take}
+use Rattle.std.proofs.lemmas.List.Recursion.{is_count_by}
 use Rattle.laws.specs.laws.Cases.{le_or_lt}
 use Rattle.context_index.specs.Contexts.{Contexts, greater, above, lf_index_in, lf_size_of, lf_size, qf_index, lf_index_of, entry_of}
 use Rattle.context_index.specs.laws.Contexts.{block_contexts}
 use Rattle.context_index.specs.Lists.{lf_list}
 
-cons : (t : ℕ) (ts : List ℕ) (q : ℕ) → above (t ∷ ts) q ≡ cond (greater q t) 1 0 + above ts q
+one_or_none : (b : Bool) (n : ℕ) → cond b 1 0 + n ≡ cond b (1 + n) n
+one_or_none true n = omega arith
+one_or_none false n = omega arith
+
+-- the library's word for the same
+pub above_is : (q : ℕ) (ts : List ℕ) → above ts q ≡ count_by (greater q) ts
 unfolding above
-cons t ts q = refl
-
-module _ (ts : List ℕ) (first m q : ℕ) (fits : first + m ≤ length ts) where
-  -- one threshold, and those behind it
-  pub above_step : (k : ℕ) → k < m
-      → above (drop k (take m (drop first ts))) q
-      ≡ cond (greater q (slice_index ts (first + k))) 1 0 + above (drop (k + 1) (take m (drop first ts))) q
-  above_step k h =
-      let l = take m (drop first ts) in
-      let long : k < length l = omega (arith, length-take m (drop first ts), length-drop first ts) in
-      rw (drop-cons l k 0 long, add-one k, get_or-take m (drop first ts) k 0 h, get_or-drop first ts k 0)
-      (cons (slice_index ts (first + k)) (drop (suc k) l) q)
-
-  pub above_end : (k : ℕ) → m ≤ k → above (drop k (take m (drop first ts))) q ≡ 0
-  unfolding above
-  above_end k h = rw (drop_of_length-le (take m (drop first ts)) {i = k} (omega (arith, length-take m (drop first ts))))
+above_is q ts = is_count_by (λ (l : List ℕ). above l q) (greater q) refl (λ t l. one_or_none (greater q t) (above l q)) ts
 
 pub take_min : (n m : ℕ) (xs : List ℕ) → take (min n m) xs ≡ take n (take m xs)
 take_min n m xs =
@@ -36,10 +27,6 @@ take_min n m xs =
 -- the length of a list in 15 places
 pub part_length : (xs : List ℕ) (first n : ℕ) → first + 15 ≤ length xs → length (take n (take 15 (drop first xs))) ≡ min n 15
 part_length xs first n h = omega (arith, length-take n (take 15 (drop first xs)), length-take 15 (drop first xs), length-drop first xs)
-
-pub one_at_most : (b : Bool) → cond b 1 0 ≤ 1
-one_at_most true = omega arith
-one_at_most false = omega arith
 
 -- Products of sizes.
 pub digits_le : {a b s t : ℕ} → a ≤ 15 → s ≤ 16 → b ≤ 15 → t ≤ 16 → (a * s ≤ 240) × ((a * s + b) * t ≤ 4080)

@@ -1,15 +1,32 @@
 -- What a fit record keeps to.
-use Rattle.std.specs.Prelude.{◌≡◌, refl, Bool, true, false, ◌&&◌, List, leb, ltb, take}
+use Rattle.std.specs.Prelude.{◌≡◌, refl, Bool, true, false, ◌&&◌, List, [], ◌∷◌, length, leb, ltb, take}
+use Rattle.std.proofs.Common.{arith, ◌∙◌}
 use Rattle.std.proofs.Common.{sym, subst, ltb→lt, lt→ltb, get_or-take}
 use Prim.Native.Nat.{ℕ, ◌*◌, ◌≤◌, ◌<◌}
 use Rattle.std.proofs.Math.Dec.{T, leb→le}
 use Rattle.std.proofs.Math.ListN.{get_or}
 use borrow.Author.Tests.{le-leb}
 use Rattle.laws.specs.Tables.{every}
-use Rattle.context_record.specs.laws.Every.{each_get_d}
+use Rattle.std.specs.List.{list_all}
+use Rattle.context_record.specs.laws.Every.{each_get_d, every_is}
 use Rattle.context_record.specs.declared.HfBlockContext.{HfBlockContext}
 use Rattle.context_record.specs.Record.{bsize_of, qf_fit, fit_of, fit}
 use Rattle.bytes_below.specs.Below.{bytes_below}
+
+-- a list in its 15 places
+abbrev pub short : ℕ → Bool
+short n = leb n 15
+
+short_four : (xs : List ℕ) → length xs ≡ 4 → get_or xs 0 0 ≤ 15 → get_or xs 1 0 ≤ 15 → get_or xs 2 0 ≤ 15 → get_or xs 3 0 ≤ 15 → list_all short xs ≡ true
+short_four (a ∷ b ∷ c ∷ d ∷ []) e h0 h1 h2 h3 = rw (le-leb a 15 h0, le-leb b 15 h1, le-leb c 15 h2, le-leb d 15 h3)
+short_four [] e h0 h1 h2 h3 = absurd (omega arith)
+short_four (a ∷ []) e h0 h1 h2 h3 = absurd (omega arith)
+short_four (a ∷ b ∷ []) e h0 h1 h2 h3 = absurd (omega arith)
+short_four (a ∷ b ∷ c ∷ []) e h0 h1 h2 h3 = absurd (omega arith)
+short_four (a ∷ b ∷ c ∷ d ∷ x ∷ xs) e h0 h1 h2 h3 = absurd (omega arith)
+
+pub short_each : (xs : List ℕ) → list_all short xs ≡ true → (k : ℕ) → get_or xs k 0 ≤ 15
+short_each xs e k = leb→le (get_or xs k 0) 15 (each_get_d short xs 0 tt (subst T (sym (every_is short xs ∙ e)) tt) k)
 
 pub record Fit (clusters : ℕ) (lengths qf map : List ℕ) : Type 0 where
   pub short0 : get_or lengths 0 0 ≤ 15
@@ -54,6 +71,9 @@ module _ (clusters : ℕ) (lengths qf map : List ℕ) where
         values = t.7;
         bytes = t.8;
       }
+
+  pub fit_short : length lengths ≡ 4 → Fit clusters lengths qf map → list_all short lengths ≡ true
+  fit_short e f = short_four lengths e f.short0 f.short1 f.short2 f.short3
 
   -- what is left to test once all else is fit
   pub fit_last : get_or lengths 0 0 ≤ 15 → get_or lengths 1 0 ≤ 15 → get_or lengths 2 0 ≤ 15 → get_or lengths 3 0 ≤ 15 → bsize_of lengths ≤ 64

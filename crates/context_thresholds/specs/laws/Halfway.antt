@@ -1,15 +1,14 @@
 -- A list of thresholds, halfway read.
-use Rattle.std.specs.Prelude.{◌≡◌, ℕ, suc, ◌+◌, ◌-◌, ◌*◌, ◌%◌, ◌<◌, ◌≤◌, List, [], ◌∷◌, ◌++◌, length, replicate, slice_set}
+use Rattle.std.specs.Prelude.{◌≡◌, ℕ, suc, ◌+◌, ◌-◌, ◌*◌, ◌%◌, ◌<◌, ◌≤◌, List, [], ◌∷◌, ◌++◌, length, replicate, slice_set, Ok, Err}
 use Rattle.std.proofs.Math.Path.{refl, sym}
 use Rattle.std.proofs.Common.{ap, ◌∙◌, append_assoc, append-nil, arith, length-append}
 use Rattle.std.proofs.lemmas.List.{set_at}
 use Rattle.bits.specs.declared.BitPlace.{BitPlace}
 use Rattle.bits.specs.Bits.{Bytes, Read, Value, Ended, read_bits}
-use Rattle.bits.specs.declared.Got.TheVariants as got
+use Rattle.bits.specs.Reads.{got_value, got_end}
 use Rattle.bits.specs.Reads.{got_of, bits_before, place_at}
 use Rattle.bits.specs.laws.Laws.{was_value, was_end, before_at, value_at}
 use Rattle.bits.specs.laws.Near.{field_lt}
-use Rattle.context_thresholds.specs.declared.ListStep.TheVariants as list_step
 use Rattle.context_thresholds.specs.Thresholds.{prepend, read_values, read_list, pad}
 use Rattle.context_thresholds.specs.laws.Steps.{thresholds_of}
 
@@ -47,7 +46,7 @@ pad_more vs v k e h =
     ∙ sym (append_assoc vs (v ∷ []) (replicate m 0))
 
 listed : (start n : ℕ) (q : BitPlace) (values done : List ℕ) (at : ℕ) → length done ≡ n → q ≡ place_at at → values ≡ pad 15 done
-    → record { step = list_step.Listed n q; values = values } ≡ thresholds_of start (Value done at)
+    → Ok (record { count = n; next = q; values = values }) ≡ thresholds_of start (Value done at)
 listed start n q values done at c p v = rw (← c, p, v)
 
 module _ (value : ℕ → Read ℕ) (n from : ℕ) where
@@ -96,7 +95,7 @@ module _ (value : ℕ → Read ℕ) (n from : ℕ) where
               ∙ h.left;
         }
 
-    pub half_short : (start at : ℕ) → value h.at ≡ Ended at → record { step = list_step.End (at - start); values = replicate 15 0 } ≡ thresholds_of start (read_values value n from)
+    pub half_short : (start at : ℕ) → value h.at ≡ Ended at → Err (record { taken = at - start }) ≡ thresholds_of start (read_values value n from)
     half_short start at e =
         let a : n - k ≡ suc (n - (k + 1)) = omega arith in
         let r : read_values value n from ≡ Ended at =
@@ -105,7 +104,7 @@ module _ (value : ℕ → Read ℕ) (n from : ℕ) where
         rw r
 
   pub half_done : (start : ℕ) (values : List ℕ) (q : BitPlace) (k : ℕ) → Half value n from values q k → k ≡ n
-      → record { step = list_step.Listed n q; values = values } ≡ thresholds_of start (read_values value n from)
+      → Ok (record { count = n; next = q; values = values }) ≡ thresholds_of start (read_values value n from)
   half_done start values q k h e =
       let a : n - k ≡ 0 = omega arith in
       let r : read_values value n from ≡ Value h.done h.at =
@@ -119,19 +118,19 @@ module _ (value : ℕ → Read ℕ) (n from : ℕ) where
 
 -- The length of a list, then its values.
 module _ (s : List ℕ) (value : ℕ → Read ℕ) (p : ℕ) where
-  pub list_short : (k : ℕ) → got_of p (read_bits s p 4) ≡ got.End k
-      → record { step = list_step.End k; values = replicate 15 0 } ≡ thresholds_of p (read_list s value p)
+  pub list_short : (k : ℕ) → got_of p (read_bits s p 4) ≡ got_end k
+      → Err (record { taken = k }) ≡ thresholds_of p (read_list s value p)
   unfolding read_list
-  list_short k e = let w = was_end p (read_bits s p 4) k e in rw w.is (ap (λ (x : ℕ). record { step = list_step.End x; values = replicate 15 0 }) w.taken)
+  list_short k e = let w = was_end p (read_bits s p 4) k e in rw w.is (ap (λ (x : ℕ). Err (record { taken = x })) w.taken)
 
-  pub list_begins : (n : ℕ) (q : BitPlace) → got_of p (read_bits s p 4) ≡ got.Value n q → read_list s value p ≡ read_values value n (bits_before q)
+  pub list_begins : (n : ℕ) (q : BitPlace) → got_of p (read_bits s p 4) ≡ got_value n q → read_list s value p ≡ read_values value n (bits_before q)
   unfolding read_list
   list_begins n q e =
       let w = was_value p (read_bits s p 4) n q e in
       let t : w.at ≡ bits_before q = sym (ap bits_before w.place ∙ before_at w.at) in
       rw (w.is, t)
 
-  pub list_length : (n : ℕ) (q : BitPlace) → Bytes s → got_of p (read_bits s p 4) ≡ got.Value n q → (n ≤ 15) × (q.bit < 8) × (bits_before q ≡ p + 4)
+  pub list_length : (n : ℕ) (q : BitPlace) → Bytes s → got_of p (read_bits s p 4) ≡ got_value n q → (n ≤ 15) × (q.bit < 8) × (bits_before q ≡ p + 4)
   list_length n q h e =
       let w = was_value p (read_bits s p 4) n q e in
       let t : bits_before q ≡ w.at = ap bits_before w.place ∙ before_at w.at in

@@ -5,11 +5,11 @@ use Rattle.std.specs.Float.Ieee.Fits.{and_i}
 use Rattle.laws.specs.Tables.{every}
 use Rattle.bits.specs.Bits.{Bytes, Read, Offset, read_bits}
 use Rattle.bits.specs.laws.Near.{Near, here_near, then_near, map_near, field_near, offset_near, u32_near}
+use Rattle.bits.specs.declared.BitPlace.{BitPlace}
+use Rattle.bits.specs.Reads.{got_of, got_value}
+use Rattle.bits.specs.laws.Laws.{was_value}
 use Rattle.coded_numbers.specs.Signed.{unpack_signed}
-use Rattle.context_thresholds.specs.declared.Kind.{Kind}
-use Rattle.context_thresholds.specs.declared.Kind.TheVariants.{Lf, Qf}
 use Rattle.context_thresholds.specs.Thresholds.{lf_u32, lf_value, qf_u32, qf_value, prepend, read_values, read_list}
-use Rattle.context_thresholds.specs.laws.Steps.{read_value}
 
 module _ (s : List ℕ) (h : Bytes s) where
   pub qf_u32_lem : (p : ℕ) → Near (λ (u : ℕ). u ≤ 299) (qf_u32 s p) p 34 2
@@ -19,6 +19,10 @@ module _ (s : List ℕ) (h : Bytes s) where
       (offset_near s h few 4 3 (omega arith) (λ v l. omega arith))
       (offset_near s h few 12 5 (omega arith) (λ v l. omega arith))
       (offset_near s h few 44 8 (omega arith) (λ v l. omega arith))
+
+  -- as the code reads it
+  pub qf_u32_le : (p u : ℕ) (q : BitPlace) → got_of p (qf_u32 s p) ≡ got_value u q → u ≤ 299
+  qf_u32_le p u q e = let w = was_value p (qf_u32 s p) u q e in ((qf_u32_lem p).value u w.at w.is).0
 
   -- a qf value is 1 to 300
   pub qf_near : (Fine : ℕ → Type 0) → ((v : ℕ) → 1 ≤ v → v ≤ 300 → Fine v) → (p : ℕ) → Near Fine (qf_value s p) p 34 2
@@ -36,9 +40,8 @@ module _ (s : List ℕ) (h : Bytes s) where
       (offset_near s h any 65808 32 (omega arith) (λ v l. tt))
       p)
 
-  pub value_near : (k : Kind) (p : ℕ) → Near (λ (v : ℕ). Unit) (read_value k s p) p 34 2
-  value_near Lf p = lf_near p
-  value_near Qf p = qf_near (λ (v : ℕ). Unit) (λ v a b. tt) p
+  pub qf_any : (p : ℕ) → Near (λ (v : ℕ). Unit) (qf_value s p) p 34 2
+  qf_any p = qf_near (λ (v : ℕ). Unit) (λ v a b. tt) p
 
 -- lists of values that pass a rule
 module _ (value : ℕ → Read ℕ) (rule : ℕ → Bool) (near : (p : ℕ) → Near (λ (v : ℕ). T (rule v)) (value p) p 34 2) where

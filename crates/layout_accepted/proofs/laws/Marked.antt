@@ -3,9 +3,8 @@ use Rattle.std.specs.Prelude.{◌≡◌, refl, [], ◌∷◌, replicate}
 use Rattle.refusal.specs.Said.{said_at}
 use Rattle.dct_select.specs.Transforms.{TRANSFORMS, wide, high}
 use Rattle.layout.specs.Varblocks.{varblock, varblocks_of, area, corners_row, corners_from}
-use Rattle.layout_filter.specs.declared.Filter.TheVariants.{On}
 use Rattle.layout_filter.specs.Strength.{zero32}
-use Rattle.layout_placing.specs.Reading.{column}
+use Rattle.layout_filter.specs.declared.Filter.TheVariants.{On}
 use Rattle.refusal.specs.Answer.{gives, refuses}
 use Rattle.layout_call.specs.Call.{inputs, layout_of}
 use Rattle.layout_accepted.specs.Marked.{off}

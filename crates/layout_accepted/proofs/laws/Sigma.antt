@@ -1,5 +1,5 @@
 -- The filter strength that an accepted layout call leaves at each block (document 01, Layout and filter strength).
-use Rattle.std.specs.Prelude.{◌≡◌, Bool, true, false, ◌&&◌, ◌⊎◌, List, ℕ, ◌+◌, ◌*◌, ◌≤◌, ◌<◌, T, ltb, length, get_or, set, Float}
+use Rattle.std.specs.Prelude.{◌≡◌, Bool, true, false, ◌&&◌, ◌⊎◌, List, ℕ, ◌+◌, ◌*◌, ◌≤◌, ◌<◌, T, ltb, length, get_or, set, Float, Option, Some, None}
 use Rattle.std.proofs.Math.Path.{refl, sym}
 use Rattle.std.proofs.Common.{ap, ◌∙◌, inl, inr, arith, length-set, get_or-set_same, get_or-set_other, leb-false}
 use Rattle.std.proofs.Math.Dec.{leb}
@@ -20,12 +20,10 @@ use Rattle.layout.specs.RowByRow.{Before}
 use Rattle.layout.specs.laws.Order.{Here}
 use Rattle.layout.proofs.laws.Order.{last, later, never}
 use Rattle.layout_filter.specs.declared.Filter.{Filter}
-use Rattle.layout_filter.specs.declared.Filter.TheVariants.{Off, On}
-use Rattle.layout_filter.specs.declared.ScaledFilter.{ScaledFilter}
-use Rattle.layout_filter.specs.declared.ScaledFilter.TheVariants.{Off as ScaledOff, On as ScaledOn}
-use Rattle.layout_filter.specs.declared.DividedFilter.{DividedFilter}
-use Rattle.layout_filter.specs.declared.DividedFilter.TheVariants.{Off as DividedOff, On as DividedOn}
+use Rattle.layout_filter.specs.declared.ScaledMultiplier.{ScaledMultiplier}
+use Rattle.layout_filter.specs.declared.DividedMultiplier.{DividedMultiplier}
 use Rattle.layout_filter.specs.Strength.{zero32, pattern, times_look_up, sigma_of, scaled_by, divided_by}
+use Rattle.layout_filter.specs.declared.Filter.TheVariants.{Off, On}
 use Rattle.layout_filter.specs.Limits.{params_fit}
 use Rattle.layout_filter.specs.Finite.{SIGMA_MOST, Within}
 use Rattle.layout_filter.proofs.laws.Finite.{within_finite, sigma_within, sigma_back}
@@ -45,31 +43,31 @@ use Rattle.layout_accepted.proofs.laws.Theorems.{Read, accepted_read, accepted_l
 use Rattle.layout_accepted.specs.laws.Sigma.{AcceptedSharpness}
 
 -- sigma of a block of a varblock whose filter is given; filter off: as it was
-abbrev cell_sigma : DividedFilter → List Float → ℕ → ℕ → ℕ
-cell_sigma DividedOff lookups sharpness old = old
-cell_sigma (DividedOn q) lookups sharpness old = pattern (times_look_up q lookups sharpness)
+abbrev cell_sigma : Option DividedMultiplier → List Float → ℕ → ℕ → ℕ
+cell_sigma None lookups sharpness old = old
+cell_sigma (Some q) lookups sharpness old = pattern (times_look_up q.0 lookups sharpness)
 
 module _ (lookups : List Float) (sharpness s : List ℕ) (i : ℕ) where
-  length_with : (f : DividedFilter) → length (sigma_with f lookups sharpness s i) ≡ length s
-  length_with DividedOff = refl
-  length_with (DividedOn q) = length-set s i (pattern (times_look_up q lookups (get_or sharpness i 0)))
+  length_with : (f : Option DividedMultiplier) → length (sigma_with f lookups sharpness s i) ≡ length s
+  length_with None = refl
+  length_with (Some q) = length-set s i (pattern (times_look_up q.0 lookups (get_or sharpness i 0)))
 
-  with_same : (f : DividedFilter) → i < length s → get_or (sigma_with f lookups sharpness s i) i 0 ≡ cell_sigma f lookups (get_or sharpness i 0) (get_or s i 0)
-  with_same DividedOff h = refl
-  with_same (DividedOn q) h = get_or-set_same s i (pattern (times_look_up q lookups (get_or sharpness i 0))) 0 h
+  with_same : (f : Option DividedMultiplier) → i < length s → get_or (sigma_with f lookups sharpness s i) i 0 ≡ cell_sigma f lookups (get_or sharpness i 0) (get_or s i 0)
+  with_same None h = refl
+  with_same (Some q) h = get_or-set_same s i (pattern (times_look_up q.0 lookups (get_or sharpness i 0))) 0 h
 
-  with_other : (f : DividedFilter) (j : ℕ) → (j ≡ i → ⊥) → get_or (sigma_with f lookups sharpness s i) j 0 ≡ get_or s j 0
-  with_other DividedOff j n = refl
-  with_other (DividedOn q) j n = get_or-set_other s i j (pattern (times_look_up q lookups (get_or sharpness i 0))) 0 n
+  with_other : (f : Option DividedMultiplier) (j : ℕ) → (j ≡ i → ⊥) → get_or (sigma_with f lookups sharpness s i) j 0 ≡ get_or s j 0
+  with_other None j n = refl
+  with_other (Some q) j n = get_or-set_other s i j (pattern (times_look_up q.0 lookups (get_or sharpness i 0))) 0 n
 
 -- A scan that no cell refused, at one block (a, b) of the grid.
-module _ (bw bh : ℕ) (filter : DividedFilter) (lookups : List Float) (sharpness : List ℕ) where
+module _ (bw bh : ℕ) (filter : Option DividedMultiplier) (lookups : List Float) (sharpness : List ℕ) where
   same_sigma : (k k' s s' : List ℕ) → Taking k s ≡ Taking k' s' → s ≡ s'
   same_sigma k k' s s' e = cc
 
-  sharp_below : (f : DividedFilter) (n : ℕ) → (is_on f && leb 8 n) ≡ false → is_on f ≡ true → n < 8
-  sharp_below DividedOff n e g = absurd (let z : ◌≡◌ {A = ℕ} 0 1 = cc in omega arith)
-  sharp_below (DividedOn q) n e g = leb-false 8 n e
+  sharp_below : (f : Option DividedMultiplier) (n : ℕ) → (is_on f && leb 8 n) ≡ false → is_on f ≡ true → n < 8
+  sharp_below None n e g = absurd (let z : ◌≡◌ {A = ℕ} 0 1 = cc in omega arith)
+  sharp_below (Some q) n e g = leb-false 8 n e
 
   -- one cell
   cell_sigma_lem : (cx cy : ℕ) (k k' s s' : List ℕ) → take_cell bw bh filter lookups sharpness cx cy (Taking k s) ≡ Taking k' s'
@@ -179,8 +177,8 @@ module _ (bw bh : ℕ) (filter : DividedFilter) (lookups : List Float) (sharpnes
         go (inl g) (inl e) = inr (e, t.1)
         go (inl g) (inr e) = inl (omega arith)
 
-    on : (dy : ℕ) → Taken w dy → Taken 0 (dy + 1)
-    on dy t = (t.0, t.1, t.2, go t.3)
+    go_on : (dy : ℕ) → Taken w dy → Taken 0 (dy + 1)
+    go_on dy t = (t.0, t.1, t.2, go t.3)
       where
         go : Before a b (x + w) (y + dy) → Before a b (x + 0) (y + (dy + 1))
         go (inl g) = inl (omega arith)
@@ -190,7 +188,7 @@ module _ (bw bh : ℕ) (filter : DividedFilter) (lookups : List Float) (sharpnes
     unfolding Sound
     turn dy (Left n c d) hy r = tt
     turn dy (Taking k₁ s₁) hy r =
-        record { length_s = r.length_s; now = λ t. r.now (back dy t); sharp = λ t. r.sharp (back dy t); kept = λ t. r.kept (λ u. t (on dy u)) }
+        record { length_s = r.length_s; now = λ t. r.now (back dy t); sharp = λ t. r.sharp (back dy t); kept = λ t. r.kept (λ u. t (go_on dy u)) }
 
     none : Taken 0 0 → ⊥
     none t = go t.3
@@ -227,14 +225,14 @@ module _ (bw bh : ℕ) (filter : DividedFilter) (lookups : List Float) (sharpnes
         row t (inr g) = absurd (let z = t.0 in omega arith)
 
 -- A column placed.
-abbrev is_scaled_on : ScaledFilter → Bool
-is_scaled_on ScaledOff = false
-is_scaled_on (ScaledOn a) = true
+abbrev is_scaled_on : Option ScaledMultiplier → Bool
+is_scaled_on None = false
+is_scaled_on (Some a) = true
 
-shared_on : (f : ScaledFilter) (h : ℕ) → is_scaled_on f ≡ true → is_on (divided_by f h) ≡ true
+shared_on : (f : Option ScaledMultiplier) (h : ℕ) → is_scaled_on f ≡ true → is_on (divided_by f h) ≡ true
 unfolding divided_by
-shared_on ScaledOff h e = e
-shared_on (ScaledOn a) h e = refl
+shared_on None h e = e
+shared_on (Some a) h e = refl
 
 module _ (J : Job) where
   -- blocks that are free have +0.0, the others the filter strength by the hf_mul of their varblock's corner

@@ -1,5 +1,5 @@
 -- A column that is refused at a block: with 4 to 10 there, the columns placed told, and with 5 only if its type is unknown.
-use Rattle.std.specs.Prelude.{◌≡◌, Bool, cond, ◌&&◌, List, ℕ, ◌+◌, ◌%◌, ◌≤◌, ltb, length, Float}
+use Rattle.std.specs.Prelude.{◌≡◌, Bool, cond, ◌&&◌, List, ℕ, ◌+◌, ◌%◌, ◌≤◌, ltb, length, Float, Option}
 use Rattle.std.proofs.Math.Path.{refl}
 use Rattle.std.proofs.Math.Bool.{true, false}
 use native.Mathlib.Omega.{arith}
@@ -10,7 +10,7 @@ use Rattle.refusal.specs.Answer.{Answer, unless, passed, answered_by}
 use Rattle.dct_select.specs.Transforms.{COUNT, wide, high}
 use Rattle.layout.proofs.laws.RowByRow.{forward}
 use Rattle.layout.specs.Grid.{block_at}
-use Rattle.layout_filter.specs.declared.DividedFilter.{DividedFilter}
+use Rattle.layout_filter.specs.declared.DividedMultiplier.{DividedMultiplier}
 use Rattle.layout_filter.specs.Strength.{divided_by}
 use Rattle.layout_column.specs.Columns.{positive}
 use Rattle.layout_placing.specs.Scan.{Scan, Taking, Left, is_on, take_cell, scan}
@@ -22,7 +22,7 @@ cond_left : (b : Bool) (s t : Scan) → LeftWell s → LeftWell t → LeftWell (
 cond_left true s t p q = p
 cond_left false s t p q = q
 
-module _ (bw bh : ℕ) (filter : DividedFilter) (lookups : List Float) (sharpness : List ℕ) where
+module _ (bw bh : ℕ) (filter : Option DividedMultiplier) (lookups : List Float) (sharpness : List ℕ) where
   cell_left : (cx cy : ℕ) (s : Scan) → LeftWell s → LeftWell (take_cell bw bh filter lookups sharpness cx cy s)
   unfolding LeftWell take_cell
   cell_left cx cy (Left n a b) p = p

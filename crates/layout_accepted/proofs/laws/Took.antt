@@ -1,5 +1,5 @@
 -- A scan that no cell refused: the cells of its rectangle were free and are taken, the others are kept.
-use Rattle.std.specs.Prelude.{◌≡◌, Bool, true, false, cond, ◌&&◌, ◌⊎◌, List, ℕ, ◌+◌, ◌*◌, ◌-◌, ◌<◌, ltb, length, Float}
+use Rattle.std.specs.Prelude.{◌≡◌, Bool, true, false, cond, ◌&&◌, ◌⊎◌, List, ℕ, ◌+◌, ◌*◌, ◌-◌, ◌<◌, ltb, length, Float, Option, None}
 use Rattle.std.proofs.Math.Path.{refl, ap, sym}
 use Rattle.std.proofs.Common.{◌∙◌, inl, inr, length-set}
 use native.Mathlib.Omega.{arith}
@@ -13,8 +13,7 @@ use Rattle.layout.proofs.laws.Grid.{set_same, set_other}
 use Rattle.layout.specs.RowByRow.{Before}
 use Rattle.layout.specs.laws.Order.{Here}
 use Rattle.layout.proofs.laws.Order.{last}
-use Rattle.layout_filter.specs.declared.DividedFilter.{DividedFilter}
-use Rattle.layout_filter.specs.declared.DividedFilter.TheVariants.{Off}
+use Rattle.layout_filter.specs.declared.DividedMultiplier.{DividedMultiplier}
 use Rattle.layout_placing.proofs.laws.Cells.{cell_off}
 use Rattle.layout_placing.specs.Scan.{Scan, Taking, Left, is_on, sigma_with, take_cell, scan}
 use Rattle.layout_accepted.specs.laws.Took.{InRect, Took, CellTook}
@@ -26,7 +25,7 @@ passed false n cx cy t k s e = (refl, e)
 same_kinds : (k k' s s' : List ℕ) → Taking k s ≡ Taking k' s' → k ≡ k'
 same_kinds k k' s s' e = cc
 
-module _ (bw bh : ℕ) (filter : DividedFilter) (lookups : List Float) (sharpness : List ℕ) where
+module _ (bw bh : ℕ) (filter : Option DividedMultiplier) (lookups : List Float) (sharpness : List ℕ) where
   pub cell_took : (cx cy : ℕ) (k k' s s' : List ℕ) → take_cell bw bh filter lookups sharpness cx cy (Taking k s) ≡ Taking k' s' → CellTook bw bh cx cy k k'
   unfolding take_cell
   cell_took cx cy k k' s s' e =
@@ -184,9 +183,9 @@ module _ (bw bh : ℕ) (lookups : List Float) (sharpness : List ℕ) (x y w h : 
     (free : (a b : ℕ) → InRect x y w h a b → block_at k bw a b ≡ 0) where
   -- the cells before (dx, dy) are taken, sigma is as it was
   Upto : ℕ → ℕ → Scan → Type 0
-  Upto dx dy t = (k' : List ℕ) × (t ≡ Taking k' s) × Sofar bw bh Off lookups sharpness x y w h k dx dy k'
+  Upto dx dy t = (k' : List ℕ) × (t ≡ Taking k' s) × Sofar bw bh None lookups sharpness x y w h k dx dy k'
 
-  next : (dx dy : ℕ) (t : Scan) → dx < w → dy < h → Upto dx dy t → Upto (dx + 1) dy (take_cell bw bh Off lookups sharpness (x + dx) (y + dy) t)
+  next : (dx dy : ℕ) (t : Scan) → dx < w → dy < h → Upto dx dy t → Upto (dx + 1) dy (take_cell bw bh None lookups sharpness (x + dx) (y + dy) t)
   unfolding Upto
   next dx dy t hx hy u =
       let k₁ = u.0 in
@@ -197,8 +196,8 @@ module _ (bw bh : ℕ) (lookups : List Float) (sharpness : List ℕ) (x y w h : 
       let z : block_at k₁ bw (x + dx) (y + dy) ≡ 0 = o.kept (x + dx) (y + dy) i (λ a b p q g e. other a b g e.0 e.1) ∙ free (x + dx) (y + dy) m in
       let c : CellTook bw bh (x + dx) (y + dy) k₁ (set k₁ ((y + dy) * bw + (x + dx)) 1) = record { in_x = i; in_y = j; free = z; now = refl } in (
         set k₁ ((y + dy) * bw + (x + dx)) 1,
-        ap (take_cell bw bh Off lookups sharpness (x + dx) (y + dy)) u.1 ∙ sym (cell_off bw bh Off lookups sharpness (x + dx) (y + dy) k₁ s i j (omega arith) refl),
-        one_more bw bh Off lookups sharpness x y w h k dx dy k₁ (set k₁ ((y + dy) * bw + (x + dx)) 1) hx hy c o,
+        ap (take_cell bw bh None lookups sharpness (x + dx) (y + dy)) u.1 ∙ sym (cell_off bw bh None lookups sharpness (x + dx) (y + dy) k₁ s i j (omega arith) refl),
+        one_more bw bh None lookups sharpness x y w h k dx dy k₁ (set k₁ ((y + dy) * bw + (x + dx)) 1) hx hy c o,
       )
     where
       other : (a b : ℕ) → Before a b dx dy → x + dx ≡ x + a → y + dy ≡ y + b → ⊥
@@ -207,10 +206,10 @@ module _ (bw bh : ℕ) (lookups : List Float) (sharpness : List ℕ) (x y w h : 
 
   below : (dy : ℕ) (t : Scan) → dy < h → Upto w dy t → Upto 0 (dy + 1) t
   unfolding Upto
-  below dy t hy u = (u.0, u.1, turned bw bh Off lookups sharpness x y w h k dy u.0 u.2)
+  below dy t hy u = (u.0, u.1, turned bw bh None lookups sharpness x y w h k dy u.0 u.2)
 
-  pub scan_takes : length k ≡ bh * bw → (k' : List ℕ) × (scan bw bh Off lookups sharpness x y w h (Taking k s) ≡ Taking k' s)
+  pub scan_takes : length k ≡ bh * bw → (k' : List ℕ) × (scan bw bh None lookups sharpness x y w h (Taking k s) ≡ Taking k' s)
   unfolding scan Upto
   scan_takes e =
-      let r = forward (λ (dx dy : ℕ). take_cell bw bh Off lookups sharpness (x + dx) (y + dy)) w h Upto next below (Taking k s) (k, refl, started bw bh Off lookups sharpness x y w h k e) in
+      let r = forward (λ (dx dy : ℕ). take_cell bw bh None lookups sharpness (x + dx) (y + dy)) w h Upto next below (Taking k s) (k, refl, started bw bh None lookups sharpness x y w h k e) in
       (r.0, r.1)

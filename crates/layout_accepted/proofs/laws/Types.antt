@@ -6,7 +6,7 @@ use Rattle.laws.specs.laws.Cases.{le_or_lt}
 use Rattle.refusal.specs.declared.Said.{Said}
 use Rattle.refusal.specs.Said.{said_at}
 use Rattle.dct_select.specs.Transforms.{COUNT}
-use Rattle.layout_placing.specs.Reading.{Job, Placed, Stopped, next_type, next_hf_mul, column}
+use Rattle.layout_placing.specs.Reading.{Job, Placed, Stopped, next_type, next_hf_mul}
 use Rattle.layout_placing.proofs.laws.Visits.{column_unknown}
 use Rattle.layout_call.specs.Call.{Inputs, job_of}
 use Rattle.layout_accepted.specs.laws.Puts.{Column}

@@ -1,5 +1,5 @@
 -- Filter off: sharpness unread (document 01, Layout and filter strength).
-use Rattle.std.specs.Prelude.{◌≡◌, List, eqb, Float, length}
+use Rattle.std.specs.Prelude.{◌≡◌, List, eqb, Float, length, None}
 use Rattle.std.proofs.Math.Path.{refl, ap, fun_ext}
 use Rattle.std.proofs.Math.Bool.{cond}
 use Prim.Native.Nat.{ℕ, ◌+◌}
@@ -9,7 +9,6 @@ use Rattle.dct_select.specs.Transforms.{wide, high}
 use Rattle.layout.specs.RowByRow.{row_by_row}
 use Rattle.layout.specs.Grid.{block_at}
 use Rattle.layout_filter.specs.declared.Filter.TheVariants.{Off}
-use Rattle.layout_filter.specs.declared.DividedFilter.TheVariants.{Off as DividedOff}
 use Rattle.layout_filter.specs.Strength.{scaled_by, divided_by}
 use Rattle.layout_placing.specs.Scan.{Scan, Taking, Left, take_cell, scan}
 use Rattle.layout_placing.specs.Reading.{Job, Placed, Placing, Going, Stopped, stop_at, placed, place, place_in, next_type, next_hf_mul, next_checks, column, visit, start, reading}
@@ -18,12 +17,12 @@ use Rattle.layout_accepted.specs.Outcome.{with_sharpness}
 use Rattle.layout_accepted.specs.laws.Unread.{SharpnessUnread}
 
 module _ (bw bh : ℕ) (lookups : List Float) (s t : List ℕ) where
-  cell_unread : (cx cy : ℕ) (p : Scan) → take_cell bw bh DividedOff lookups s cx cy p ≡ take_cell bw bh DividedOff lookups t cx cy p
+  cell_unread : (cx cy : ℕ) (p : Scan) → take_cell bw bh None lookups s cx cy p ≡ take_cell bw bh None lookups t cx cy p
   unfolding take_cell
   cell_unread cx cy (Taking k g) = refl
   cell_unread cx cy (Left n a b) = refl
 
-  scan_unread : (x y w h : ℕ) (p : Scan) → scan bw bh DividedOff lookups s x y w h p ≡ scan bw bh DividedOff lookups t x y w h p
+  scan_unread : (x y w h : ℕ) (p : Scan) → scan bw bh None lookups s x y w h p ≡ scan bw bh None lookups t x y w h p
   unfolding scan
   scan_unread x y w h p = ap (λ (f : ℕ → ℕ → Scan → Scan). row_by_row f w h p) (fun_ext (λ dx. fun_ext (λ dy. fun_ext (λ q. cell_unread (x + dx) (y + dy) q))))
 

@@ -2,7 +2,7 @@
 -- decide nothing.
 use Rattle.std.specs.Prelude.{◌≡◌, length, take}
 use mathlib.Core.List.{List, map}
-use Prim.Native.Nat.{ℕ, ◌+◌, ◌-◌}
+use Prim.Native.Nat.{ℕ}
 use Rattle.layout.specs.Varblocks.{Varblock}
 use Rattle.layout_column.specs.Columns.{hf_mul_of}
 use Rattle.refusal.specs.Answer.{gives}

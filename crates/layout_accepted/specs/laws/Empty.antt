@@ -2,7 +2,6 @@
 -- no varblocks and the area is 0 (document 02, No. 2).
 use Rattle.std.specs.Prelude.{◌≡◌, List, ℕ}
 use Rattle.refusal.specs.Answer.{gives, answered_by}
-use Rattle.refusal.specs.laws.Answer.{pass}
 use Rattle.layout.specs.Empty.{Empty}
 use Rattle.layout_placing.specs.Outcome.{outcome}
 use Rattle.layout_call.specs.Call.{Inputs, before_work, refuse, layout_of}

@@ -8,7 +8,6 @@ use Rattle.layout_filter.specs.Strength.{scaled_by, divided_by}
 use Rattle.layout_filter.specs.Limits.{in_limits}
 use Rattle.layout_placing.specs.Scan.{take_cell, scan}
 use Rattle.layout_placing.specs.Reading.{place, column, reading}
-use Rattle.refusal.specs.Answer.{gives}
 use Rattle.layout_call.specs.Call.{layout_of}
 use Rattle.layout_accepted.specs.Marked.{off}
 

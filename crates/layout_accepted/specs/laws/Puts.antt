@@ -1,6 +1,6 @@
 -- A column that was placed: what it is, and what its varblock changes.
 use Rattle.std.specs.Prelude.{◌≡◌, List}
-use Prim.Native.Nat.{ℕ, ◌+◌, ◌*◌, ◌-◌, ◌≤◌, ◌<◌}
+use Prim.Native.Nat.{ℕ, ◌+◌, ◌*◌, ◌≤◌, ◌<◌}
 use Rattle.std.proofs.Math.ListN.{length}
 use Rattle.dct_select.specs.Transforms.{wide, high}
 use Rattle.layout.specs.Grid.{block_at}
@@ -8,8 +8,7 @@ use Rattle.layout.specs.laws.Order.{Here}
 use Rattle.layout_filter.specs.Strength.{divided_by}
 use Rattle.layout_column.specs.laws.Judged.{Fitting}
 use Rattle.layout_placing.specs.Scan.{Taking, scan}
-use Rattle.layout_placing.specs.Reading.{Job, Placed, placed, column}
-use Rattle.layout_placing.specs.Reading as reading
+use Rattle.layout_placing.specs.Reading.{Job, Placed}
 use Rattle.layout_accepted.specs.laws.Took.{InRect}
 
 -- a varblock of type t and hf_mul h is put at (x, y)

@@ -2,7 +2,6 @@
 use Rattle.std.proofs.Math.Path.{◌≡◌}
 use Rattle.std.specs.Prelude.{List, ℕ, ◌*◌}
 use Rattle.refusal.specs.declared.Said.{Said}
-use Rattle.refusal.specs.Said as refusals
 use Rattle.refusal.specs.Answer.{gives, refuses}
 use Rattle.layout.specs.Varblocks.{varblocks_of, area}
 use Rattle.lent_cut.specs.Calls.{cut_of}

@@ -1,5 +1,5 @@
 -- A scan that no cell refused: the cells of its rectangle were free and are taken, the others are kept.
-use Rattle.std.specs.Prelude.{◌≡◌, List, ℕ, ◌+◌, ◌*◌, ◌-◌, ◌≤◌, ◌<◌}
+use Rattle.std.specs.Prelude.{◌≡◌, List, ℕ, ◌+◌, ◌*◌, ◌≤◌, ◌<◌}
 use Rattle.std.proofs.Math.ListN.{set}
 use Rattle.layout.specs.Grid.{block_at}
 

@@ -1,9 +1,9 @@
 -- Filter off: sharpness unread (document 01, Layout and filter strength).
 use Rattle.std.specs.Prelude.{◌≡◌, List, length}
 use Prim.Native.Nat.{ℕ}
-use Rattle.layout_filter.specs.declared.Filter.TheVariants.{Off}
 use Rattle.layout_call.specs.Call.{Inputs, layout_of}
 use Rattle.layout_accepted.specs.Outcome.{with_sharpness}
+use Rattle.layout_filter.specs.declared.Filter.TheVariants.{Off}
 
 module _ (i : Inputs) (s : List ℕ) where
   -- whatever the sharpness numbers are, as many of them: the same answer, the same buffers

@@ -1,17 +1,33 @@
 -- A column by itself at a block: what it asks for, and one law for each way out of its checks.
-use Rattle.std.specs.Prelude.{◌≡◌, ℕ, ◌+◌, ◌%◌, ◌^◌, ◌<◌, ◌≤◌, ◌≢◌, nat_le, nat_lt}
-use Rattle.std.proofs.Common.{ap, arith}
+use Rattle.std.specs.Prelude.{◌≡◌, ℕ, ◌+◌, ◌%◌, ◌^◌, ◌<◌, ◌≤◌, ◌≢◌, true, false, nat_le, nat_lt, Result, Ok, Err, IsErrAnd, MatchResult}
+use Rattle.std.proofs.Common.{ap, sym, subst, arith}
 use borrow.Author.Tests.{lt-ltb, le-ltb, le-leb, lt-leb, leb-true, ltb-true}
 use Rattle.laws.specs.laws.Cases.{and-true}
+use Rattle.refusal.specs.declared.Refusal.{Refusal}
 use Rattle.refusal.specs.declared.Said.{Said}
-use Rattle.refusal.specs.Said.{said_at}
-use Rattle.refusal.specs.Answer.{gives, refuses}
+use Rattle.refusal.specs.Said.{said_at, said}
+use Rattle.refusal.specs.Answer.{gives, refuses, answered}
 use Rattle.refusal.specs.laws.Answer.{pass, worked}
 use Rattle.dct_select.specs.Transforms.{COUNT, wide, high}
+use Rattle.dct_select.specs.declared.TransformType.{TransformType}
+use Rattle.dct_select.specs.LookUp.{look_up}
+use Rattle.dct_select.specs.laws.LookUp.{unknown_is}
 use Rattle.dct_select.specs.laws.Sides.{wide_most_lem, high_most_lem}
 use Rattle.layout_column.specs.declared.JudgedColumn.{JudgedColumn}
 use Rattle.layout_column.specs.Columns.{positive, column_checks}
 use Rattle.layout_column.specs.laws.Judged.{judged_column, judged_of, Fitting}
+
+-- a number looked up, the refusal being told anew: what was found stands for the number, and nothing is found from 27 on
+module _ (t : ℕ) (m : Result TransformType Refusal) (P : Refusal → Refusal → Type 0) where
+  pub found : (r : Result TransformType Refusal) (k : TransformType) → answered r ≡ look_up t → MatchResult r (λ v. m ≡ Ok v) (λ e. IsErrAnd m (P e)) → m ≡ Ok k
+      → look_up t ≡ gives k
+  found (Ok v) k a b e = cc
+  found (Err w) k a b e = absurd (subst (λ (z : Result TransformType Refusal). IsErrAnd z (P w)) e b)
+
+  pub not_found : (r : Result TransformType Refusal) (w : Refusal) → answered r ≡ look_up t → MatchResult r (λ v. m ≡ Ok v) (λ e. IsErrAnd m (P e)) → m ≡ Err w
+      → 27 ≤ t
+  not_found (Ok v) w a b e = absurd (let z : ◌≡◌ {A = ℕ} 0 1 = cc in omega arith)
+  not_found (Err v) w a b e = unknown_is t (said v) (sym a)
 
 module _ (t h x y : ℕ) where
   pub judged_unknown : 27 ≤ t → refuses (said_at 5 x y) ≡ judged_of t h x y
@@ -19,29 +35,25 @@ module _ (t h x y : ℕ) where
   judged_unknown a = rw (le-ltb t 27 a)
 
   module _ (a : t < 27) where
-    pub judged_zero : h < 1 → refuses (said_at 6 x y) ≡ judged_of t h x y
+    pub judged_hf_mul : positive h ≡ false → refuses (said_at 6 x y) ≡ judged_of t h x y
     unfolding judged_of
-    judged_zero b = rw (lt-ltb t 27 a, lt-leb 1 h b)
+    judged_hf_mul b = rw (lt-ltb t 27 a, b)
 
-    pub judged_negative : 1 ≤ h → 2147483648 ≤ h → refuses (said_at 6 x y) ≡ judged_of t h x y
-    unfolding judged_of
-    judged_negative b c = rw (lt-ltb t 27 a, le-leb 1 h b, le-ltb h 2147483648 c)
-
-    module _ (b : 1 ≤ h) (c : h < 2147483648) where
+    module _ (b : positive h ≡ true) where
       pub judged_wide : 32 < x % 32 + wide t → refuses (said_at 7 x y) ≡ judged_of t h x y
       unfolding judged_of
-      judged_wide d = rw (lt-ltb t 27 a, le-leb 1 h b, lt-ltb h 2147483648 c, lt-leb (x % 32 + wide t) 32 d)
+      judged_wide d = rw (lt-ltb t 27 a, b, lt-leb (x % 32 + wide t) 32 d)
 
       pub judged_high : x % 32 + wide t ≤ 32 → 32 < y % 32 + high t → refuses (said_at 7 x y) ≡ judged_of t h x y
       unfolding judged_of
       judged_high d e =
-          rw (lt-ltb t 27 a, le-leb 1 h b, lt-ltb h 2147483648 c, le-leb (x % 32 + wide t) 32 d, lt-leb (y % 32 + high t) 32 e)
+          rw (lt-ltb t 27 a, b, le-leb (x % 32 + wide t) 32 d, lt-leb (y % 32 + high t) 32 e)
 
       pub judged_asks : (g w n : ℕ) → g ≡ h → w ≡ wide t → n ≡ high t → x % 32 + w ≤ 32 → y % 32 + n ≤ 32
           → gives (record { kind = 2 + t; hf_mul = g; wide = w; high = n }) ≡ judged_of t h x y
       unfolding judged_of
       judged_asks g w n p q r d e =
-          rw (lt-ltb t 27 a, le-leb 1 h b, lt-ltb h 2147483648 c, p, q, r, le-leb (x % 32 + wide t) 32 (rw q at d), le-leb (y % 32 + high t) 32 (rw r at e))
+          rw (lt-ltb t 27 a, b, p, q, r, le-leb (x % 32 + wide t) 32 (rw q at d), le-leb (y % 32 + high t) 32 (rw r at e))
 
 pub fitting : (t h x y : ℕ) (u : Unit) → column_checks t h x y ≡ gives u → Fitting t h x y
 fitting t h x y u e =

@@ -1,17 +1,11 @@
 -- A column by itself at a block: what it asks for, and one law for each way out of its checks.
 use Rattle.std.specs.Prelude.{ℕ, ◌+◌, ◌%◌, ◌^◌, ◌<◌, ◌≤◌}
 use Rattle.refusal.specs.declared.Said.{Said}
-use Rattle.refusal.specs.Said.{said_at, said}
+use Rattle.refusal.specs.Said.{said_at}
 use Rattle.refusal.specs.Answer.{Answer, gives, refuses, answered_by}
 use Rattle.dct_select.specs.Transforms.{wide, high}
 use Rattle.layout_column.specs.declared.JudgedColumn.{JudgedColumn}
-use Rattle.layout_column.specs.declared.Judged.{Judged}
-use Rattle.layout_column.specs.declared.Judged.TheVariants.{Asks, Refused as NotAsked}
-use Rattle.layout_column.specs.Columns.{positive, column_checks}
-
-abbrev pub said_judged : Judged → Answer JudgedColumn
-said_judged (Asks v) = gives v
-said_judged (NotAsked r) = refuses (said r)
+use Rattle.layout_column.specs.Columns.{column_checks}
 
 abbrev pub judged_column : ℕ → ℕ → JudgedColumn
 judged_column t h = record { kind = 2 + t; hf_mul = h; wide = wide t; high = high t }

@@ -3,8 +3,8 @@ use Rattle.std.specs.Prelude.{◌≡◌, true, false, List, ℕ, ◌+◌, ◌*�
 use Rattle.std.proofs.Common.{ap, sym, ◌∙◌, mul-le-mul, mod-lt, arith, pow_mono, pow_pos}
 use Rattle.refusal.specs.Said.{said_at}
 use Rattle.refusal.specs.Answer.{gives, refuses}
-use Rattle.bits.specs.declared.Got.{Got}
-use Rattle.bits.specs.declared.Got.TheVariants as got
+use Rattle.bits.specs.Reads.{Got}
+use Rattle.bits.specs.Reads.{got_value, got_end}
 use Rattle.bits.specs.declared.BitPlace.{BitPlace}
 use Rattle.bits.specs.Bits.{Value, read_bits, Bytes}
 use Rattle.bits.specs.laws.Numbers.{number}
@@ -40,7 +40,7 @@ module _ (width height : ℕ) (modes bytes : List ℕ) where
       unfolding count_of
       read = rw (a, b, c)
 
-      pub count_value : (v : ℕ) (q : BitPlace) → g ≡ got.Value v q → gives (counts (1 + v) n) ≡ count_of width height modes bytes
+      pub count_value : (v : ℕ) (q : BitPlace) → g ≡ got_value v q → gives (counts (1 + v) n) ≡ count_of width height modes bytes
       count_value v q f =
           let w = was_value 0 (read_bits bytes 0 n) v q (sym whole ∙ f) in
           let l = value_at bytes 0 n v w.at w.is in
@@ -48,7 +48,7 @@ module _ (width height : ℕ) (modes bytes : List ℕ) where
           ap (λ (i : ℕ). gives (counts (1 + v) i)) k ∙ sym (read ∙ ap plus_one w.is)
 
       -- the number fits in 16 bits
-      pub count_small : (v : ℕ) (q : BitPlace) → Bytes bytes → g ≡ got.Value v q → v < 65536
+      pub count_small : (v : ℕ) (q : BitPlace) → Bytes bytes → g ≡ got_value v q → v < 65536
       count_small v q h f =
           let w = was_value 0 (read_bits bytes 0 n) v q (sym whole ∙ f) in
           let l = value_at bytes 0 n v w.at w.is in
@@ -59,7 +59,7 @@ module _ (width height : ℕ) (modes bytes : List ℕ) where
           let m : number bytes / 2 ^ 0 % 2 ^ n < 2 ^ n = mod-lt (number bytes / 2 ^ 0) (pow_pos n) in
           omega arith
 
-      pub count_end : (k : ℕ) → g ≡ got.End k → refuses (said_at 3 0 0) ≡ count_of width height modes bytes
+      pub count_end : (k : ℕ) → g ≡ got_end k → refuses (said_at 3 0 0) ≡ count_of width height modes bytes
       count_end k f =
           let w = was_end 0 (read_bits bytes 0 n) k (sym whole ∙ f) in
           let l : 0 ≡ w.at = sym (ended_at bytes 0 n w.at w.is) in

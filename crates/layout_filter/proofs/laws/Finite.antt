@@ -1,7 +1,8 @@
 -- Every filter strength under the limits is finite: its size is at most 65,504 × 65,536 × 65,504.
-use Rattle.std.specs.Prelude.{◌≡◌, ℕ, ◌*◌, ◌^◌, ◌<◌, ◌≤◌, Bool, true, false, cond, not, ◌&&◌, ◌||◌, T, List, ℤ, pos, ◌==◌, from_bits, nat_le, nat_lt, slice_index_or, Float}
+use Rattle.std.specs.Prelude.{◌≡◌, ℕ, ◌*◌, ◌^◌, ◌<◌, ◌≤◌, Bool, true, false, cond, not, ◌&&◌, ◌||◌, T, List, ℤ, pos, ◌==◌, from_bits, nat_le, nat_lt, slice_index_or, Float, Option, Some, None}
 use Rattle.std.proofs.Math.Path.{refl, ap}
 use Rattle.std.proofs.Common.{sym, ◌∙◌, subst, true≢false, le_of_eq, mul-one, one-mul, mul_comm, mul_assoc, mul-pos, mul-le-mul, zero-mul, lt_of_lt_of_le, arith, ltb→lt, leb→le, eqb→eq, pow_pos, ne_eqb}
+use Rattle.std.proofs.Props.{props}
 use Rattle.std.proofs.Math.Nat.{le_trans, mul-mul-mul_comm}
 use Rattle.std.proofs.Math.Dec.{lit≤}
 use Rattle.std.specs.Float.Ieee.{nan, binary32, up, down, round, size, span, climb, units, odd, mul, div, le, lt, eq, of_int, fits, is_nan}
@@ -14,10 +15,10 @@ use Rattle.std.specs.Float.Ieee.Bits.{is_true, of_bits-to_bits}
 use Rattle.std.specs.Int.Count.{count_trailing_zeros}
 use Rattle.laws.specs.laws.Tables.{each_at}
 use Rattle.layout_filter.specs.declared.Filter.{Filter}
-use Rattle.layout_filter.specs.declared.Filter.TheVariants.{Off, On}
-use Rattle.layout_filter.specs.declared.ScaledFilter.TheVariants.{Off as ScaledOff, On as ScaledOn}
-use Rattle.layout_filter.specs.declared.DividedFilter.TheVariants.{On as DividedOn}
+use Rattle.layout_filter.specs.declared.ScaledMultiplier.{ScaledMultiplier}
+use Rattle.layout_filter.specs.declared.DividedMultiplier.{DividedMultiplier}
 use Rattle.layout_filter.specs.Strength.{two16, nearest, scaled, divided, times_look_up, sigma_of, pattern, scaled_by, divided_by}
+use Rattle.layout_filter.specs.declared.Filter.TheVariants.{Off, On}
 use Rattle.layout_filter.specs.Limits.{LIMIT, MINUS_LIMIT, in_limits, scale_fits, lookups_fit, params_fit}
 use Rattle.layout_filter.specs.Finite.{SIGMA_MOST, Within}
 use Rattle.layout_filter.specs.laws.Finite.{SCALED_MOST, ScaledBounded, DividedBounded, DividedBoundedLaw, TimesWithin}
@@ -197,16 +198,16 @@ scaled_bounded (On m) lookups scale e =
 
 pub divided_bounded : DividedBoundedLaw
 unfolding ScaledBounded DividedBounded divided_by
-divided_bounded ScaledOff lookups h a b w = tt
-divided_bounded (ScaledOn q) lookups h a b w = (divided_within q h w.0 a b, w.1)
+divided_bounded None lookups h a b w = tt
+divided_bounded (Some q) lookups h a b w = (divided_within q.0 h w.0 a b, w.1)
 
 -- the last step is within 65,504 × 65,536 × 65,504, so it is no NaN
-pub times_bounds : (q : Float) (lookups : List Float) (s : ℕ) → s < 8 → DividedBounded (DividedOn q) lookups → Within SIGMA_MOST (times_look_up q lookups s)
+pub times_bounds : (q : DividedMultiplier) (lookups : List Float) (s : ℕ) → s < 8 → DividedBounded (Some q) lookups → Within SIGMA_MOST (times_look_up q.0 lookups s)
 unfolding DividedBounded
-times_bounds q lookups s l w = times_within q (slice_index_or lookups s nan) w.0 (w.1 s l)
+times_bounds q lookups s l w = times_within q.0 (slice_index_or lookups s nan) w.0 (w.1 s l)
 
-pub times_bounded : (q : Float) (lookups : List Float) (s : ℕ) → s < 8 → DividedBounded (DividedOn q) lookups → T (not (is_nan (times_look_up q lookups s)))
-times_bounded q lookups s l w = within_no_nan SIGMA_MOST (times_look_up q lookups s) (times_bounds q lookups s l w)
+pub times_bounded : (q : DividedMultiplier) (lookups : List Float) (s : ℕ) → s < 8 → DividedBounded (Some q) lookups → T (not (is_nan (times_look_up q.0 lookups s)))
+times_bounded q lookups s l w = within_no_nan SIGMA_MOST (times_look_up q.0 lookups s) (times_bounds q lookups s l w)
 
 -- a filter strength under the limits is finite, and at most 65,504 × 65,536 × 65,504 in size
 pub sigma_within : (f : Filter) (scale h : ℕ) (lookups : List Float) (sharpness : ℕ) → params_fit f lookups scale ≡ true → 1 ≤ h → h < 4294967296
@@ -214,8 +215,8 @@ pub sigma_within : (f : Filter) (scale h : ℕ) (lookups : List Float) (sharpnes
 unfolding sigma_of
 sigma_within Off scale h lookups sharpness e a b s = unfold Within in lit≤ tt
 sigma_within (On m) scale h lookups sharpness e a b s =
-    let w : DividedBounded (DividedOn (divided (scaled m scale) h)) lookups = unfold scaled_by in unfold divided_by in divided_bounded (scaled_by (On m) scale) lookups h a b (scaled_bounded (On m) lookups scale e) in
-    times_bounds (divided (scaled m scale) h) lookups sharpness (s m refl) w
+    let w : DividedBounded (divided_by (scaled_by (On m) scale) h) lookups = divided_bounded (scaled_by (On m) scale) lookups h a b (scaled_bounded (On m) lookups scale e) in
+    unfold scaled_by in unfold divided_by in times_bounds (record { 0 = divided (scaled m scale) h }) lookups sharpness (s m refl) w
 
 -- f32 holds it, so its bit pattern reads back as itself
 sigma_fits : (f : Filter) (scale h : ℕ) (lookups : List Float) (sharpness : ℕ) → T (fits binary32 (sigma_of f scale h lookups sharpness))
@@ -225,3 +226,15 @@ sigma_fits (On m) scale h lookups sharpness = mul-fits binary32 (divided (scaled
 
 pub sigma_back : (f : Filter) (scale h : ℕ) (lookups : List Float) (sharpness : ℕ) → from_bits binary32 (pattern (sigma_of f scale h lookups sharpness)) ≡ sigma_of f scale h lookups sharpness
 sigma_back f scale h lookups sharpness = of_bits-to_bits binary32 (sigma_of f scale h lookups sharpness) (sigma_fits f scale h lookups sharpness)
+
+-- within a bound or not: a fact
+within_prop : (n : ℕ) (x : Float) → IsProp (Within n x)
+unfolding Within
+within_prop n nan = Prim.hlevel props
+within_prop n (inf s) = Prim.hlevel props
+within_prop n (fin s m e) = Prim.hlevel props
+
+pub scaled_bounded_prop : (f : Option ScaledMultiplier) (lookups : List Float) → IsProp (ScaledBounded f lookups)
+unfolding ScaledBounded
+scaled_bounded_prop None lookups = Prim.hlevel props
+scaled_bounded_prop (Some q) lookups = Prim.hlevel (props, within_prop)

@@ -1,11 +1,9 @@
 -- Every filter strength under the limits is finite: its size is at most 65,504 × 65,536 × 65,504.
-use Rattle.std.specs.Prelude.{ℕ, ◌*◌, ◌^◌, ◌<◌, ◌≤◌, not, List, slice_index_or, Float}
-use Rattle.std.specs.Float.Ieee.{nan, binary32, up, mul}
-use Rattle.layout_filter.specs.declared.ScaledFilter.{ScaledFilter}
-use Rattle.layout_filter.specs.declared.ScaledFilter.TheVariants.{Off as ScaledOff, On as ScaledOn}
-use Rattle.layout_filter.specs.declared.DividedFilter.{DividedFilter}
-use Rattle.layout_filter.specs.declared.DividedFilter.TheVariants.{Off as DividedOff, On as DividedOn}
-use Rattle.layout_filter.specs.Strength.{scaled, divided, divided_by}
+use Rattle.std.specs.Prelude.{ℕ, ◌*◌, ◌<◌, ◌≤◌, List, slice_index_or, Float, Option, Some, None}
+use Rattle.std.specs.Float.Ieee.{nan, binary32, mul}
+use Rattle.layout_filter.specs.declared.ScaledMultiplier.{ScaledMultiplier}
+use Rattle.layout_filter.specs.declared.DividedMultiplier.{DividedMultiplier}
+use Rattle.layout_filter.specs.Strength.{divided_by}
 use Rattle.layout_filter.specs.Finite.{SIGMA_MOST, Within}
 
 -- what bounds the scaled multiplier and sigma; both are numbers that f32 has, as are 1 and 2^32
@@ -19,13 +17,13 @@ TimesWithin = (q l : Float) → Within SCALED_MOST q → Within 65504 l → With
 abbrev pub Bounds : Float → List Float → Type 0
 Bounds q lookups = Within SCALED_MOST q × ((k : ℕ) → k < 8 → Within 65504 (slice_index_or lookups k nan))
 
-unfoldable pub ScaledBounded : ScaledFilter → List Float → Type 0
-ScaledBounded ScaledOff lookups = Unit
-ScaledBounded (ScaledOn q) lookups = Bounds q lookups
+unfoldable pub ScaledBounded : Option ScaledMultiplier → List Float → Type 0
+ScaledBounded None lookups = Unit
+ScaledBounded (Some q) lookups = Bounds q.0 lookups
 
-unfoldable pub DividedBounded : DividedFilter → List Float → Type 0
-DividedBounded DividedOff lookups = Unit
-DividedBounded (DividedOn q) lookups = Bounds q lookups
+unfoldable pub DividedBounded : Option DividedMultiplier → List Float → Type 0
+DividedBounded None lookups = Unit
+DividedBounded (Some q) lookups = Bounds q.0 lookups
 
 abbrev pub DividedBoundedLaw : Type 0
-DividedBoundedLaw = (f : ScaledFilter) (lookups : List Float) (h : ℕ) → 1 ≤ h → h < 4294967296 → ScaledBounded f lookups → DividedBounded (divided_by f h) lookups
+DividedBoundedLaw = (f : Option ScaledMultiplier) (lookups : List Float) (h : ℕ) → 1 ≤ h → h < 4294967296 → ScaledBounded f lookups → DividedBounded (divided_by f h) lookups

@@ -1,14 +1,13 @@
 -- The scan, cell by cell: one law for each way out of a cell, and where the scan starts.
-use Rattle.std.specs.Prelude.{◌≡◌, List, ℕ, ◌+◌, ◌*◌, ◌≤◌, ◌<◌, set, Float}
+use Rattle.std.specs.Prelude.{◌≡◌, List, ℕ, ◌+◌, ◌*◌, ◌≤◌, ◌<◌, set, Float, Option, Some, None}
 use borrow.Author.Tests.{lt-ltb, le-ltb, le-leb, lt-leb}
 use Rattle.layout.specs.Grid.{block_at}
-use Rattle.layout_filter.specs.declared.DividedFilter.{DividedFilter}
-use Rattle.layout_filter.specs.declared.DividedFilter.TheVariants.{Off, On}
+use Rattle.layout_filter.specs.declared.DividedMultiplier.{DividedMultiplier}
 use Rattle.layout_filter.specs.Strength.{times_look_up, pattern}
 use Rattle.layout_placing.specs.Scan.{Scan, Taking, Left, take_cell, scan}
 use Rattle.layout.proofs.laws.Loops.{rows_left, loop_start}
 
-module _ (bw bh : ℕ) (divided : DividedFilter) (lookups : List Float) (sharpness : List ℕ) where
+module _ (bw bh : ℕ) (divided : Option DividedMultiplier) (lookups : List Float) (sharpness : List ℕ) where
   module _ (cx cy : ℕ) (k s : List ℕ) where
     abbrev pub taken : Scan
     taken = take_cell bw bh divided lookups sharpness cx cy (Taking k s)
@@ -26,16 +25,16 @@ module _ (bw bh : ℕ) (divided : DividedFilter) (lookups : List Float) (sharpne
       unfolding take_cell
       cell_overlap h = rw (lt-leb bw cx in_x, lt-leb bh cy in_y, lt-ltb 0 (block_at k bw cx cy) h)
 
-      pub cell_off : block_at k bw cx cy ≤ 0 → divided ≡ Off → Taking (set k (cy * bw + cx) 1) s ≡ taken
+      pub cell_off : block_at k bw cx cy ≤ 0 → divided ≡ None → Taking (set k (cy * bw + cx) 1) s ≡ taken
       unfolding take_cell
       cell_off h e = rw (lt-leb bw cx in_x, lt-leb bh cy in_y, le-ltb 0 (block_at k bw cx cy) h, e)
 
-      pub cell_sharpness : (q : Float) → block_at k bw cx cy ≤ 0 → divided ≡ On q → 8 ≤ block_at sharpness bw cx cy → Left 10 cx cy ≡ taken
+      pub cell_sharpness : (q : DividedMultiplier) → block_at k bw cx cy ≤ 0 → divided ≡ Some q → 8 ≤ block_at sharpness bw cx cy → Left 10 cx cy ≡ taken
       unfolding take_cell
       cell_sharpness q h e l = rw (lt-leb bw cx in_x, lt-leb bh cy in_y, le-ltb 0 (block_at k bw cx cy) h, e, le-leb 8 (block_at sharpness bw cx cy) l)
 
-      pub cell_on : (q : Float) → block_at k bw cx cy ≤ 0 → divided ≡ On q → block_at sharpness bw cx cy < 8
-          → Taking (set k (cy * bw + cx) 1) (set s (cy * bw + cx) (pattern (times_look_up q lookups (block_at sharpness bw cx cy)))) ≡ taken
+      pub cell_on : (q : DividedMultiplier) → block_at k bw cx cy ≤ 0 → divided ≡ Some q → block_at sharpness bw cx cy < 8
+          → Taking (set k (cy * bw + cx) 1) (set s (cy * bw + cx) (pattern (times_look_up q.0 lookups (block_at sharpness bw cx cy)))) ≡ taken
       unfolding take_cell
       cell_on q h e l = rw (lt-leb bw cx in_x, lt-leb bh cy in_y, le-ltb 0 (block_at k bw cx cy) h, e, lt-leb 8 (block_at sharpness bw cx cy) l)
 

@@ -3,7 +3,6 @@ use Rattle.std.proofs.Math.Path.{◌≡◌}
 use Rattle.std.specs.Prelude.{List, ℕ, ◌≤◌}
 use Rattle.refusal.specs.Said.{said_at}
 use Rattle.layout.specs.Empty.{Empty}
-use Rattle.layout.specs.Cut.{cut}
 use Rattle.lent_check.specs.declared.GroupSides.{GroupSides}
 use Rattle.refusal.specs.Answer.{gives, refuses}
 use Rattle.lent_cut.specs.Calls.{outcome, cut_of}

@@ -5,9 +5,8 @@ use Rattle.dct_select.specs.Transforms.{TRANSFORMS, wide, high}
 use Rattle.refusal.specs.Said.{said_at}
 use Rattle.refusal.specs.Answer.{gives, refuses}
 use Rattle.layout.specs.Kinds.{wide_of, high_of}
-use Rattle.lent_lists.specs.Same.{same}
 use Rattle.lent_likeness.specs.Like.{HasRectangle, SameRectangles, filtered}
-use Rattle.lent_likeness.specs.Calls.{alike, like_of}
+use Rattle.lent_likeness.specs.Calls.{like_of}
 use Rattle.lent_likeness.specs.Examples.{one_block, one_dct8, one_hornuss}
 use Rattle.lent_likeness.specs.laws.Examples.{likeness_computes}
 

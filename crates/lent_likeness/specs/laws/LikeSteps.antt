@@ -2,9 +2,12 @@
 use Rattle.std.specs.Prelude.{◌≡◌, Bool, ◌⊎◌, ℕ}
 use Rattle.layout.specs.Empty.{Empty}
 use Rattle.lent_check.specs.laws.Laws.{is_lent_layout}
-use Rattle.lent_lists.specs.Same.{same}
-use Rattle.lent_likeness.specs.Like.{FilteredLayout}
-use Rattle.lent_likeness.specs.Calls.{alike}
+use Rattle.lent_likeness.specs.Like.{FilteredLayout, filtered}
+use Rattle.lent_likeness.specs.declared.Filtered.{Filtered}
+
+-- what is lent
+abbrev pub of_filtered : Filtered → FilteredLayout
+of_filtered l = filtered l.bw l.bh l.kinds.now l.hf_mul.now l.sigma.now
 
 -- a layout that is lent in full, as the code tests it
 abbrev pub is_lent : FilteredLayout → Bool

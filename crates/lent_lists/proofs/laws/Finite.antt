@@ -1,12 +1,10 @@
--- A pattern is finite if without its sign it is below that of infinity; and the loop over many.
-use Rattle.std.specs.Prelude.{◌≡◌, refl, Bool, true, false, not, ◌&&◌, cond, ◌⊎◌, List, ℕ, zero, suc, ◌+◌, ◌/◌, ◌%◌, ◌^◌, ◌≤◌, ◌<◌, leb, ltb, eqb, length, get_or, drop}
-use Rattle.std.proofs.Common.{ap, sym, ◌∙◌, inl, inr, arith, lt-ltb, le-ltb, eq-eqb, ne_eqb}
-use Rattle.std.proofs.Math.Bool.{and_assoc, and-true as true-last}
+-- A pattern is finite if without its sign it is below that of infinity.
+use Rattle.std.specs.Prelude.{◌≡◌, refl, Bool, true, false, not, cond, ◌⊎◌, ℕ, zero, suc, ◌+◌, ◌/◌, ◌%◌, ◌^◌, ◌≤◌, ◌<◌, leb, ltb, eqb}
+use Rattle.std.proofs.Common.{sym, ◌∙◌, inl, inr, arith, lt-ltb, le-ltb, eq-eqb, ne_eqb}
 use lib.Ieee.{binary32, of_fields, of_bits, odd}
 use Rattle.std.specs.Float.Ieee.Scale.{finite}
 use Rattle.laws.specs.laws.Cases.{le_or_lt}
-use Rattle.laws.specs.laws.Tables.{every_step, every_done}
-use Rattle.lent_lists.specs.Finite.{finite_pattern, all_finite}
+use Rattle.lent_lists.specs.Finite.{finite_pattern}
 
 odd_finite : (d : ℕ) (s : Bool) (q k l : ℕ) → finite (odd d s q k l) ≡ true
 unfolding odd
@@ -34,16 +32,3 @@ finite_below s = go (le_or_lt 2139095040 (s % 2147483648)) ∙ sym (fields_finit
     go : (2139095040 ≤ s % 2147483648) ⊎ (s % 2147483648 < 2139095040) → ltb (s % 2147483648) 2139095040 ≡ not (eqb (s % 2147483648 / 8388608) 255)
     go (inl h) = rw (le-ltb (s % 2147483648) 2139095040 h, eq-eqb (s % 2147483648 / 8388608) 255 (omega arith))
     go (inr h) = rw (lt-ltb (s % 2147483648) 2139095040 h, ne_eqb (s % 2147483648 / 8388608) 255 (λ e. omega arith))
-
--- the loop: k patterns are finite, or not, and what follows decides with them
-module _ (xs : List ℕ) where
-  abbrev pub SoFar : Bool → ℕ → Type 0
-  SoFar so k = (k ≤ length xs) × (so && all_finite (drop k xs) ≡ all_finite xs)
-
-  pub so_far_next : (so r : Bool) (k : ℕ) → k < length xs → r ≡ so && finite_pattern (get_or xs k 0) → SoFar so k → SoFar r (k + 1)
-  so_far_next so r k h e s =
-      let n = every_step finite_pattern xs 0 k h in
-      (omega arith, ap (λ (t : Bool). t && all_finite (drop (k + 1) xs)) e ∙ and_assoc so (finite_pattern (get_or xs k 0)) _ ∙ ap (λ (t : Bool). so && t) (sym n) ∙ s.1)
-
-  pub so_far_end : (so : Bool) (k : ℕ) → length xs ≤ k → SoFar so k → so ≡ all_finite xs
-  so_far_end so k h s = sym (true-last so) ∙ ap (λ (t : Bool). so && t) (sym (every_done finite_pattern xs k h)) ∙ s.1

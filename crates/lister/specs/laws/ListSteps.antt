@@ -1,5 +1,8 @@
 -- The listing as the code goes: one law for each way out.
-use Rattle.std.specs.Prelude.{◌≡◌, refl, Bool, true, false, ◌&&◌, List, ◌∷◌, ℕ, zero, suc, ◌+◌, ◌*◌, ◌≤◌, ◌<◌, leb, get_or, take, drop, replicate, Float}
+use Rattle.std.specs.Prelude.{◌≡◌, refl, Bool, true, false, ◌&&◌, Ok, Err, List, ◌∷◌, ℕ, zero, suc, ◌+◌, ◌*◌, ◌≤◌, ◌<◌, leb, get_or, take, drop, replicate, Float, pos}
+use Rattle.std.specs.Float.{fin, binary32}
+use Rattle.std.specs.Float.Ieee.{of_bits, of_fields, odd}
+use Rattle.std.specs.Int.Count.{count_trailing_zeros}
 use Rattle.std.proofs.Common.{ap, sym, ◌∙◌, mul-le-mul, take_at}
 use native.Mathlib.Omega.{arith}
 use Rattle.std.proofs.Math.ListN.{length}
@@ -10,7 +13,6 @@ use Rattle.refusal.specs.declared.Refusal.{Refusal}
 use Rattle.refusal.specs.Said.{said}
 use Rattle.layout.specs.Varblocks.{varblocks_of, area}
 use Rattle.layout_sizes.specs.Blocks.{bw_in, bh_in}
-use Rattle.layout_call.specs.declared.LayoutAnswer.TheVariants.{Accepted, Refused}
 use Rattle.layout_call.specs.Call.{Outcome, leaves, inputs, layout_of}
 use Rattle.layout_accepted.proofs.laws.Theorems.{accepted_layout, accepted_area}
 use Rattle.layout_filter.specs.declared.Filter.TheVariants.{Off}
@@ -30,6 +32,11 @@ pub few_high : (n : ℕ) → n ≤ 512 → bh_of n ≤ 64
 unfolding bh_in
 few_high n h = omega arith
 
+-- 0.0 as the code has it
+pub zero_bits : of_bits binary32 0 ≡ fin false 0 (pos 0)
+unfolding of_bits of_fields odd count_trailing_zeros
+zero_bits = refl
+
 -- the layout call as the code makes it, over cleared buffers
 pub listed_is : (w h : ℕ) (ts ms : List ℕ) (bw bh : ℕ) (sharpness kinds hf_mul sigma : List ℕ) (lookups : List Float) → bw ≡ bw_of w → bh ≡ bh_of h
     → sharpness ≡ replicate (bh * bw) 0 → kinds ≡ replicate (bh * bw) 0 → hf_mul ≡ replicate (bh * bw) 0 → sigma ≡ replicate (bh * bw) 0 → lookups ≡ replicate 8 zero32
@@ -44,7 +51,7 @@ module _ (w h : ℕ) (ts ms : List ℕ) (bw bh : ℕ) (p : bw ≡ bw_of w) (q : 
     pub full : area (varblocks_of bw bh k m) ≡ bw * bh
     pub text : accepted_text bw bh k m ≡ layout_text w h ts ms
 
-  pub accepts : (used : ℕ) → leaves (Accepted used) k m g ≡ outcome w h ts ms → Accepts
+  pub accepts : (used : ℕ) → leaves (Ok used) k m g ≡ outcome w h ts ms → Accepts
   accepts used e =
       let n = listing.blocks w h ts ms in
       let a = sym (ap (λ (o : Outcome). o.answer) e) in
@@ -59,7 +66,7 @@ module _ (w h : ℕ) (ts ms : List ℕ) (bw bh : ℕ) (p : bw ≡ bw_of w) (q : 
         text = rw (p, q) (ap (λ (o : Outcome). text_by (bw_of w) (bh_of h) o o.answer) e);
       }
 
-  pub refuses : (r : Refusal) → leaves (Refused r) k m g ≡ outcome w h ts ms → refused_text (said r) ≡ layout_text w h ts ms
+  pub refuses : (r : Refusal) → leaves (Err r) k m g ≡ outcome w h ts ms → refused_text (said r) ≡ layout_text w h ts ms
   refuses r e = ap (λ (o : Outcome). text_by (bw_of w) (bh_of h) o o.answer) e
 
 -- the first places of a cleared buffer

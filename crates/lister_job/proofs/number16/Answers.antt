@@ -10,4 +10,4 @@ returns-then-s-i c =
 pub returns-then-s-i-2 : goal.returns-then-s-i-2
 returns-then-s-i-2 c =
     let a = c.args in
-    c.to_u32.ensures ∙ one_byte a.s.now a.i c.if-s-i-2.true
+    c.from.ensures ∙ one_byte a.s.now a.i c.if-s-i-2.true

@@ -1,5 +1,5 @@
 -- Laws: M9 to M11, from the coefficient call's definition.
-use Rattle.std.specs.Prelude.{◌≡◌, refl, true, ℕ, ◌+◌, ◌*◌, ◌/◌, ◌%◌, ◌^◌, ◌-◌, ◌<◌, ◌≤◌, length, get_or, take, drop, replicate}
+use Rattle.std.specs.Prelude.{◌≡◌, refl, Ok, true, ℕ, ◌+◌, ◌*◌, ◌/◌, ◌%◌, ◌^◌, ◌-◌, ◌<◌, ◌≤◌, length, get_or, take, drop, replicate}
 use Rattle.std.proofs.Math.Path.{ap}
 use Rattle.std.proofs.Common.{◌∙◌, arith, take_all, get_or-take, get_or-drop}
 use mathlib.Core.List.{List, [], ◌∷◌, ◌++◌}
@@ -27,7 +27,6 @@ use Rattle.coeff_group.specs.PassGroup.{PassGroup, varblocks, item_of, items_of}
 use Rattle.coeff_checks.specs.Checks.{layout_fits, sides_fit}
 use Rattle.coeff_call.specs.Call.{Outcome, leaves, all_lengths_fit, preset_map, reading, outcome_of, refuse, preset_bits, call, Passed}
 use Rattle.coeff_call.specs.laws.CallLaws.{checks_pass, call_preset, call_reads}
-use Rattle.coeff_call.specs.declared.CoeffAnswer.TheVariants.{Accepted}
 use Rattle.one_to_one.specs.Plain.{store, plain}
 use Rattle.one_to_one.specs.laws.Computes.{reading_computes}
 use Rattle.one_to_one.proofs.laws.Plain.{store_long, store_fits, order_0, order_2}
@@ -107,7 +106,7 @@ clusters preset_map =
 
 dct8_reads : (preset_map log g0 g1 g2 : List ℕ)
     → outcome_of (read_items 0 15 preset_map (items_of block (varblocks block)) (going (2 ∷ 3 ∷ 0 ∷ 4 ∷ 0 ∷ 0 ∷ []) 0 log (g0 ∷ g1 ∷ g2 ∷ []) zero_rows))
-    ≡ leaves (Accepted 6) (sets log 0 (clusters preset_map)) g0 (gains (gains g1 8 (2 ^ 32 - 2)) 2 2) g2
+    ≡ leaves (Ok 6) (sets log 0 (clusters preset_map)) g0 (gains (gains g1 8 (2 ^ 32 - 2)) 2 2) g2
 unfolding reading_computes
 dct8_reads preset_map log g0 g1 g2 = rw (order_0 0 (omega arith), order_0 1 (omega arith), order_0 2 (omega arith))
 
@@ -165,12 +164,12 @@ module _ (map log g0 g1 g2 : List ℕ) (room : Room 1 1 map log g0 g1 g2) where
 
   -- the six symbols: what is gained, and the bytes that are logged
   pub six_symbols : call (dct8 1 map [] (2 ∷ 3 ∷ 0 ∷ 4 ∷ 0 ∷ 0 ∷ []) log g0 g1 g2)
-      ≡ leaves (Accepted 6) (get_or map 300 0 ∷ get_or map 618 0 ∷ get_or map 558 0 ∷ get_or map 559 0 ∷ get_or map 307 0 ∷ get_or map 307 0 ∷ drop 6 log)
+      ≡ leaves (Ok 6) (get_or map 300 0 ∷ get_or map 618 0 ∷ get_or map 558 0 ∷ get_or map 559 0 ∷ get_or map 307 0 ∷ get_or map 307 0 ∷ drop 6 log)
       g0 (gains (gains g1 8 (2 ^ 32 - 2)) 2 2) g2
   six_symbols =
       let r = room.bytes in
       dct8_call (2 ∷ 3 ∷ 0 ∷ 4 ∷ 0 ∷ 0 ∷ []) ∙ dct8_reads map log g0 g1 g2
-      ∙ ap (λ (l : List ℕ). leaves (Accepted 6) l g0 (gains (gains g1 8 (2 ^ 32 - 2)) 2 2) g2)
+      ∙ ap (λ (l : List ℕ). leaves (Ok 6) l g0 (gains (gains g1 8 (2 ^ 32 - 2)) 2 2) g2)
       (sets-eq (clusters map) log 0 (omega arith) ∙ ap (λ (l : List ℕ). l ++ drop 6 log) (places_are map))
 
 -- M10

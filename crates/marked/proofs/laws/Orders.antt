@@ -1,5 +1,5 @@
 -- M3, from the order call's definition.
-use Rattle.std.specs.Prelude.{◌≡◌, refl, List, [], ◌∷◌, ℕ, ◌*◌, length, get_or, take, drop}
+use Rattle.std.specs.Prelude.{◌≡◌, refl, Ok, List, [], ◌∷◌, ℕ, ◌*◌, length, get_or, take, drop}
 use Rattle.std.proofs.Common.{ap, ◌∙◌, arith, eq-eqb}
 use Rattle.bits.specs.Bits.{read_bits, read_u32, bits_of, value_of}
 use Rattle.order_sizes.specs.BlockSizes.{BLOCK_SIZES}
@@ -8,7 +8,6 @@ use Rattle.order_natural.specs.Natural.{natural}
 use Rattle.order_permutation.specs.Digits.{ordered}
 use Rattle.order_store.specs.Store.{PLACES, stored, stretch}
 use Rattle.order_naturals.specs.Naturals.{naturals}
-use Rattle.order_call.specs.declared.OrdersAnswer.TheVariants.{Accepted}
 use Rattle.order_call.specs.Orders.{Given, digits, one_list, orders}
 use Rattle.order_call.specs.Call.{Outcome, leaves, parsed}
 use Rattle.order_call.proofs.laws.Stretch.{stretch_list}
@@ -23,7 +22,7 @@ unfolding orders one_list digits BLOCK_SIZES
 lists_read = refl
 
 -- bits 1, 1: a field of 13 bits; its lowest bit: order 0
-digit_call : (earlier : List ℕ) → length earlier ≡ 2 * PLACES → parsed (7 ∷ 0 ∷ []) (1 ∷ 1 ∷ 0 ∷ 0 ∷ []) earlier ≡ leaves (Accepted 4) (stored lists)
+digit_call : (earlier : List ℕ) → length earlier ≡ 2 * PLACES → parsed (7 ∷ 0 ∷ []) (1 ∷ 1 ∷ 0 ∷ 0 ∷ []) earlier ≡ leaves (Ok 4) (stored lists)
 unfolding parsed read_u32 read_bits bits_of value_of
 digit_call earlier e = rw (eq-eqb (length earlier) (2 * PLACES) e, lists_read)
 

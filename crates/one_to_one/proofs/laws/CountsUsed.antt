@@ -13,7 +13,7 @@ use Rattle.refusal.specs.Said.{said}
 use Rattle.refusal.specs.Answer.{gives, refuses}
 use Rattle.layout.proofs.laws.Rectangles.{known}
 use Rattle.layout.proofs.laws.Theorems.{layout_iff}
-use Rattle.coeff_walk.specs.declared.WalkEnd.TheVariants.{Done}
+use Rattle.std.specs.Prelude.{Ok}
 use Rattle.coeff_walk.specs.Item.{Item}
 use Rattle.coeff_walk.specs.UsedUp.{CountsUsed, StoppedAmong}
 use Rattle.coeff_walk.specs.laws.Walks.{ReadOf, symbols_end, count, too_many_zeros, count_remaining}
@@ -34,8 +34,8 @@ use Rattle.one_to_one.proofs.laws.Ways.{way, same_said, no_answer, did, outcome_
 use Rattle.one_to_one.specs.laws.CountsUsed.{P, StopAt, CountsUsedLaw, RemainsAt, CountRemainsLaw, DueAt, MoreDueLaw}
 
 module _ (L : Lent) where
-  read_to : (R : Reading) (n : ℕ) → (outcome_of R).answer ≡ gives n → walk_of R ≡ Done n
-  read_to (going us at log grids rows) n e = let z : at ≡ n = cc in ap Done z
+  read_to : (R : Reading) (n : ℕ) → (outcome_of R).answer ≡ gives n → walk_of R ≡ Ok n
+  read_to (going us at log grids rows) n e = let z : at ≡ n = cc in ap Ok z
   read_to (refused why at log grids) n e = absurd (let z : ◌≡◌ {A = ℕ} 0 1 = cc in omega arith)
 
   used_by : Way L → (n : ℕ) → (call L).answer ≡ gives n → CountsUsed (group_items L.pass_group) (take n L.symbols)

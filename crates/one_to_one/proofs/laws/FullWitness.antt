@@ -1,6 +1,6 @@
 -- Laws: The premises of demand 3 met together with all that they speak of, as the calls themselves hand it on: M4's layout through the cut, thresholds on
 -- all four lists, LF grids, permuted orders, the last of three presets, starting grids that are not zero; and the symbols of a filling.
-use Rattle.std.specs.Prelude.{◌≡◌, refl, true, List, [], ◌∷◌, map as each, ℕ, zero, suc, ◌+◌, ◌*◌, ◌<◌, length, get_or, drop, replicate}
+use Rattle.std.specs.Prelude.{◌≡◌, refl, Ok, true, List, [], ◌∷◌, map as each, ℕ, zero, suc, ◌+◌, ◌*◌, ◌<◌, length, get_or, drop, replicate}
 use Rattle.std.proofs.Common.{ap, sym, subst, ◌∙◌, arith, eq-eqb}
 use Rattle.std.proofs.lemmas.List.{length-replicate}
 use Rattle.bits.specs.Bits.{Value}
@@ -10,7 +10,6 @@ use Rattle.order_natural.specs.Places.{flat, paired}
 use Rattle.order_natural.specs.Natural.{natural}
 use Rattle.layout_call.specs.Call.{inputs, layout_of}
 use Rattle.order_store.specs.Store.{PLACES, stretch}
-use Rattle.order_call.specs.declared.OrdersAnswer.TheVariants as order_answer
 use Rattle.order_call.specs.Orders.{Given as GivenLists, digits, one_list, orders}
 use Rattle.order_call.specs.Call as order
 use Rattle.order_call.proofs.laws.Stretch.{store_length, stretch_list}
@@ -56,7 +55,7 @@ unfolding store
 list_of k c h l = stretch_list 1 digit_symbols lists [] 6 lists_read k c h l
 
 -- bits 1, 1: a field of 13 bits; its lowest bit: order 0
-order_call : order.parsed (7 ∷ 0 ∷ []) digit_symbols (replicate (2 * PLACES) 0) ≡ order.leaves (order_answer.Accepted 6) store
+order_call : order.parsed (7 ∷ 0 ∷ []) digit_symbols (replicate (2 * PLACES) 0) ≡ order.leaves (Ok 6) store
 unfolding bits_compute order.parsed store
 order_call = rw (eq-eqb (length (replicate {A = ℕ} (2 * PLACES) 0)) (2 * PLACES) (length-replicate (2 * PLACES) 0), lists_read)
 

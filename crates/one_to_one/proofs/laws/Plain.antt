@@ -1,5 +1,5 @@
 -- Laws: A lent group for examples: the default contexts, no LF grids, natural orders, one preset, all as the calls themselves hand them on.
-use Rattle.std.specs.Prelude.{◌≡◌, refl, true, [], ◌∷◌, ℕ, zero, suc, ◌+◌, ◌*◌, ◌<◌, length, get_or, replicate}
+use Rattle.std.specs.Prelude.{◌≡◌, refl, Ok, true, [], ◌∷◌, ℕ, zero, suc, ◌+◌, ◌*◌, ◌<◌, length, get_or, replicate}
 use Rattle.std.proofs.Common.{ap, ◌∙◌, arith, eq-eqb}
 use Rattle.std.proofs.lemmas.List.{length-replicate}
 use Rattle.bits.specs.Bits.{read_bits, read_u32, bits_of, value_of}
@@ -8,7 +8,6 @@ use Rattle.order_natural.specs.Places.{flat}
 use Rattle.order_natural.specs.Natural.{natural}
 use Rattle.order_store.specs.Store.{PLACES, stretch, places_fit}
 use Rattle.order_naturals.specs.Naturals.{naturals}
-use Rattle.order_call.specs.declared.OrdersAnswer.TheVariants as order_answer
 use Rattle.order_call.specs.Call as order
 use Rattle.order_call.proofs.laws.Accepts.{orders_unused}
 use Rattle.order_call.proofs.laws.Stretch.{store_length, stretch_list, accepted_fits}
@@ -50,7 +49,7 @@ pub order_2 : (c : ℕ) → c < 3 → stretch store 2 c ≡ flat (natural 16 16)
 order_2 c l = list_of 2 c (omega arith) l ∙ ap flat (list_2 c l)
 
 -- used orders 0 is two bits, 0 and 1
-unused_call : order.parsed (2 ∷ []) [] (replicate (2 * PLACES) 0) ≡ order.leaves (order_answer.Accepted 0) store
+unused_call : order.parsed (2 ∷ []) [] (replicate (2 * PLACES) 0) ≡ order.leaves (Ok 0) store
 unfolding order.parsed read_u32 read_bits bits_of value_of store
 unused_call = rw (eq-eqb (length (replicate {A = ℕ} (2 * PLACES) 0)) (2 * PLACES) (length-replicate (2 * PLACES) 0), orders_unused [])
 

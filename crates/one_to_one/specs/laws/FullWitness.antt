@@ -4,7 +4,6 @@ use Rattle.std.specs.Prelude.{[], ◌∷◌, replicate}
 use Rattle.layout_filter.specs.declared.Filter.TheVariants.{Off}
 use Rattle.layout_filter.specs.Strength.{zero32}
 use Rattle.layout_call.specs.Call.{Inputs, inputs}
-use Rattle.order_call.specs.declared.OrdersAnswer.TheVariants as order_answer
 use Rattle.order_call.specs.Call as order
 use Rattle.context_call.specs.Call as context
 

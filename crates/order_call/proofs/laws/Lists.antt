@@ -1,11 +1,12 @@
 -- One list, as the code reads it.
-use Rattle.std.specs.Prelude.{◌≡◌, Bool, true, false, cond, List, [], ◌∷◌, ℕ, zero, suc, ◌+◌, ◌*◌, ◌-◌, ◌/◌, ◌<◌, ◌≤◌, ltb, length, take, drop}
+use Rattle.std.specs.Prelude.{◌≡◌, Bool, true, false, cond, List, [], ◌∷◌, ℕ, zero, suc, ◌+◌, ◌*◌, ◌-◌, ◌/◌, ◌<◌, ◌≤◌, ltb, length, take, drop, Result, Ok, Err}
 use Rattle.std.proofs.Math.Path.{refl}
 use Rattle.std.proofs.Common.{ap, sym, ◌∙◌, div-le_self, arith, length-drop, length-take-le, take_all}
 use Rattle.std.proofs.Math.Numerals.{add-one}
 use Rattle.std.proofs.Math.ListN.{get_or, drop_of_length-le}
 use Rattle.std.proofs.Math.Seq.{drop-cons}
 use borrow.Author.Tests.{lt-ltb, le-leb, lt-leb}
+use Rattle.refusal.specs.declared.Refusal.{Refusal}
 use Rattle.refusal.specs.declared.Refusal.TheVariants as refusal
 use Rattle.order_natural.specs.Places.{Place, flat, paired}
 use Rattle.order_natural.specs.Natural.{natural}
@@ -19,8 +20,6 @@ use Rattle.order_digits.proofs.laws.Leading.{leading_most}
 use Rattle.order_permutation.specs.laws.Permuted.{all_below, permuted}
 use Rattle.order_natural.proofs.laws.Flat.{paired_flat}
 use Rattle.order_permutation.specs.laws.Permuting.{moved}
-use Rattle.order_call.specs.declared.OrdersAnswer.{OrdersAnswer}
-use Rattle.order_call.specs.declared.OrdersAnswer.TheVariants as answer
 use Rattle.order_call.specs.Orders.{FromSymbols, Given, Refused, and_then, check, digits, by_digits, one_list, entry_list}
 use Rattle.order_call.specs.laws.Lists.{Listed}
 
@@ -98,7 +97,7 @@ module _ (width height : ℕ) (z : Size width height) (narrow : width ≤ 256) (
     there' : many ≤ length (drop at symbols)
     there' = omega (arith, length-drop at symbols)
 
-    pub digits_too_large : (m : List ℕ) → good < many → Listed (by_digits width height n (drop at symbols) at) (answer.Refused (refusal.Order (at + good + 1))) m
+    pub digits_too_large : (m : List ℕ) → good < many → Listed (by_digits width height n (drop at symbols) at) (Err (refusal.Order (at + good + 1))) m
     digits_too_large m g =
         let g' : leading (take many (drop at symbols)) (width * height - width * height / 64) < many = rw good_by at g in
         rw (digits_large n (width * height - width * height / 64) (drop at symbols) at many few there' g', good_by) refl
@@ -106,7 +105,7 @@ module _ (width height : ℕ) (z : Size width height) (narrow : width ≤ 256) (
     all_good : many ≤ good → leading (take many (drop at symbols)) (width * height - width * height / 64) ≡ many
     all_good g = let us = drop at symbols in omega (arith, good_by, leading_most (take many us) (width * height - width * height / 64), length-take-le many us there')
 
-    pub digits_ended : (m : List ℕ) → many ≤ good → many < n → many ≡ length symbols - at → Listed (by_digits width height n (drop at symbols) at) (answer.Refused (refusal.SymbolsEnd (at + many))) m
+    pub digits_ended : (m : List ℕ) → many ≤ good → many < n → many ≡ length symbols - at → Listed (by_digits width height n (drop at symbols) at) (Err (refusal.SymbolsEnd (at + many))) m
     digits_ended m g f e =
         let us = drop at symbols in
         let l : many ≡ length us = omega (arith, length-drop at symbols) in
@@ -115,7 +114,7 @@ module _ (width height : ℕ) (z : Size width height) (narrow : width ≤ 256) (
         rw (digits_short n (width * height - width * height / 64) us at (omega arith) a, l) refl
 
     pub digits_read : (l m : List ℕ) → many ≤ good → n ≤ many → l ≡ flat (natural width height)
-        → m ≡ permuted l (width * height / 64) (take (at + many - at) (drop at symbols)) → Listed (by_digits width height n (drop at symbols) at) (answer.Accepted (at + many)) m
+        → m ≡ permuted l (width * height / 64) (take (at + many - at) (drop at symbols)) → Listed (by_digits width height n (drop at symbols) at) (Ok (at + many)) m
     digits_read l m g f el em =
         let us = drop at symbols in
         let e : n ≡ many = omega arith in
@@ -130,15 +129,15 @@ module _ (width height : ℕ) (symbols : List ℕ) (at : ℕ) (used : Bool) wher
   abbrev whole_list : FromSymbols (List Place)
   whole_list = entry_list used width height (drop at symbols) at
 
-  pub list_unused : (m : List ℕ) → used ≡ false → m ≡ flat (natural width height) → Listed whole_list (answer.Accepted at) m
+  pub list_unused : (m : List ℕ) → used ≡ false → m ≡ flat (natural width height) → Listed whole_list (Ok at) m
   list_unused m u e = rw u (refl, e)
 
-  pub list_short : (m : List ℕ) → used ≡ true → length symbols ≤ at → Listed whole_list (answer.Refused (refusal.SymbolsEnd at)) m
+  pub list_short : (m : List ℕ) → used ≡ true → length symbols ≤ at → Listed whole_list (Err (refusal.SymbolsEnd at)) m
   unfolding one_list
   list_short m u h = rw (u, drop_of_length-le symbols h) refl
 
   module _ (u : used ≡ true) (h : at < length symbols) (n : ℕ) (en : n ≡ get_or symbols at 0) where
-    pub list_large : (m : List ℕ) → width * height - width * height / 64 < n → Listed whole_list (answer.Refused (refusal.Order (at + 1))) m
+    pub list_large : (m : List ℕ) → width * height - width * height / 64 < n → Listed whole_list (Err (refusal.Order (at + 1))) m
     unfolding one_list
     list_large m b =
         let b' : width * height - width * height / 64 < get_or symbols at 0 = rw en at b in
@@ -150,5 +149,5 @@ module _ (width height : ℕ) (symbols : List ℕ) (at : ℕ) (used : Bool) wher
         let b' : get_or symbols at 0 ≤ width * height - width * height / 64 = rw en at b in
         rw (drop-cons symbols at 0 h, le-leb (get_or symbols at 0) (width * height - width * height / 64) b', en, add-one at)
 
-    pub list_digits : (r : OrdersAnswer) (m : List ℕ) → n ≤ width * height - width * height / 64 → Listed (by_digits width height n (drop (at + 1) symbols) (at + 1)) r m → Listed whole_list r m
+    pub list_digits : (r : Result ℕ Refusal) (m : List ℕ) → n ≤ width * height - width * height / 64 → Listed (by_digits width height n (drop (at + 1) symbols) (at + 1)) r m → Listed whole_list r m
     list_digits r m b l = rw (u, by_digits_lem b) l

@@ -9,7 +9,6 @@ use Rattle.refusal.specs.Answer.{refuses, unless, passed, answered_by}
 use Rattle.bits.specs.Bits.{Read, Value, Ended}
 use Rattle.order_natural.specs.Places.{Place}
 use Rattle.order_store.specs.Store.{PLACES}
-use Rattle.order_call.specs.declared.OrdersAnswer.TheVariants as answer
 use Rattle.order_call.specs.Orders.{FromSymbols, Given, Refused, orders, Stops}
 use Rattle.order_call.specs.Call.{outcome, used_orders, outcome_of, read, parsed, Reached}
 use Rattle.order_call.proofs.laws.Accepted.{orders_refused}

@@ -1,5 +1,5 @@
 -- The loop over the 39 lists.
-use Rattle.std.specs.Prelude.{◌≡◌, refl, Bool, true, false, get_or, replicate}
+use Rattle.std.specs.Prelude.{◌≡◌, refl, Bool, true, false, get_or, replicate, Result, Ok, Err, is_err}
 use Rattle.std.proofs.Math.Path.{ap, ap₂, sym, fun_ext}
 use Rattle.std.proofs.Common.{◌∙◌, not-suc-le-zero, le_of_suc-le-suc, add-one, drop_of_length-le, drop-cons, take_all}
 use mathlib.Core.List.{List, [], ◌∷◌, ◌++◌, append_assoc, append-nil}
@@ -22,15 +22,13 @@ use Rattle.order_store.specs.Store.{stored, PLACES, first_of}
 use Rattle.order_store.specs.laws.Offsets.{first_start, first_step, first_most, first_end, sizes_13, third, places_by}
 use Rattle.order_naturals.specs.Naturals.{naturals}
 use Rattle.order_naturals.specs.laws.Naturals.{whole_long}
-use Rattle.order_call.specs.declared.OrdersAnswer.{OrdersAnswer}
-use Rattle.order_call.specs.declared.OrdersAnswer.TheVariants as answer
 use Rattle.order_call.specs.Orders.{FromSymbols, Given, Refused, and_then, Entry, entry, entry_list, lists, plan, is_used, orders, one_list, Stops}
 use Rattle.order_call.specs.Call.{leaves, outcome_of}
 use Rattle.order_call.specs.laws.Read.{Holds, OneGiven, EntryGiven}
 use Rattle.order_call.proofs.laws.Read.{one_gives, holds_map, entry_gives}
 use Rattle.order_call.proofs.laws.Accepted.{plan_at, plan_length, given}
-use Rattle.order_call.specs.laws.Lists.{Listed, is_refused, count_of}
-use Rattle.order_call.specs.laws.Progress.{onward, Progress, list_of, AfterList}
+use Rattle.order_call.specs.laws.Lists.{Listed}
+use Rattle.order_call.specs.laws.Progress.{onward, Progress, list_of, AfterList, AllLists, with_next}
 
 stored_append : (ls ms : List (List Place)) → stored (ls ++ ms) ≡ stored ls ++ stored ms
 stored_append [] ms = refl
@@ -128,23 +126,23 @@ list_rest true width height us at = holds_map (OneGiven width height us at) (Res
 list_rest false width height us at = let z : at - at ≡ 0 = omega arith in (omega arith, omega arith, rw z)
 
 -- what an answer says of the reading
-given_of : (r : FromSymbols (List Place)) (n : ℕ) (f : List ℕ) → Listed r (answer.Accepted n) f → (l : List Place) × (vs : List ℕ) × (r ≡ Given l vs n) × (f ≡ flat l)
+given_of : (r : FromSymbols (List Place)) (n : ℕ) (f : List ℕ) → Listed r (Ok n) f → (l : List Place) × (vs : List ℕ) × (r ≡ Given l vs n) × (f ≡ flat l)
 given_of (Given l vs m) n f o = let e : n ≡ m = cc o.0 in (l, vs, rw e, o.1)
 given_of (Refused why) n f o = absurd (let z : ◌≡◌ {A = ℕ} 0 1 = cc in omega arith)
 
-refused_of : (r : FromSymbols (List Place)) (why : Refusal) (f : List ℕ) → Listed r (answer.Refused why) f → r ≡ Refused why
-refused_of (Given l vs m) why f o = absurd (let z : ◌≡◌ {A = ℕ} 0 1 = cc (ap is_refused o.0) in omega arith)
+refused_of : (r : FromSymbols (List Place)) (why : Refusal) (f : List ℕ) → Listed r (Err why) f → r ≡ Refused why
+refused_of (Given l vs m) why f o = absurd (let z : ◌≡◌ {A = ℕ} 0 1 = cc in omega arith)
 refused_of (Refused w) why f o = let e : why ≡ w = cc in rw e
 
-module _ (used : ℕ) (symbols store : List ℕ) (i e : ℕ) where
-  pub after_read : (t : OrdersAnswer) → AfterList used symbols store i e t → is_refused t ≡ false → Progress used symbols store (i + 1) (count_of t) × (e ≡ first_of (i + 1))
-  after_read (answer.Accepted n) a r = a
-  after_read (answer.Refused why) a r = absurd (let z : ◌≡◌ {A = ℕ} 0 1 = cc in omega arith)
+-- the orders are given
+pub all_read : (used : ℕ) (symbols store : List ℕ) (t : Result ℕ Refusal) → AllLists used symbols store t → is_err t ≡ false → leaves t store ≡ outcome_of (orders used symbols)
+all_read used symbols store (Ok n) a r = a
+all_read used symbols store (Err why) a r = absurd (let z : ◌≡◌ {A = ℕ} 0 1 = cc in omega arith)
 
-  -- a refusal and a store of zeros
-  pub after_refused : (t : OrdersAnswer) (zeros : List ℕ) (n : ℕ) → AfterList used symbols store i e t → is_refused t ≡ true → zeros ≡ replicate n 0 → n ≡ 787968 → leaves t zeros ≡ outcome_of (orders used symbols)
-  after_refused (answer.Accepted k) zeros n a r z m = absurd (let x : ◌≡◌ {A = ℕ} 0 1 = cc in omega arith)
-  after_refused (answer.Refused why) zeros n a r z m = let m' : n ≡ 2 * PLACES = m ∙ sym places_by in rw (a, z, m')
+-- or refused, and the store is zero
+pub all_refused : (used : ℕ) (symbols store zeros : List ℕ) (n : ℕ) (t : Result ℕ Refusal) → AllLists used symbols store t → is_err t ≡ true → zeros ≡ replicate n 0 → n ≡ 787968 → leaves t zeros ≡ outcome_of (orders used symbols)
+all_refused used symbols store zeros n (Ok k) a r z m = absurd (let x : ◌≡◌ {A = ℕ} 0 1 = cc in omega arith)
+all_refused used symbols store zeros n (Err why) a r z m = let m' : n ≡ 2 * PLACES = m ∙ sym places_by in rw (a, z, m')
 
 -- a list in the code's numbers
 module _ (used : ℕ) (symbols store : List ℕ) (i at : ℕ) (p : Progress used symbols store i at) (h : i < 39) (s : OrderSize) (e : s ≡ block_size (i / 3)) (first : ℕ) (b : first ≡ first_of i) where
@@ -173,24 +171,24 @@ module _ (used : ℕ) (symbols store : List ℕ) (i at : ℕ) (p : Progress used
   due_now = rw (entry_at used i h) at p.due
 
   -- list i as the code reads it
-  abbrev Reads : OrdersAnswer → List ℕ → Type 0
+  abbrev Reads : Result ℕ Refusal → List ℕ → Type 0
   Reads t part = Listed (entry_list (is_used used (i / 3)) s.width s.height (drop at symbols) at) t part
 
-  progress_stop : (why : Refusal) (part : List ℕ) → Reads (answer.Refused why) part → orders used symbols ≡ Refused why
+  progress_stop : (why : Refusal) (part : List ℕ) → Reads (Err why) part → orders used symbols ≡ Refused why
   unfolding width_of height_of
   progress_stop why part o =
-      let o' : Listed (list_of used symbols i at) (answer.Refused why) part = rw e at o in
+      let o' : Listed (list_of used symbols i at) (Err why) part = rw e at o in
       sym due_now ∙ onward_stop (entry (is_used used (i / 3)) (get_or BLOCK_SIZES (i / 3) (0, 0))) (drop (i + 1) (plan used 0 BLOCK_SIZES)) p.done (drop at symbols) at why
       (refused_of (list_of used symbols i at) why part o')
 
-  progress_turn : (n : ℕ) (part next : List ℕ) → Reads (answer.Accepted n) part
+  progress_turn : (n : ℕ) (part next : List ℕ) → Reads (Ok n) part
       → next ≡ take first store ++ (part ++ drop (first + 2 * (s.width * s.height) - first) (drop first store)) → Progress used symbols next (i + 1) n
   unfolding width_of height_of
   progress_turn n part next o w =
       let k = i / 3 in
       let m = 2 * (width_of k * height_of k) in
       let us = drop at symbols in
-      let o' : Listed (list_of used symbols i at) (answer.Accepted n) part = rw e at o in
+      let o' : Listed (list_of used symbols i at) (Ok n) part = rw e at o in
       let (l, vs, g, f) = given_of (list_of used symbols i at) n part o' in
       let rest = given (Rest us at) (Stops at (at + length us)) (list_of used symbols i at) l vs n g (list_rest (is_used used k) (width_of k) (height_of k) us at) in
       let all = given (EntryGiven (is_used used k) (width_of k) (height_of k) at (at + length us)) (Stops at (at + length us)) (list_of used symbols i at) l vs n g (entry_gives (is_used used k) (width_of k) (height_of k) (size_of k (omega arith)) us at) in
@@ -221,13 +219,31 @@ module _ (used : ℕ) (symbols store : List ℕ) (i at : ℕ) (p : Progress used
         due = rw (← v) (sym (onward_step (entry (is_used used k) (get_or BLOCK_SIZES k (0, 0))) (drop (i + 1) (plan used 0 BLOCK_SIZES)) p.done us at l vs n g) ∙ due_now);
       }
 
-  -- list i is read, or refused
-  pub after_list : (u : Bool) (t : OrdersAnswer) (part next : List ℕ) → u ≡ is_used used (i / 3) → Listed (entry_list u s.width s.height (drop at symbols) at) t part
-      → next ≡ take first store ++ (part ++ drop (first + 2 * (s.width * s.height) - first) (drop first store)) → AfterList used symbols next i (first + 2 * (s.width * s.height)) t
-  after_list u (answer.Accepted n) part next eu o w = (progress_turn n part next (rw eu at o) w, list_at.next)
-  after_list u (answer.Refused why) part next eu o w = progress_stop why part (rw eu at o)
+  -- list i is read
+  pub list_read : (u : Bool) (n : ℕ) (part next : List ℕ) → u ≡ is_used used (i / 3) → Listed (entry_list u s.width s.height (drop at symbols) at) (Ok n) part
+      → next ≡ take first store ++ (part ++ drop (first + 2 * (s.width * s.height) - first) (drop first store)) → AfterList used symbols next i (Ok (n, first + 2 * (s.width * s.height)))
+  list_read u n part next eu o w = (progress_turn n part next (rw eu at o) w, list_at.next)
 
-pub progress_end : (used : ℕ) (symbols store : List ℕ) (i at : ℕ) → Progress used symbols store i at → 39 ≤ i → leaves (answer.Accepted at) store ≡ outcome_of (orders used symbols)
+  -- or refused
+  pub list_refused : (u : Bool) (why : Refusal) (part next : List ℕ) → u ≡ is_used used (i / 3) → Listed (entry_list u s.width s.height (drop at symbols) at) (Err why) part
+      → AfterList used symbols next i (Err why)
+  list_refused u why part next eu o = progress_stop why part (rw eu at o)
+
+  -- either
+  pub after_list : (u : Bool) (t : Result ℕ Refusal) (part next : List ℕ) → u ≡ is_used used (i / 3) → Listed (entry_list u s.width s.height (drop at symbols) at) t part
+      → next ≡ take first store ++ (part ++ drop (first + 2 * (s.width * s.height) - first) (drop first store)) → AfterList used symbols next i (with_next t (first + 2 * (s.width * s.height)))
+  after_list u (Ok n) part next eu o w = list_read u n part next eu o w
+  after_list u (Err why) part next eu o w = list_refused u why part next eu o
+
+module _ (used : ℕ) (symbols store : List ℕ) (i : ℕ) where
+  pub after_read : (n e : ℕ) → AfterList used symbols store i (Ok (n, e)) → Progress used symbols store (i + 1) n × (e ≡ first_of (i + 1))
+  after_read n e a = a
+
+  -- a refusal and a store of zeros
+  pub after_refused : (why : Refusal) (zeros : List ℕ) (n : ℕ) → AfterList used symbols store i (Err why) → zeros ≡ replicate n 0 → n ≡ 787968 → leaves (Err why) zeros ≡ outcome_of (orders used symbols)
+  after_refused why zeros n a z m = all_refused used symbols store zeros n (Err why) a refl z m
+
+pub progress_end : (used : ℕ) (symbols store : List ℕ) (i at : ℕ) → Progress used symbols store i at → 39 ≤ i → leaves (Ok at) store ≡ outcome_of (orders used symbols)
 progress_end used symbols store i at p h =
     let j : i ≡ 39 = omega (arith, p.fewer) in
     let z : drop i (plan used 0 BLOCK_SIZES) ≡ [] = let k : length (plan used 0 BLOCK_SIZES) ≤ i = omega (arith, plan_length used 0 BLOCK_SIZES, sizes_13) in drop_of_length-le (plan used 0 BLOCK_SIZES) k in

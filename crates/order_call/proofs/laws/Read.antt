@@ -5,7 +5,7 @@ use Rattle.refusal.specs.declared.Refusal.{Refusal}
 use Rattle.refusal.specs.declared.Refusal.TheVariants as refusal
 use Rattle.order_natural.specs.Places.{Place}
 use Rattle.order_natural.specs.Natural.{natural}
-use Rattle.order_natural.specs.Order.{Size, Order}
+use Rattle.order_natural.specs.Order.{Size}
 use Rattle.order_permutation.specs.Digits.{ordered}
 use Rattle.order_call.specs.Orders.{FromSymbols, Given, Refused, and_then, check, digits, one_list, Entry, entry_list, lists, Stops}
 use Rattle.order_natural.proofs.laws.Order.{natural_order}

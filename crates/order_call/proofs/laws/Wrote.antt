@@ -11,7 +11,6 @@ use Rattle.order_sizes.specs.BlockSizes.{width_of, height_of}
 use Rattle.order_natural.specs.Places.{Place, flat}
 use Rattle.order_natural.specs.Order.{Order}
 use Rattle.order_store.specs.Store.{stored, stretch, places_fit, PLACES}
-use Rattle.order_call.specs.declared.OrdersAnswer.TheVariants as answer
 use Rattle.order_call.specs.Orders.{FromSymbols, Given, Refused, orders}
 use Rattle.order_call.specs.Call.{Outcome, outcome, used_orders, outcome_of, read, before_work, parsed, Wrote}
 use Rattle.order_call.proofs.laws.Accepted.{orders_accepted}

@@ -1,9 +1,9 @@
-use borrow.Author.Rules.{rules}
+use Rattle.std.proofs.Common.{rules, ◌≡◌, Err}
 use native.Mathlib.Omega.{arith}
 use mathlib.Core.Path.{refl}
 use Prim.Native.Nat.{◌-◌, ◌+◌, ◌*◌}
 use borrow.Rule.Slice.PartMut.{put_mid}
-use Rattle.order_call.proofs.laws.Progress.{ListAt, list_at, after_list}
+use Rattle.order_call.proofs.laws.Progress.{ListAt, list_at, list_read, list_refused}
 use Rattle.order_call.proofs.read_at.Goals.{After-is_used-u}
 use Rattle.order_call.proofs.read_at.Goals as goal
 
@@ -26,11 +26,18 @@ offset_bounds-store-first c = omega (arith, (list (goal.at.offset_bounds-store-f
 pub slice_bounds-read_list-end : goal.slice_bounds-read_list-end
 slice_bounds-read_list-end c = omega (arith, (list (goal.at.slice_bounds-read_list-end c).After-is_used-u).room, c.requires.0.size)
 
-pub read_list-answer-requires : goal.read_list-answer-requires
-read_list-answer-requires c = let s = list (goal.at.read_list-answer-requires c).After-is_used-u in (s.size.size, s.size.narrow, s.size.most, c.requires.0.within, s.part)
+pub read_list-requires : goal.read_list-requires
+read_list-requires c = let s = list (goal.at.read_list-requires c).After-is_used-u in (s.size.size, s.size.narrow, s.size.most, c.requires.0.within, s.part)
+
+pub returns-in_err-read : goal.returns-in_err-read
+returns-in_err-read c =
+    let a = c.args in
+    let e = a.first + 2 * (c.block_size-size.result.width * c.block_size-size.result.height) in
+    let f : c.from_residual.result ≡ Err c.in_err-read.field-0.0 = search rules in
+    rw f (list_refused a.used a.symbols.now a.store.now a.i a.at c.requires.0 c.requires.2 c.block_size-size.result c.block_size-size.ensures a.first c.requires.1 c.is_used-u.result c.in_err-read.field-0.0 c.read_list.new.list (put_mid a.first (e - a.first) a.store.now c.read_list.new.list) c.is_used-u.ensures c.in_err-read.ensures)
 
 pub returns : goal.returns
 returns c =
     let a = c.args in
     let e = a.first + 2 * (c.block_size-size.result.width * c.block_size-size.result.height) in
-    after_list a.used a.symbols.now a.store.now a.i a.at c.requires.0 c.requires.2 c.block_size-size.result c.block_size-size.ensures a.first c.requires.1 c.is_used-u.result c.read_list-answer.result c.read_list-answer.new.list (put_mid a.first (e - a.first) a.store.now c.read_list-answer.new.list) c.is_used-u.ensures c.read_list-answer.ensures refl
+    list_read a.used a.symbols.now a.store.now a.i a.at c.requires.0 c.requires.2 c.block_size-size.result c.block_size-size.ensures a.first c.requires.1 c.is_used-u.result c.in_ok-read.read c.read_list.new.list (put_mid a.first (e - a.first) a.store.now c.read_list.new.list) c.is_used-u.ensures c.in_ok-read.ensures refl

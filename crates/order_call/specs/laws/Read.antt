@@ -1,12 +1,11 @@
 -- Laws: What a reading gives, and where a refusal stands.
 use Rattle.std.specs.Prelude.{◌≡◌, Bool, false, List, [], ◌∷◌, ◌++◌, ℕ, ◌+◌, ◌*◌, ◌-◌, ◌/◌, ◌≤◌, length}
 use Rattle.refusal.specs.declared.Refusal.{Refusal}
-use Rattle.refusal.specs.declared.Refusal.TheVariants as refusal
 use Rattle.order_natural.specs.Places.{Place}
 use Rattle.order_natural.specs.Natural.{natural}
 use Rattle.order_natural.specs.Order.{Size, Order}
 use Rattle.order_permutation.specs.Digits.{Below, ordered}
-use Rattle.order_call.specs.Orders.{FromSymbols, Given, Refused, digits, Entry}
+use Rattle.order_call.specs.Orders.{FromSymbols, Given, Refused, Entry}
 
 -- what holds of a result, or of a refusal
 abbrev pub Holds : {A : Type 0} → (A → List ℕ → ℕ → Type 0) → (Refusal → Type 0) → FromSymbols A → Type 0

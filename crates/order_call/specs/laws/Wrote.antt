@@ -2,7 +2,6 @@
 use Rattle.std.specs.Prelude.{◌≡◌, List, ℕ}
 use Rattle.order_natural.specs.Places.{Place}
 use Rattle.order_store.specs.Store.{stored}
-use Rattle.order_call.specs.declared.OrdersAnswer.TheVariants as answer
 use Rattle.order_call.specs.Orders.{Given, orders}
 
 -- the lists behind it

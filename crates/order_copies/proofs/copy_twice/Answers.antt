@@ -1,8 +1,7 @@
-use Rattle.order_copies.specs.laws.Copies.{Copied, none_copied, piece_copied, all_copied}
-use borrow.Author.Rules.{rules}
+use Rattle.order_copies.specs.laws.Copies.{none_copied, piece_copied, all_copied}
 use native.Mathlib.Omega.{arith}
 use mathlib.Core.Path.{◌≡◌, refl}
-use Prim.Native.Nat.{◌≤◌, ◌-◌, ◌/◌, ◌+◌}
+use Prim.Native.Nat.{◌≤◌, ◌/◌, ◌+◌}
 use lib.ListN.{length}
 use Rattle.order_copies.proofs.copy_twice.Goals as goal
 
@@ -14,7 +13,7 @@ loop-b-preserved c =
     let l = c.loop-b in
     let a = c.args.lists.now in
     let n = length a / 3 in
-    let m = c.piece_of-m.result in
+    let m = c.min-m.result in
     let h : l.b + m ≤ n = omega arith in
     (omega arith, omega arith, piece_copied a n (omega arith) l.lists c.copy_to.new.list c.copy_to-in-loop-b.new.list l.b m l.invariant.2 h c.copy_to.ensures c.copy_to-in-loop-b.ensures)
 

@@ -1,8 +1,6 @@
-use Rattle.order_copies.specs.laws.Copies.{Copied, none_copied, piece_copied, all_copied}
-use borrow.Author.Rules.{rules}
-use native.Mathlib.Omega.{arith}
-use mathlib.Core.Path.{◌≡◌, refl}
-use Prim.Native.Nat.{◌≤◌, ◌-◌, ◌/◌, ◌+◌}
+use Rattle.order_copies.specs.laws.Copies.{Copied}
+use mathlib.Core.Path.{◌≡◌}
+use Prim.Native.Nat.{◌≤◌, ◌-◌, ◌/◌}
 use lib.ListN.{length}
 use Rattle.order_copies.proofs.copy_twice.Given as goal
 

@@ -1,35 +1,12 @@
-use Rattle.order_digits.specs.laws.Leading.{leading}
-use Rattle.order_digits.proofs.laws.Leading.{leading_start, leading_turn, leading_stop, leading_end}
-use borrow.Author.Rules.{rules}
-use native.Mathlib.Omega.{arith}
-use mathlib.Core.Path.{◌≡◌}
-use Prim.Native.Nat.{◌≤◌, ◌-◌, ◌+◌}
-use lib.ListN.{length, drop}
+use Rattle.std.proofs.Common.{arith}
+use Rattle.order_digits.proofs.laws.Leading.{leading_turn, leading_stop, leading_end}
 use Rattle.order_digits.proofs.digits_below.Goals as goal
 
-pub loop-k-init : goal.loop-k-init
-loop-k-init c = let a = c.args in (omega arith, omega (arith, leading_start a.digits.now a.left))
-
-pub returns-then-left-k : goal.returns-then-left-k
-returns-then-left-k c =
-    let a = c.args in
-    let l = c.loop-k in
-    omega (arith, leading_stop a.digits.now a.left l.k (omega arith) (omega arith))
-
-pub returns-then-left-k-2 : goal.returns-then-left-k-2
-returns-then-left-k-2 c =
-    let a = c.args in
-    let l = c.loop-k in
-    omega (arith, leading_stop a.digits.now a.left l.k (omega arith) (omega arith))
+pub returns-then-saturating_sub-d : goal.returns-then-saturating_sub-d
+returns-then-saturating_sub-d c = omega (arith, c.loop-k.invariant, leading_stop c.args.digits.now c.args.left c.loop-k.k (omega arith) (omega arith))
 
 pub loop-k-preserved : goal.loop-k-preserved
-loop-k-preserved c =
-    let a = c.args in
-    let l = c.loop-k in
-    (omega arith, omega (arith, leading_turn a.digits.now a.left l.k (omega arith) (omega arith)))
+loop-k-preserved c = omega (arith, c.loop-k.invariant, leading_turn c.args.digits.now c.args.left c.loop-k.k (omega arith) (omega arith))
 
 pub returns : goal.returns
-returns c =
-    let a = c.args in
-    let l = c.loop-k in
-    omega (arith, leading_end a.digits.now a.left l.k (omega arith))
+returns c = omega (arith, c.loop-k.invariant, leading_end c.args.digits.now c.args.left c.loop-k.k (omega arith))

@@ -1,5 +1,5 @@
 use Rattle.order_natural.proofs.laws.Slants.{multiples_div}
-use Rattle.std.proofs.Common.{◌∙◌, rules}
+use Rattle.std.proofs.Common.{◌∙◌}
 use Rattle.order_natural.proofs.multiples_below.Goals as goal
 
 pub returns : goal.returns

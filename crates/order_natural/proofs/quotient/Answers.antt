@@ -1,4 +1,4 @@
-use Rattle.std.proofs.Common.{arith, rules}
+use Rattle.std.proofs.Common.{arith}
 use Rattle.order_natural.proofs.quotient.Goals as goal
 
 pub returns-then-s-eq1 : goal.returns-then-s-eq1

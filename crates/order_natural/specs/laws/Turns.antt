@@ -1,7 +1,7 @@
 -- Turns of the loops that write the natural order.
 use Rattle.std.specs.Prelude.{ℕ, ◌-◌, ◌*◌, List}
 use Rattle.order_natural.specs.Places.{run, joins, flat}
-use Rattle.order_natural.specs.Natural.{in_row, diagonal, square, keep}
+use Rattle.order_natural.specs.Natural.{in_row, diagonal, keep}
 
 -- what is left of the square
 unfoldable pub rest_of_square : ℕ → ℕ → ℕ → ℕ → List ℕ

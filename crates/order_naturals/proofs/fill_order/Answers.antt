@@ -1,7 +1,6 @@
 use Rattle.order_natural.proofs.laws.Filling.{filled_is}
 use Rattle.order_small.specs.laws.Small.{small_filled_is}
 use mathlib.Core.Path.{◌∙◌}
-use borrow.Author.Rules.{rules}
 use Rattle.order_naturals.proofs.fill_order.Goals as goal
 
 -- from the table

@@ -1,4 +1,3 @@
-use borrow.Author.Rules.{rules}
 use mathlib.Core.Path.{◌∙◌}
 use Rattle.order_permutation.specs.laws.Drawing.{drawn_all}
 use Rattle.order_permutation.proofs.draw_all.Goals as goal

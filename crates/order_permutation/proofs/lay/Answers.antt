@@ -4,8 +4,8 @@ use lib.Seq.{paste, paste-zero}
 use borrow.Author.Rules.{rules}
 use native.Mathlib.Omega.{arith}
 use mathlib.Core.Path.{◌≡◌, ◌∙◌, ap}
-use Prim.Native.Nat.{ℕ, ◌≤◌, ◌-◌}
-use lib.ListN.{length, drop}
+use Prim.Native.Nat.{ℕ}
+use lib.ListN.{drop}
 use Rattle.order_permutation.proofs.lay.Goals as goal
 
 pub loop-j-init : goal.loop-j-init

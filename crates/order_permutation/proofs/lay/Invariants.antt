@@ -1,10 +1,6 @@
-use Rattle.laws.specs.laws.Pastes.{copy_turn}
-use mathlib.Core.Logic.{inr}
-use lib.Seq.{paste, paste-zero}
-use borrow.Author.Rules.{rules}
-use native.Mathlib.Omega.{arith}
-use mathlib.Core.Path.{◌≡◌, ◌∙◌, ap}
-use Prim.Native.Nat.{ℕ, ◌≤◌, ◌-◌}
+use lib.Seq.{paste}
+use mathlib.Core.Path.{◌≡◌}
+use Prim.Native.Nat.{◌≤◌, ◌-◌}
 use lib.ListN.{length, drop}
 use Rattle.order_permutation.proofs.lay.Given as goal
 

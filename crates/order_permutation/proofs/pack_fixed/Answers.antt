@@ -1,4 +1,3 @@
-use borrow.Author.Rules.{rules}
 use Rattle.order_permutation.specs.laws.Drawing.{packed_fixed}
 use Rattle.order_permutation.proofs.pack_fixed.Goals as goal
 

@@ -1,8 +1,6 @@
 use Prim.Native.Nat.{◌/◌, ◌-◌}
 use Rattle.order_permutation.specs.laws.Permuting.{odd_length, too_many, too_few, not_small, digit_large, moved}
 use Rattle.order_permutation.specs.laws.Below.{leading_below}
-use borrow.Author.Tests.{not-true, not-false}
-use borrow.Author.Rules.{rules}
 use native.Mathlib.Omega.{arith}
 use mathlib.Core.Path.{◌∙◌, sym}
 use lib.ListN.{length}

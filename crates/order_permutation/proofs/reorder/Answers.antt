@@ -1,10 +1,10 @@
-use borrow.Author.Rules.{rules}
+use Rattle.std.proofs.lemmas.Bool.Decides.{nat_tests}
 use native.Mathlib.Omega.{arith}
 use Rattle.order_permutation.specs.laws.Drawing.{none_drawn, all_drawn}
 use Rattle.order_permutation.proofs.reorder.Goals as goal
 
-pub returns-then-digits-eq0 : goal.returns-then-digits-eq0
-returns-then-digits-eq0 c = let a = c.args in none_drawn a.size a.skip a.digits.now a.list.now (omega arith) c.requires.0
+pub returns-then-is_empty : goal.returns-then-is_empty
+returns-then-is_empty c = let a = c.args in none_drawn a.size a.skip a.digits.now a.list.now (grind (arith, nat_tests)) c.requires.0
 
 pub returns : goal.returns
 returns c =

@@ -1,12 +1,11 @@
 use mathlib.Core.Path.{◌∙◌, sym}
 use Prim.Native.Nat.{◌-◌, ◌+◌, ◌*◌, ◌≤◌}
-use borrow.Author.Rules.{rules}
 use borrow.Rule.Slice.PartMut.{put_mid}
 use native.Mathlib.Omega.{arith}
 use lib.ListN.{length, get_or}
 use Rattle.order_permutation.specs.laws.Blocks.{sum_set}
 use Rattle.order_permutation.specs.laws.Drawing.{spot_room, spot_end, spot_closed, is_out, is_closed, tail_length}
-use Rattle.order_permutation.proofs.take_out.Goals.{After-at_most-end, After-find-s}
+use Rattle.order_permutation.proofs.take_out.Goals.{After-min-end, After-find-s}
 use Rattle.order_permutation.proofs.take_out.Goals as goal
 
 -- the block has room for its numbers
@@ -18,12 +17,12 @@ room c =
     spot_room a.span a.count.now a.rest.now a.d c.requires.0 c.requires.3 s.block (a.d - s.before) f.0 (omega (arith, f.2, f.3)) (omega (arith, f.1, f.2))
 
 -- and ends behind them
-ends : (c : After-at_most-end) → let a = c.args in let b = c.find-s.result.block in (b * a.span + c.short_to_usize-n.result ≤ c.at_most-end.result) × (c.at_most-end.result ≤ b * a.span + a.span) × (c.at_most-end.result ≤ length a.rest.now)
+ends : (c : After-min-end) → let a = c.args in let b = c.find-s.result.block in (b * a.span + c.from-n.result ≤ c.min-end.result) × (c.min-end.result ≤ b * a.span + a.span) × (c.min-end.result ≤ length a.rest.now)
 ends c =
     let a = c.args in
     let s = c.find-s.result in
     let f = c.find-s.ensures in
-    spot_end a.span a.count.now a.rest.now a.d c.requires.0 c.requires.3 s.block (a.d - s.before) f.0 (omega (arith, f.2, f.3)) (omega (arith, f.1, f.2)) c.short_to_usize-n.result c.at_most-end.result c.short_to_usize-n.ensures c.at_most-end.ensures
+    spot_end a.span a.count.now a.rest.now a.d c.requires.0 c.requires.3 s.block (a.d - s.before) f.0 (omega (arith, f.2, f.3)) (omega (arith, f.1, f.2)) c.from-n.result c.min-end.result c.from-n.ensures c.min-end.ensures
 
 pub overflow_mul-start : goal.overflow_mul-start
 overflow_mul-start c = omega (arith, (room (goal.at.overflow_mul-start c).After-find-s).0)
@@ -50,37 +49,37 @@ pub slice_bounds-close-start : goal.slice_bounds-close-start
 slice_bounds-close-start c = omega (arith, (room (goal.at.slice_bounds-close-start c).After-find-s).0)
 
 pub overflow_sub-end : goal.overflow_sub-end
-overflow_sub-end c = omega (arith, (ends (goal.at.overflow_sub-end c).After-at_most-end).0)
+overflow_sub-end c = omega (arith, (ends (goal.at.overflow_sub-end c).After-min-end).0)
 
 pub overflow_sub-end-2 : goal.overflow_sub-end-2
-overflow_sub-end-2 c = omega (arith, (ends (goal.at.overflow_sub-end-2 c).After-at_most-end).0)
+overflow_sub-end-2 c = omega (arith, (ends (goal.at.overflow_sub-end-2 c).After-min-end).0)
 
 pub close-requires : goal.close-requires
 close-requires c =
     let a = c.args in
     let s = c.find-s.result in
     let f = c.find-s.ensures in
-    let g = spot_closed a.span a.count.now a.rest.now a.d c.requires.0 c.requires.3 s.block (a.d - s.before) f.0 (omega (arith, f.2, f.3)) (omega (arith, f.1, f.2)) c.short_to_usize-n.result c.at_most-end.result c.short_to_usize-n.ensures c.at_most-end.ensures (c.short_to_usize-n.result - 1 - (a.d - s.before) + (c.at_most-end.result - s.block * a.span - c.short_to_usize-n.result)) (omega arith) (omega arith) in
+    let g = spot_closed a.span a.count.now a.rest.now a.d c.requires.0 c.requires.3 s.block (a.d - s.before) f.0 (omega (arith, f.2, f.3)) (omega (arith, f.1, f.2)) c.from-n.result c.min-end.result c.from-n.ensures c.min-end.ensures (c.from-n.result - 1 - (a.d - s.before) + (c.min-end.result - s.block * a.span - c.from-n.result)) (omega arith) (omega arith) in
     omega (arith, tail_length a.rest.now (s.block * a.span), g.2)
 
 pub overflow_sub-count : goal.overflow_sub-count
-overflow_sub-count c = let f = c.find-s.ensures in omega (arith, f.2, f.3, c.short_to_usize-n.ensures)
+overflow_sub-count c = let f = c.find-s.ensures in omega (arith, f.2, f.3, c.from-n.ensures)
 
 pub overflow_cast-count : goal.overflow_cast-count
-overflow_cast-count c = let q = room (goal.at.overflow_cast-count c).After-find-s in omega (arith, c.short_to_usize-n.ensures, q.1, q.2)
+overflow_cast-count c = let q = room (goal.at.overflow_cast-count c).After-find-s in omega (arith, c.from-n.ensures, q.1, q.2)
 
 pub returns : goal.returns
 returns c =
     let a = c.args in
     let s = c.find-s.result in
     let f = c.find-s.ensures in
-    let g = spot_closed a.span a.count.now a.rest.now a.d c.requires.0 c.requires.3 s.block (a.d - s.before) f.0 (omega (arith, f.2, f.3)) (omega (arith, f.1, f.2)) c.short_to_usize-n.result c.at_most-end.result c.short_to_usize-n.ensures c.at_most-end.ensures c.close.result c.close.ensures.0 c.close.ensures.1 in
+    let g = spot_closed a.span a.count.now a.rest.now a.d c.requires.0 c.requires.3 s.block (a.d - s.before) f.0 (omega (arith, f.2, f.3)) (omega (arith, f.1, f.2)) c.from-n.result c.min-end.result c.from-n.ensures c.min-end.ensures c.close.result c.close.ensures.0 c.close.ensures.1 in
     let z = put_mid (s.block * a.span) (length a.rest.now - s.block * a.span) a.rest.now c.close.new.list in
-    let o = is_out a.span a.count.now a.rest.now a.d c.requires.0 c.requires.3 s.block (a.d - s.before) f.0 (omega (arith, f.2, f.3)) (omega (arith, f.1, f.2)) c.short_to_usize-n.result c.close.result z c.short_to_usize-n.ensures g.0 g.1 g.2 in
-    (o (is_closed a.span a.rest.now c.close.new.list s.block (a.d - s.before) c.close.result c.close.ensures.2), f.0, f.1 ∙ sym (sum_set a.count.now s.block (c.short_to_usize-n.result - 1)))
+    let o = is_out a.span a.count.now a.rest.now a.d c.requires.0 c.requires.3 s.block (a.d - s.before) f.0 (omega (arith, f.2, f.3)) (omega (arith, f.1, f.2)) c.from-n.result c.close.result z c.from-n.ensures g.0 g.1 g.2 in
+    (o (is_closed a.span a.rest.now c.close.new.list s.block (a.d - s.before) c.close.result c.close.ensures.2), f.0, f.1 ∙ sym (sum_set a.count.now s.block (c.from-n.result - 1)))
 
-pub offset_bounds-count-b-2 : goal.offset_bounds-count-b-2
-offset_bounds-count-b-2 c = omega (arith, c.find-s.ensures.0)
+pub offset_bounds-count-s-2 : goal.offset_bounds-count-s-2
+offset_bounds-count-s-2 c = omega (arith, c.find-s.ensures.0)
 
-pub bounds-count-b-2 : goal.bounds-count-b-2
-bounds-count-b-2 c = c.find-s.ensures.0
+pub bounds-count-s-2 : goal.bounds-count-s-2
+bounds-count-s-2 c = c.find-s.ensures.0

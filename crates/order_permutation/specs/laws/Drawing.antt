@@ -4,7 +4,7 @@ use Rattle.std.proofs.Math.Path.{ap, sym}
 use Rattle.std.proofs.Common.{ap₂, ◌∙◌, append_assoc, append-nil, add-one, arith, length-set, length-append, length-drop, drop_of_length-le, take-append-drop, drop-cons, drop_at, take-take, take-suc-set, drop-set-lt, length-take-le}
 use Rattle.std.proofs.lemmas.List.{map-append, take-append-le}
 use Rattle.std.proofs.Math.ListN.{take, drop}
-use Rattle.std.proofs.Math.Seq.{drop-drop, paste}
+use Rattle.std.proofs.Math.Seq.{drop-drop, paste, paste-zero}
 use Rattle.std.proofs.lemmas.List.Edits.{take-paste, drop-paste, length-paste}
 use Rattle.laws.specs.laws.Lists.{tail_all}
 use Rattle.order_natural.specs.Places.{Place, flat, paired}
@@ -217,6 +217,10 @@ module _ (m from at : ℕ) (count l₀ l : List ℕ) (to start b : ℕ) (p : Lay
         room = of_room;
         same = e ∙ p.same;
       }
+
+  -- of a block without numbers nothing is laid
+  pub lay_none : n ≡ 0 → m ≤ 1024 → from ≤ length l₀ → Laying m from at count l₀ l to (start + m) (b + 1)
+  lay_none z w hf = let t : to + n ≡ to = omega arith in rw t at (lay_block l w hf (rw z (paste-zero l to (drop start l))))
 
 pub lay_done : (m from at : ℕ) (count l₀ l : List ℕ) (to start b : ℕ) → Laying m from at count l₀ l to start b → length count ≡ 64 → 64 ≤ b
     → (length l ≡ length l₀) × (take (at + total count) l ≡ take at l₀ ++ remaining m count (drop from l₀))

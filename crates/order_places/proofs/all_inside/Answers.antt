@@ -1,32 +1,39 @@
-use lib.Seq.{take_all}
+use Rattle.std.proofs.Common.{arith, ap, sym, ◌∙◌, refl, ◌≡◌, ◌+◌, ◌*◌, ◌/◌, List, ℕ, length, get_or, take, drop, length-take-le, length-drop, []}
 use Rattle.order_store.specs.Store.{inside_all}
-use borrow.Author.Tests.{not-true, not-false}
-use Rattle.order_places.specs.laws.Ors.{Together, together_start, together_turn, together_not, together_both}
-use borrow.Author.Rules.{rules}
-use native.Mathlib.Omega.{arith}
-use mathlib.Core.Path.{◌≡◌, ◌∙◌, ap, sym, refl}
-use Prim.Native.Nat.{ℕ, ◌-◌, ◌+◌}
-use lib.ListN.{length, take, drop, length-drop}
+use Rattle.order_places.specs.laws.Ors.{chunk_at, together_start, together_turn, together_both}
+use Rattle.order_places.proofs.all_inside.Goals.{In-loop-part}
 use Rattle.order_places.proofs.all_inside.Goals as goal
 
-pub loop-at-init : goal.loop-at-init
-loop-at-init c = let a = c.args in together_start a.width a.height c.requires.0 c.requires.1 a.list.now _ refl
+-- a part's numbers
+part_is : (c : In-loop-part) → get_or c.as_chunks.result.0.now c.loop-part.part-index [] ≡ take 64 (drop (c.loop-part.part-index * 64) c.args.list.now)
+part_is c =
+    let i = c.loop-part.part-index in
+    ap (λ (parts : List (List ℕ)). get_or parts i []) c.as_chunks.ensures.front ∙ chunk_at (length c.args.list.now / 64) i c.args.list.now (omega (arith, c.as_chunks.ensures.front_len, c.loop-part-test.true))
 
-pub loop-at-preserved : goal.loop-at-preserved
-loop-at-preserved c =
-    let a = c.args in
-    let l = c.loop-at in
-    let e : l.at + 64 - l.at ≡ 64 = omega arith in
-    together_turn a.width a.height c.requires.0 c.requires.1 a.list.now l.at l.ors (take (l.at + 64 - l.at) (drop l.at a.list.now)) _ (omega arith) (ap (λ (n : ℕ). take n (drop l.at a.list.now)) e) c.or_into.ensures l.invariant
+pub or_into-requires : goal.or_into-requires
+or_into-requires c =
+    let list = c.args.list.now in
+    let at = c.loop-part.part-index * 64 in
+    let p = part_is (goal.at.or_into-requires c).In-loop-part in
+    (c.loop-part.invariant.0, ap length p ∙ length-take-le 64 (drop at list) (omega (arith, length-drop at list, c.as_chunks.ensures.front_len, c.loop-part-test.true)))
 
-pub returns-then-not-few_inside : goal.returns-then-not-few_inside
-returns-then-not-few_inside c =
-    let a = c.args in
-    let l = c.loop-at in
-    together_not a.width a.height a.list.now l.at l.ors (sym c.few_inside.ensures ∙ c.if-not-few_inside.true) l.invariant
+pub loop-part-init : goal.loop-part-init
+loop-part-init c = let a = c.args in together_start a.size.width a.size.height c.requires.0 c.requires.1 a.list.now _ refl
 
-pub returns : goal.returns
-returns c =
+pub loop-part-preserved : goal.loop-part-preserved
+loop-part-preserved c =
     let a = c.args in
-    let l = c.loop-at in
-    c.few_inside-2.ensures ∙ ap (inside_all a.width a.height) (take_all (length a.list.now - l.at) (drop l.at a.list.now) (omega (arith, length-drop l.at a.list.now))) ∙ together_both a.width a.height a.list.now l.at l.ors (sym c.few_inside.ensures ∙ c.if-not-few_inside.false) l.invariant
+    let l = c.loop-part in
+    let at = l.part-index * 64 in
+    let e : at + 64 ≡ (l.part-index + 1) * 64 = omega arith in
+    let p = part_is (goal.at.loop-part-preserved c).In-loop-part in
+    rw e at (together_turn a.size.width a.size.height c.requires.0 c.requires.1 a.list.now at l.ors _ _ (omega (arith, c.as_chunks.ensures.front_len, c.loop-part-test.true)) p c.or_into.ensures l.invariant)
+
+pub returns-then-few_inside : goal.returns-then-few_inside
+returns-then-few_inside c =
+    let a = c.args in
+    let l = c.loop-part in
+    let at = l.part-index * 64 in
+    let e : length a.list.now / 64 * 64 ≡ at = omega (arith, c.as_chunks.ensures.front_len, c.loop-part-test.false) in
+    let rest : c.as_chunks.result.1.now ≡ drop at a.list.now = c.as_chunks.ensures.back ∙ ap (λ (n : ℕ). drop n a.list.now) e in
+    c.few_inside-then-few_inside.ensures ∙ ap (inside_all a.size.width a.size.height) rest ∙ together_both a.size.width a.size.height a.list.now at l.ors (sym c.few_inside.ensures ∙ c.if-few_inside.true) l.invariant

@@ -2,9 +2,19 @@
 use Rattle.std.specs.Prelude.{◌≡◌, refl, Bool, true, false, ◌&&◌, List, [], ◌∷◌, ◌++◌, ℕ, zero, suc, ◌+◌, ◌*◌, ◌<◌, ◌≤◌, ltb, length, get_or, take, drop, set, replicate}
 use Rattle.std.proofs.Common.{ap, sym, ◌∙◌, append_assoc, append-nil, arith, add-one, lt-ltb, length-set, length-drop, drop_of_length-le, drop-cons, drop-drop, take-suc-set, drop-set-lt, take_all, length-take-le}
 use Rattle.std.specs.Int.Bits.{bit_or}
+use Rattle.std.specs.Simd.{first_chunks}
 use Rattle.order_store.specs.Store.{inside_all}
 use Rattle.order_places.specs.laws.Powers.{Power, or_below, zero_below}
 
+-- part i of k parts of 64 numbers
+pub chunk_at : (k i : ℕ) (list : List ℕ) → i < k → get_or (first_chunks 64 k list) i [] ≡ take 64 (drop (i * 64) list)
+chunk_at zero i list h = absurd (omega arith)
+chunk_at (suc k) zero list h = refl
+chunk_at (suc k) (suc i) list h =
+    let e : 64 + i * 64 ≡ suc i * 64 = omega arith in
+    chunk_at k i (drop 64 list) (omega arith) ∙ ap (take 64) (drop-drop (i * 64) 64 list ∙ ap (λ (n : ℕ). drop n list) e)
+
+-- number by number the or of two lists
 abbrev pub or_each : List ℕ → List ℕ → List ℕ
 or_each [] b = []
 or_each (x ∷ a) [] = x ∷ a

@@ -1,7 +1,6 @@
 use Rattle.order_natural.specs.laws.Filling.{SizeKnown}
 use Rattle.order_natural.proofs.laws.Filling.{size_known, no_room, laid_filled}
 use Rattle.order_small.specs.laws.Small.{no_small, as_any, first_long, first_laid}
-use borrow.Author.Rules.{rules}
 use native.Mathlib.Omega.{arith}
 use mathlib.Core.Path.{refl}
 use mathlib.Core.Bool.{true, false}

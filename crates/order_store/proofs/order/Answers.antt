@@ -1,15 +1,14 @@
 use Rattle.order_store.specs.laws.LookedUp.{ends_inside, handed_back}
-use borrow.Author.Rules.{rules}
 use native.Mathlib.Omega.{arith}
 use Rattle.order_store.proofs.order.Goals as goal
 
-pub overflow_add-e : goal.overflow_add-e
-overflow_add-e c =
+pub overflow_add-result : goal.overflow_add-result
+overflow_add-result c =
     let a = c.args in
     omega (arith, ends_inside a.store.now a.order a.channel c.stretch_of-s.result c.stretch_of-s.ensures)
 
-pub offset_bounds-store-a : goal.offset_bounds-store-a
-offset_bounds-store-a c =
+pub offset_bounds-store-s : goal.offset_bounds-store-s
+offset_bounds-store-s c =
     let a = c.args in
     omega (arith, ends_inside a.store.now a.order a.channel c.stretch_of-s.result c.stretch_of-s.ensures)
 

@@ -1,5 +1,4 @@
 use Rattle.order_store.specs.laws.LookedUp.{stretch_order, stretch_channel, stretch_length, spot, found}
-use borrow.Author.Rules.{rules}
 use native.Mathlib.Omega.{arith}
 use Rattle.order_store.proofs.stretch_of.Goals as goal
 

@@ -12,15 +12,14 @@ pub offset_bounds-out-i : goal.offset_bounds-out-i
 offset_bounds-out-i c = omega (arith, c.count-n.ensures.result_bound.0)
 
 pub bounds-out-i : goal.bounds-out-i
-bounds-out-i c = omega (arith, c.count-n.ensures.result_bound.1, c.loop-i.invariant.1)
+bounds-out-i c = omega (arith, c.count-n.ensures.result_bound.1, c.loop-i.invariant.0)
 
 pub loop-i-preserved : goal.loop-i-preserved
 loop-i-preserved c =
     let a = c.args in
     let room = c.count-n.ensures.result_bound.1 in (
-      omega arith,
-      simp length-set c.loop-i.invariant.1,
-      rw (c.word.ensures, c.loop-i.invariant.2) (put_more (word_at a.file.now) c.loop-i.i a.out.now (omega (arith, room))),
+      simp length-set c.loop-i.invariant.0,
+      rw (c.word.ensures, c.loop-i.invariant.1) (put_more (word_at a.file.now) c.loop-i.i a.out.now (omega (arith, room))),
     )
 
 pub returns : goal.returns
@@ -28,6 +27,6 @@ returns c =
     let n = c.count-n in
     let e : c.loop-i.i ≡ n.result = omega arith in
     record {
-      value = (n.ensures.value, c.loop-i.invariant.2 ∙ rw e);
-      prefix_len = counts_written n.result c.loop-i.out (omega (arith, n.ensures.result_bound.1, c.loop-i.invariant.1));
+      value = (n.ensures.value, c.loop-i.invariant.1 ∙ rw e);
+      prefix_len = counts_written n.result c.loop-i.out (omega (arith, n.ensures.result_bound.1, c.loop-i.invariant.0));
     }

@@ -2,15 +2,7 @@
 use Rattle.std.specs.Prelude.{◌≡◌, refl, Bool, true, false, ℕ}
 use Rattle.std.proofs.Common.{ap, sym, arith}
 use Rattle.refusal.specs.declared.Said.{Said}
-use Rattle.refusal.specs.declared.Checked.{Checked}
-use Rattle.refusal.specs.declared.Checked.TheVariants.{Fine, Refused}
-use Rattle.refusal.specs.Said.{said}
-use Rattle.refusal.specs.Answer.{Answer, gives, refuses, unless, passed, answered_by}
-
--- what checks in code answer
-abbrev pub checked : Checked → Answer Unit
-checked Fine = passed
-checked (Refused r) = refuses (said r)
+use Rattle.refusal.specs.Answer.{Answer, gives, refuses, unless, answered_by}
 
 -- a result comes after a test that passed
 pub pass : {A : Type 0} (n : ℕ) (b : Bool) (next : Answer A) (a : A) → unless n b next ≡ gives a → (b ≡ true) × (next ≡ gives a)

@@ -15,7 +15,7 @@ sets_out (a ∷ s) d i h =
     ap (λ (l : List ℕ). sets l (suc i) s) e ∙ sets_out s d (suc i) (omega arith)
 
 -- a place that was cut to the length does as well
-clipped : (t d : List ℕ) (i : ℕ) → sets d (min i (length d)) t ≡ sets d i t
+pub clipped : (t d : List ℕ) (i : ℕ) → sets d (min i (length d)) t ≡ sets d i t
 clipped t d i = go (le_or_lt (length d) i)
   where
     go : (length d ≤ i) ⊎ (i < length d) → sets d (min i (length d)) t ≡ sets d i t

@@ -3,7 +3,7 @@ use mathlib.Core.List.{[], ◌∷◌}
 use Rattle.coeff_group.specs.Group.{Reading}
 use Rattle.coeff_group.specs.PassGroup.{pass_group}
 use Rattle.coeff_group.specs.laws.Due.{Due, row_from, rows_from, whole_of}
-use Prim.Native.Nat.{◌≤◌, ◌-◌, ◌*◌}
+use Prim.Native.Nat.{◌*◌}
 use lib.ListN.{length}
 use Rattle.coeff_call.proofs.group.read_group.Given as goal
 
@@ -11,25 +11,11 @@ abbrev pub invariant-loop-x : goal.invariant-loop-x
 invariant-loop-x l =
     let P = pass_group l.group l.kinds l.hf_mul l.contexts l.lf_there l.lf0 l.lf1 l.lf2 l.store in
     (length l.log ≡ length l.initial.log)
-    × (length l.g0 ≡ length l.initial.g0)
-    × (length l.g1 ≡ length l.initial.g1)
-    × (length l.g2 ≡ length l.initial.g2)
-    × (l.x ≤ l.group.bw)
-    × ((whole : Reading) → Due l.shift l.contexts.num_block_clusters l.preset_map P l.symbols (192 * (l.group.bw * l.group.bh)) whole (row_from P l.initial.x l.y) l.initial.at l.initial.rows l.initial.log (l.initial.g0 ∷ l.initial.g1 ∷ l.initial.g2 ∷ [])
+    × ((whole : Reading) → Due l.shift l.contexts.num_block_clusters l.preset_map P l.symbols (192 * (l.group.bw * l.group.bh)) whole (row_from P 0 l.y) l.initial.at l.initial.rows l.initial.log (l.initial.g0 ∷ l.initial.g1 ∷ l.initial.g2 ∷ [])
     → Due l.shift l.contexts.num_block_clusters l.preset_map P l.symbols (192 * (l.group.bw * l.group.bh)) whole (row_from P l.x l.y) l.at l.rows l.log (l.g0 ∷ l.g1 ∷ l.g2 ∷ []))
-
-abbrev pub decreases-loop-x : goal.decreases-loop-x
-decreases-loop-x l = l.group.bw - l.x
 
 abbrev pub invariant-loop-y : goal.invariant-loop-y
 invariant-loop-y l =
     let P = pass_group l.group l.kinds l.hf_mul l.contexts l.lf_there l.lf0 l.lf1 l.lf2 l.store in
     (length l.log ≡ length l.initial.log)
-    × (length l.g0 ≡ length l.initial.g0)
-    × (length l.g1 ≡ length l.initial.g1)
-    × (length l.g2 ≡ length l.initial.g2)
-    × (l.y ≤ l.group.bh)
     × Due l.shift l.contexts.num_block_clusters l.preset_map P l.symbols (192 * (l.group.bw * l.group.bh)) (whole_of l.shift l.contexts.num_block_clusters l.preset_map P l.symbols l.initial.log (l.initial.g0 ∷ l.initial.g1 ∷ l.initial.g2 ∷ [])) (rows_from P l.y) l.at l.rows l.log (l.g0 ∷ l.g1 ∷ l.g2 ∷ [])
-
-abbrev pub decreases-loop-y : goal.decreases-loop-y
-decreases-loop-y l = l.group.bh - l.y

@@ -1,5 +1,4 @@
 use Rattle.coeff_context.specs.Context.{coeff_context}
-use Rattle.std.proofs.Common.{rules}
 use Rattle.coeff_places.proofs.context.coeff_context.Goals as goal
 
 pub returns : goal.returns

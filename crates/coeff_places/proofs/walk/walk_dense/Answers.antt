@@ -1,101 +1,72 @@
-use Rattle.std.proofs.Common.{◌≡◌, ◌+◌, ◌-◌, ◌*◌, ◌^◌, ◌<◌, ◌≤◌, length, drop, sym, refl, ◌∙◌, arith, length-set, rules}
-use Rattle.coeff_walk.specs.Walk.{walk}
+use Rattle.std.proofs.lemmas.Bool.{false≢true}
+use borrow.Author.Tests.{eq-eqb}
+use Rattle.std.proofs.Common.{◌≡◌, ℕ, zero, suc, Bool, true, false, eqb, eqb-true, not, ap, ◌+◌, ◌/◌, ◌^◌, ◌≤◌, length, get_or, sym, refl, ◌∙◌, arith, length-set}
+use Rattle.std.specs.Int.{from_bool}
+use Rattle.coeff_walk.specs.Walk.{flag}
 use Rattle.coeff_walk.proofs.laws.PlaceLaws.{places_count}
 use Rattle.coeff_walk.specs.laws.Outcome.{spot_cells}
-use Rattle.coeff_walk.proofs.laws.Outcome.{walk_used, walk_24, walk_17, walk_15, walk_step, ends}
-use Rattle.coeff_places.proofs.walk.walk_dense.Goals.{Else-end-k}
+use Rattle.coeff_walk.proofs.laws.Outcome.{flag_one, walk_used, walk_24, walk_17, walk_15, walk_step, ends}
+use Rattle.coeff_places.proofs.walk.walk_dense.Goals.{At-loop-k}
 use Rattle.coeff_places.proofs.walk.walk_dense.Goals as goal
 
--- There is a place.
-place : (c : Else-end-k) → c.loop-left.k < length (spot_cells c.args.spot c.args.list.now)
-place c = omega (arith, c.if-end-k.false, c.loop-left.invariant.5)
+-- How many places there are.
+places : (c : At-loop-k) → length (spot_cells c.args.spot c.args.list.now) ≡ length c.args.list.now / 2
+places c = let a = c.args in places_count a.spot.turn a.spot.width a.spot.x a.spot.y a.list.now
 
-pub loop-left-init : goal.loop-left-init
-loop-left-init c = let a = c.args in let r = c.requires.2 in (omega arith, r.counted, r.flagged, refl, refl, sym (places_count a.spot.turn a.spot.width a.spot.x a.spot.y a.list.now), refl)
+-- The flag of a symbol, and that it is small.
+flag_is : (u : ℕ) → from_bool (not (eqb u 0)) ≡ flag u
+flag_is u = go (eqb u 0) refl
+  where
+    go : (b : Bool) → eqb u 0 ≡ b → from_bool (not b) ≡ flag u
+    go true e = sym (ap flag (eqb-true u 0 e))
+    go false e = sym (flag_one u (λ z. false≢true (sym e ∙ eq-eqb u 0 z)))
 
-pub returns-then-end-k : goal.returns-then-end-k
-returns-then-end-k c =
-    let l = c.loop-left in
+flag_le : (u : ℕ) → flag u ≤ 1
+flag_le zero = omega arith
+flag_le (suc u) = omega arith
+
+pub returns-then-left-eq0 : goal.returns-then-left-eq0
+returns-then-left-eq0 c =
+    let l = c.loop-k in
     let a = c.args in
-    ends _ _ _ (walk_24 a.shift (2 ^ a.spot.exponent) a.coeff_map.now (spot_cells a.spot a.list.now) a.symbols.now l.k l.prev l.left l.at l.log l.grid (omega (arith, c.if-end-k.true, l.invariant.5)) (omega (arith, c.loop-left-test.true))) l.invariant.6
-
-pub coeff_context-context-requires : goal.coeff_context-context-requires
-coeff_context-context-requires c = (c.requires.0, c.requires.1, c.requires.2.exponent, omega (arith, c.loop-left-test.true, c.loop-left.invariant.1), omega (arith, c.if-end-k.false, c.requires.2.fits), c.loop-left.invariant.2)
+    ends _ _ _ (walk_used a.shift (2 ^ a.spot.exponent) a.coeff_map.now (spot_cells a.spot a.list.now) a.symbols.now l.k l.prev l.left (a.at + l.k) l.log l.grid c.if-left-eq0.true) l.invariant.4
 
 pub returns-then-context-ge458 : goal.returns-then-context-ge458
 returns-then-context-ge458 c =
-    let l = c.loop-left in
+    let l = c.loop-k in
     let a = c.args in
-    ends _ _ _ (walk_17 a.shift (2 ^ a.spot.exponent) a.coeff_map.now (spot_cells a.spot a.list.now) a.symbols.now l.k l.prev l.left l.at l.log l.grid (place (goal.at.returns-then-context-ge458 c).Else-end-k) (omega (arith, c.loop-left-test.true)) (omega (arith, c.if-context-ge458.true, c.coeff_context-context.ensures))) l.invariant.6
+    ends _ _ _ (walk_17 a.shift (2 ^ a.spot.exponent) a.coeff_map.now (spot_cells a.spot a.list.now) a.symbols.now l.k l.prev l.left (a.at + l.k) l.log l.grid (omega (arith, places (goal.at.returns-then-context-ge458 c).At-loop-k, c.loop-k-test.true)) (omega (arith, c.if-left-eq0.false)) (omega (arith, c.if-context-ge458.true, c.coeff_context-context.ensures))) l.invariant.4
 
-pub returns-then-symbols-at : goal.returns-then-symbols-at
-returns-then-symbols-at c =
-    let l = c.loop-left in
+pub returns-then-symbols-i : goal.returns-then-symbols-i
+returns-then-symbols-i c =
+    let l = c.loop-k in
     let a = c.args in
-    ends _ _ _ (walk_15 a.shift (2 ^ a.spot.exponent) a.coeff_map.now (spot_cells a.spot a.list.now) a.symbols.now l.k l.prev l.left l.at l.log l.grid (place (goal.at.returns-then-symbols-at c).Else-end-k) (omega (arith, c.loop-left-test.true)) (omega (arith, c.if-context-ge458.false, c.coeff_context-context.ensures)) c.if-symbols-at.true) l.invariant.6
+    ends _ _ _ (walk_15 a.shift (2 ^ a.spot.exponent) a.coeff_map.now (spot_cells a.spot a.list.now) a.symbols.now l.k l.prev l.left (a.at + l.k) l.log l.grid (omega (arith, places (goal.at.returns-then-symbols-i c).At-loop-k, c.loop-k-test.true)) (omega (arith, c.if-left-eq0.false)) (omega (arith, c.if-context-ge458.false, c.coeff_context-context.ensures)) c.if-symbols-i.true) l.invariant.4
 
-pub bounds-coeff_map-context : goal.bounds-coeff_map-context
-bounds-coeff_map-context c = omega (arith, c.if-context-ge458.false, c.requires.2.entries)
-
-pub bounds-log-at : goal.bounds-log-at
-bounds-log-at c = omega (arith, c.loop-left.invariant.0, c.loop-left.invariant.3, c.if-end-k.false, c.requires.2.room)
-
-pub gain_at-requires : goal.gain_at-requires
-gain_at-requires c = let r = c.requires.2 in (c.if-end-k.false, r.width, r.in_x, r.in_y, r.shifts)
-
-pub overflow_sub-left-in-loop-left : goal.overflow_sub-left-in-loop-left
-overflow_sub-left-in-loop-left c = omega (arith, c.flag_of-prev.ensures.1, c.loop-left-test.true)
-
-pub loop-left-smaller : goal.loop-left-smaller
-loop-left-smaller c = omega (arith, c.if-end-k.false)
-
-pub loop-left-preserved : goal.loop-left-preserved
-loop-left-preserved c =
-    let l = c.loop-left in
+pub loop-k-preserved : goal.loop-k-preserved
+loop-k-preserved c =
+    let l = c.loop-k in
     let a = c.args in
-    let n : 0 < l.left = omega (arith, c.loop-left-test.true) in (
+    let f : c.from-prev.result ≡ flag (get_or a.symbols.now (a.at + l.k) 0) = c.from-prev.ensures ∙ flag_is (get_or a.symbols.now (a.at + l.k) 0) in
+    let z : a.at + (l.k + 1) ≡ a.at + l.k + 1 = omega arith in (
       omega (arith, l.invariant.0),
-      omega (arith, l.invariant.1),
-      c.flag_of-prev.ensures.1,
-      length-set l.log l.at _ ∙ l.invariant.3,
-      c.grid-1.given ∙ l.invariant.4,
-      l.invariant.5,
-      rw (c.flag_of-prev.ensures.0, c.gain_at.ensures, c.coeff_context-context.ensures)
-          (sym (walk_step a.shift (2 ^ a.spot.exponent) a.coeff_map.now (spot_cells a.spot a.list.now) a.symbols.now l.k l.prev l.left l.at l.log l.grid (place (goal.at.loop-left-preserved c).Else-end-k) n (omega (arith, c.if-context-ge458.false, c.coeff_context-context.ensures)) c.if-symbols-at.false) ∙ l.invariant.6),
+      rw f (flag_le (get_or a.symbols.now (a.at + l.k) 0)),
+      length-set l.log (a.at + l.k) _ ∙ l.invariant.2,
+      c.gain_at.auto.grid ∙ l.invariant.3,
+      rw (z, f, c.gain_at.ensures, c.coeff_context-context.ensures)
+          (sym (walk_step a.shift (2 ^ a.spot.exponent) a.coeff_map.now (spot_cells a.spot a.list.now) a.symbols.now l.k l.prev l.left (a.at + l.k) l.log l.grid (omega (arith, places (goal.at.loop-k-preserved c).At-loop-k, c.loop-k-test.true)) (omega (arith, c.if-left-eq0.false)) (omega (arith, c.if-context-ge458.false, c.coeff_context-context.ensures)) c.if-symbols-i.false) ∙ l.invariant.4),
     )
+
+pub returns-then-left-eq0-2 : goal.returns-then-left-eq0-2
+returns-then-left-eq0-2 c =
+    let l = c.loop-k in
+    let a = c.args in
+    let e : length a.list.now / 2 ≡ l.k = omega (arith, l.auto.k-end, c.loop-k-test.false) in
+    rw e (ends _ _ _ (walk_used a.shift (2 ^ a.spot.exponent) a.coeff_map.now (spot_cells a.spot a.list.now) a.symbols.now l.k l.prev l.left (a.at + l.k) l.log l.grid c.if-left-eq0-2.true) l.invariant.4)
 
 pub returns : goal.returns
 returns c =
-    let l = c.loop-left in
+    let l = c.loop-k in
     let a = c.args in
-    ends _ _ _ (walk_used a.shift (2 ^ a.spot.exponent) a.coeff_map.now (spot_cells a.spot a.list.now) a.symbols.now l.k l.prev l.left l.at l.log l.grid (omega (arith, c.loop-left-test.false))) l.invariant.6
-
-pub shape_of-log-then-end-k : goal.shape_of-log-then-end-k
-shape_of-log-then-end-k c = c.loop-left.invariant.3
-
-pub shape_of-grid-then-end-k : goal.shape_of-grid-then-end-k
-shape_of-grid-then-end-k c = c.loop-left.invariant.4
-
-pub overflow_sub-left : goal.overflow_sub-left
-overflow_sub-left c = omega (arith, c.loop-left-test.true)
-
-pub shape_of-log-then-context-ge458 : goal.shape_of-log-then-context-ge458
-shape_of-log-then-context-ge458 c = c.loop-left.invariant.3
-
-pub shape_of-grid-then-context-ge458 : goal.shape_of-grid-then-context-ge458
-shape_of-grid-then-context-ge458 c = c.loop-left.invariant.4
-
-pub shape_of-log-then-symbols-at : goal.shape_of-log-then-symbols-at
-shape_of-log-then-symbols-at c = c.loop-left.invariant.3
-
-pub shape_of-grid-then-symbols-at : goal.shape_of-grid-then-symbols-at
-shape_of-grid-then-symbols-at c = c.loop-left.invariant.4
-
-pub bounds-symbols-at : goal.bounds-symbols-at
-bounds-symbols-at c = c.if-symbols-at.false
-
-pub shape_of-log : goal.shape_of-log
-shape_of-log c = c.loop-left.invariant.3
-
-pub shape_of-grid : goal.shape_of-grid
-shape_of-grid c = c.loop-left.invariant.4
+    let e : length a.list.now / 2 ≡ l.k = omega (arith, l.auto.k-end, c.loop-k-test.false) in
+    rw e (ends _ _ _ (walk_24 a.shift (2 ^ a.spot.exponent) a.coeff_map.now (spot_cells a.spot a.list.now) a.symbols.now l.k l.prev l.left (a.at + l.k) l.log l.grid (omega (arith, places (goal.at.returns c).At-loop-k, e)) (omega (arith, c.if-left-eq0-2.false))) l.invariant.4)

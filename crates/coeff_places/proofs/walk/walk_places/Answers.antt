@@ -9,12 +9,9 @@ returns-then-list-count c =
     (c.walk_dense.ensures, walk_uses a.shift (2 ^ a.spot.exponent) a.coeff_map.now (spot_cells a.spot a.list.now) 0 a.first_prev a.count a.symbols.now a.at a.log.now a.grid.now c.walk_dense.result c.walk_dense.ensures.answer)
 
 pub walk_sparse-requires : goal.walk_sparse-requires
-walk_sparse-requires c = let h = c.requires in (h.0, h.1, h.2, omega (arith, c.if-list-count.false, h.2.fits))
+walk_sparse-requires c = let h = c.requires in (h, omega (arith, c.if-list-count.false, h.fits))
 
 pub returns : goal.returns
 returns c =
     let a = c.args in
     (c.walk_sparse.ensures, walk_uses a.shift (2 ^ a.spot.exponent) a.coeff_map.now (spot_cells a.spot a.list.now) 0 a.first_prev a.count a.symbols.now a.at a.log.now a.grid.now c.walk_sparse.result c.walk_sparse.ensures.answer)
-
-pub walk_dense-requires : goal.walk_dense-requires
-walk_dense-requires c = c.requires

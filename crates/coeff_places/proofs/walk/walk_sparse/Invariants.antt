@@ -1,9 +1,7 @@
-use Rattle.std.proofs.Common.{◌≡◌, ℕ, ◌+◌, ◌-◌, ◌*◌, ◌/◌, ◌^◌, ◌<◌, length, get_or, drop, ap, ◌∙◌, arith, w64, Fits, rules}
-use Rattle.coeff_context.specs.Context.{NUM_NONZERO}
+use Rattle.std.proofs.Common.{◌-◌, ◌^◌, drop}
 use Rattle.coeff_walk.specs.Walk.{walk}
 use Rattle.coeff_walk.specs.laws.Outcome.{spot_cells}
-use Rattle.coeff_walk.specs.laws.Sparse.{Sparse, Turn}
-use Rattle.coeff_walk.proofs.laws.Sparse.{sparse_start, sparse_used, sparse_24, sparse_15, turn, zeros_ready, zero_again, more_again}
+use Rattle.coeff_walk.specs.laws.Sparse.{Sparse}
 use Rattle.coeff_places.proofs.walk.walk_sparse.Given as goal
 
 abbrev pub invariant-loop-k : goal.invariant-loop-k

@@ -1,6 +1,7 @@
-use mathlib.Core.Path.{◌≡◌, ◌∙◌, ap, sym}
+use borrow.Author.Rules.{rules}
+use mathlib.Core.Path.{◌≡◌, ◌∙◌, ap}
 use Prim.Native.Nat.{ℕ, ◌≤◌, ◌+◌, ◌*◌}
-use lib.ListN.{get_or, get_or-eq_default}
+use lib.ListN.{get_or}
 use native.Mathlib.Omega.{arith}
 use native.Mathlib.Nat.{mul-le-mul}
 use Rattle.coeff_walk.specs.Item.{predicted, count_index}
@@ -19,14 +20,9 @@ overflow_add-entry c =
     let m : c.count_index.result * c.args.clusters ≤ 4294967295 * 16 = mul-le-mul i c.requires.2 in
     omega arith
 
-pub returns-then-preset_map-entry : goal.returns-then-preset_map-entry
-returns-then-preset_map-entry c =
-    let a = c.args in
-    let e : c.count_index.result ≡ count_index (predicted a.row.now a.x a.y) = c.count_index.ensures ∙ ap count_index c.predict-predicted.ensures.0 in
-    sym (get_or-eq_default a.preset_map.now 0 {n = a.block_context + count_index (predicted a.row.now a.x a.y) * a.clusters} (rw (← e) c.if-preset_map-entry.true))
-
 pub returns : goal.returns
 returns c =
     let a = c.args in
     let e : c.count_index.result ≡ count_index (predicted a.row.now a.x a.y) = c.count_index.ensures ∙ ap count_index c.predict-predicted.ensures.0 in
-    ap (λ (i : ℕ). get_or a.preset_map.now (a.block_context + i * a.clusters) 0) e
+    let r : c.unwrap_or.result ≡ get_or a.preset_map.now (a.block_context + c.count_index.result * a.clusters) 0 = search rules in
+    r ∙ ap (λ (i : ℕ). get_or a.preset_map.now (a.block_context + i * a.clusters) 0) e

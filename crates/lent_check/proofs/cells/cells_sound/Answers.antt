@@ -1,10 +1,8 @@
 use mathlib.Core.Path.{◌≡◌, ◌∙◌, ap, sym}
-use Prim.Native.Nat.{ℕ, ◌≤◌, ◌-◌, ◌+◌, ◌*◌}
+use Prim.Native.Nat.{ℕ}
 use lib.Dec.{eqb}
 use lib.ListN.{length}
-use borrow.Author.Tests.{not-true, not-false}
 use native.Mathlib.Omega.{arith}
-use borrow.Author.Rules.{rules}
 use Rattle.lent_check.specs.laws.Flaws.{flaws, sound_unknown, sound_known, flaws_start, flaws_step}
 use Rattle.lent_check.proofs.cells.cells_sound.Goals as goal
 
@@ -14,7 +12,7 @@ returns-then-not-all_below c =
     sym (sound_unknown a.kinds.now a.hf_mul.now (sym c.all_below.ensures ∙ c.if-not-all_below.true))
 
 pub loop-i-init : goal.loop-i-init
-loop-i-init c = let a = c.args in (omega arith, omega arith, sym (flaws_start a.kinds.now a.hf_mul.now))
+loop-i-init c = let a = c.args in (omega arith, sym (flaws_start a.kinds.now a.hf_mul.now))
 
 pub overflow_add-flaws : goal.overflow_add-flaws
 overflow_add-flaws c = let p = c.requires in let f = c.flaw-flaws.ensures.1 in omega arith
@@ -24,12 +22,12 @@ loop-i-preserved c =
     let a = c.args in
     let l = c.loop-i in
     let f = c.flaw-flaws.ensures in
-    (omega arith, omega arith, omega (arith, f.0, l.invariant.2, flaws_step a.kinds.now a.hf_mul.now l.i))
+    (omega arith, omega (arith, f.0, l.invariant.1, flaws_step a.kinds.now a.hf_mul.now l.i))
 
 pub returns : goal.returns
 returns c =
     let a = c.args in
     let l = c.loop-i in
     let n : l.i ≡ length a.kinds.now = omega arith in
-    let e : l.flaws ≡ flaws a.kinds.now a.hf_mul.now (length a.kinds.now) = l.invariant.2 ∙ ap (flaws a.kinds.now a.hf_mul.now) n in
+    let e : l.flaws ≡ flaws a.kinds.now a.hf_mul.now (length a.kinds.now) = l.invariant.1 ∙ ap (flaws a.kinds.now a.hf_mul.now) n in
     ap (λ (m : ℕ). eqb m 0) e ∙ sym (sound_known a.kinds.now a.hf_mul.now (sym c.all_below.ensures ∙ c.if-not-all_below.false))

@@ -1,19 +1,16 @@
-use mathlib.Core.Path.{◌≡◌, ◌∙◌, ap, sym, refl}
+use mathlib.Core.Path.{◌≡◌, ◌∙◌, ap, sym}
 use mathlib.Core.Bool.{true}
-use Prim.Native.Nat.{◌≤◌, ◌-◌, ◌+◌, ◌*◌}
+use Prim.Native.Nat.{◌≤◌, ◌+◌, ◌*◌}
 use native.Mathlib.Nat.{mul-le-mul}
-use lib.ListN.{length}
-use borrow.Author.Tests.{not-true, not-false}
 use native.Mathlib.Omega.{arith}
-use borrow.Author.Rules.{rules}
 use Rattle.dct_select.specs.Transforms.{TRANSFORMS}
 use Rattle.layout.specs.RowByRow.{along_row}
 use Rattle.layout.specs.Grid.{block_at}
-use Rattle.layout.specs.Check.{Until, is_layout}
+use Rattle.layout.specs.Check.{Until}
 use Rattle.lent_sides.specs.laws.Sizes.{WIDES, HIGHS}
 use Rattle.lent_check.specs.laws.Flaws.{is_sound, sound_cells, unsound}
 use Rattle.lent_check.specs.laws.Steps.{place, close}
-use Rattle.lent_check.specs.laws.Rows.{rows_left, rows_start, rows_finish, row_next, row_stop, close_fault, told_good, told_bad}
+use Rattle.lent_check.specs.laws.Rows.{rows_start, rows_finish, row_next, row_stop, close_fault, told_good, told_bad}
 use Rattle.lent_check.proofs.check.is_layout.Goals.{Else-not-cells_sound}
 use Rattle.lent_check.proofs.check.is_layout.Goals as goal
 
@@ -34,14 +31,14 @@ sound : (c : Else-not-cells_sound) → is_sound c.args.kinds.now c.args.hf_mul.n
 sound c = sym c.cells_sound.ensures ∙ c.if-not-cells_sound.false
 
 pub loop-y-init : goal.loop-y-init
-loop-y-init c = let a = c.args in (omega arith, omega arith, rows_start a.kinds.now a.hf_mul.now a.bw a.bh (omega arith))
+loop-y-init c = let a = c.args in (omega arith, rows_start a.kinds.now a.hf_mul.now a.bw a.bh (omega arith))
 
 pub place_row-requires : goal.place_row-requires
 unfolding WIDES HIGHS TRANSFORMS
 place_row-requires c =
     let a = c.args in
     let p = c.requires in
-    (refl, refl, omega arith, omega arith, omega arith, p.2)
+    (omega arith, omega arith, omega arith, p.2)
 
 pub returns-then-not-place_row : goal.returns-then-not-place_row
 returns-then-not-place_row c =
@@ -50,7 +47,7 @@ returns-then-not-place_row c =
     let l = c.loop-y in
     let k = block_at a.kinds.now a.bw in
     let e = told_bad c.place_row.result c.place_row.new.depth (along_row (place a.bw a.bh k) a.bw 0 l.y (Until l.depth)) c.place_row.ensures (c.if-not-place_row.true) in
-    sym (l.invariant.2 ∙ row_stop a.kinds.now a.hf_mul.now a.bw a.bh (sound_cells a.bw a.bh a.kinds.now a.hf_mul.now p.2 p.3 (sound (goal.at.returns-then-not-place_row c).Else-not-cells_sound)) l.y l.depth (omega arith) l.invariant.1 (sym (close_fault a.bw a.bh k l.y a.bw 0) ∙ ap (along_row (close k) a.bw 0 l.y) e))
+    sym (l.invariant.1 ∙ row_stop a.kinds.now a.hf_mul.now a.bw a.bh (sound_cells a.bw a.bh a.kinds.now a.hf_mul.now p.2 p.3 (sound (goal.at.returns-then-not-place_row c).Else-not-cells_sound)) l.y l.depth (omega arith) l.invariant.0 (sym (close_fault a.bw a.bh k l.y a.bw 0) ∙ ap (along_row (close k) a.bw 0 l.y) e))
 
 pub close_row-requires : goal.close_row-requires
 close_row-requires c =
@@ -70,7 +67,7 @@ returns-then-not-close_row c =
     let k = block_at a.kinds.now a.bw in
     let e = told_good c.place_row.result c.place_row.new.depth (along_row (place a.bw a.bh k) a.bw 0 l.y (Until l.depth)) c.place_row.ensures (c.if-not-place_row.false) in
     let f = told_bad c.close_row.result c.close_row.new.depth (along_row (close k) a.bw 0 l.y (Until c.place_row.new.depth)) c.close_row.ensures (c.if-not-close_row.true) in
-    sym (l.invariant.2 ∙ row_stop a.kinds.now a.hf_mul.now a.bw a.bh (sound_cells a.bw a.bh a.kinds.now a.hf_mul.now p.2 p.3 (sound (goal.at.returns-then-not-close_row c).Else-not-cells_sound)) l.y l.depth (omega arith) l.invariant.1 (f ∙ ap (along_row (close k) a.bw 0 l.y) e))
+    sym (l.invariant.1 ∙ row_stop a.kinds.now a.hf_mul.now a.bw a.bh (sound_cells a.bw a.bh a.kinds.now a.hf_mul.now p.2 p.3 (sound (goal.at.returns-then-not-close_row c).Else-not-cells_sound)) l.y l.depth (omega arith) l.invariant.0 (f ∙ ap (along_row (close k) a.bw 0 l.y) e))
 
 pub loop-y-preserved : goal.loop-y-preserved
 loop-y-preserved c =
@@ -80,11 +77,11 @@ loop-y-preserved c =
     let k = block_at a.kinds.now a.bw in
     let e = told_good c.place_row.result c.place_row.new.depth (along_row (place a.bw a.bh k) a.bw 0 l.y (Until l.depth)) c.place_row.ensures (c.if-not-place_row.false) in
     let f = told_good c.close_row.result c.close_row.new.depth (along_row (close k) a.bw 0 l.y (Until c.place_row.new.depth)) c.close_row.ensures (c.if-not-close_row.false) in
-    let n = row_next a.kinds.now a.hf_mul.now a.bw a.bh (sound_cells a.bw a.bh a.kinds.now a.hf_mul.now p.2 p.3 (sound (goal.at.loop-y-preserved c).Else-not-cells_sound)) l.y l.depth (omega arith) l.invariant.1 c.close_row.new.depth (f ∙ ap (along_row (close k) a.bw 0 l.y) e) in
-    (omega arith, n.1, l.invariant.2 ∙ n.0)
+    let n = row_next a.kinds.now a.hf_mul.now a.bw a.bh (sound_cells a.bw a.bh a.kinds.now a.hf_mul.now p.2 p.3 (sound (goal.at.loop-y-preserved c).Else-not-cells_sound)) l.y l.depth (omega arith) l.invariant.0 c.close_row.new.depth (f ∙ ap (along_row (close k) a.bw 0 l.y) e) in
+    (n.1, l.invariant.1 ∙ n.0)
 
 pub returns : goal.returns
 returns c =
     let a = c.args in
     let l = c.loop-y in
-    sym (l.invariant.2 ∙ rows_finish a.kinds.now a.hf_mul.now a.bw a.bh l.y l.depth (omega arith))
+    sym (l.invariant.1 ∙ rows_finish a.kinds.now a.hf_mul.now a.bw a.bh l.y l.depth (omega arith))

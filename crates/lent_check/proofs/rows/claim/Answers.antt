@@ -1,8 +1,6 @@
-use mathlib.Core.Path.{◌≡◌, ◌∙◌, ap, sym, refl}
+use mathlib.Core.Path.{◌≡◌, ◌∙◌, ap, sym}
 use Prim.Native.Nat.{ℕ, ◌-◌, ◌+◌}
-use borrow.Author.Tests.{not-true, not-false}
 use native.Mathlib.Omega.{arith}
-use borrow.Author.Rules.{rules}
 use Rattle.lent_check.specs.laws.Claims.{claimed, claim_stop, claim_next, claim_end, first_good, first_bad}
 use Rattle.lent_check.proofs.rows.claim.Goals.{Else-not-claim_four}
 use Rattle.lent_check.proofs.rows.claim.Goals as goal

@@ -1,16 +1,12 @@
-use mathlib.Core.Path.{◌≡◌, ◌∙◌, ap, sym}
+use mathlib.Core.Path.{◌∙◌, ap, sym}
 use Prim.Native.Nat.{ℕ, ◌≤◌, ◌-◌, ◌+◌, ◌*◌, max}
 use native.Mathlib.Nat.{mul-le-mul}
 use lib.Arith.{digits_lt}
 use lib.ListN.{get_or, set}
 use native.Mathlib.Omega.{arith}
-use borrow.Author.Rules.{rules}
-use Rattle.layout.specs.RowByRow.{along_row}
 use Rattle.layout.specs.Grid.{block_at}
-use Rattle.layout.specs.Check.{Until}
-use Rattle.lent_check.specs.laws.Steps.{close}
-use Rattle.lent_cells.specs.laws.Cells.{gap_of}
 use Rattle.lent_check.specs.laws.Closing.{closing, close_start, close_next, close_end}
+use Rattle.lent_check.proofs.laws.Most.{most}
 use Rattle.lent_check.proofs.rows.close_row.Goals as goal
 
 pub overflow_mul-start : goal.overflow_mul-start
@@ -22,7 +18,7 @@ overflow_mul-start c =
     omega arith
 
 pub loop-x-init : goal.loop-x-init
-loop-x-init c = let a = c.args in (omega arith, close_start a.bw (block_at a.kinds.now a.bw) a.y a.depth.now)
+loop-x-init c = let a = c.args in close_start a.bw (block_at a.kinds.now a.bw) a.y a.depth.now
 
 pub overflow_add-start : goal.overflow_add-start
 overflow_add-start c =
@@ -42,15 +38,13 @@ loop-x-preserved c =
     let l = c.loop-x in
     let k = block_at a.kinds.now a.bw in
     let v = get_or l.depth l.x 0 in
-    let e : max l.gaps (gap_of (k l.x a.y) v) ≡ c.most-gaps.result = sym (c.most-gaps.ensures ∙ ap (λ (g : ℕ). max l.gaps g) c.gap.ensures) in (
-      omega arith,
-      l.invariant.1 ∙ close_next a.bw k a.y l.gaps l.x l.depth (omega arith)
-          ∙ ap (λ (m : ℕ). closing a.bw k a.y m (l.x + 1) (set l.depth l.x (v - 1))) e
-          ∙ ap (λ (m : ℕ). closing a.bw k a.y c.most-gaps.result (l.x + 1) (set l.depth l.x m)) (sym c.one_less.ensures),
-    )
+    let e = c.max-gaps.ensures ∙ most l.gaps _ ∙ ap (max l.gaps) c.gap.ensures in
+    l.invariant ∙ close_next a.bw k a.y l.gaps l.x l.depth (omega arith)
+    ∙ ap (λ (m : ℕ). closing a.bw k a.y m (l.x + 1) (set l.depth l.x (v - 1))) (sym e)
+    ∙ ap (λ (m : ℕ). closing a.bw k a.y c.max-gaps.result (l.x + 1) (set l.depth l.x m)) (sym c.saturating_sub.ensures)
 
 pub returns : goal.returns
 returns c =
     let a = c.args in
     let l = c.loop-x in
-    sym (l.invariant.1 ∙ close_end a.bw (block_at a.kinds.now a.bw) a.y l.gaps l.x l.depth (omega arith))
+    sym (l.invariant ∙ close_end a.bw (block_at a.kinds.now a.bw) a.y l.gaps l.x l.depth (omega arith))

@@ -1,12 +1,11 @@
-use mathlib.Core.Path.{◌≡◌, ◌∙◌}
-use Prim.Native.Nat.{◌≤◌, ◌-◌, ◌+◌, ◌*◌}
+use mathlib.Core.Path.{◌∙◌}
+use Prim.Native.Nat.{◌≤◌, ◌+◌, ◌*◌}
 use native.Mathlib.Nat.{mul-le-mul}
 use lib.Arith.{digits_lt}
-use lib.ListN.{length, length-set}
+use lib.ListN.{length-set}
 use native.Mathlib.Omega.{arith}
-use borrow.Author.Rules.{rules}
 use Rattle.layout.specs.Grid.{block_at}
-use Rattle.lent_check.specs.laws.Listing.{Flagged, flagged_next}
+use Rattle.lent_check.specs.laws.Listing.{flagged_next}
 use Rattle.lent_check.proofs.rows.flag_row.Goals as goal
 
 pub overflow_mul-start : goal.overflow_mul-start
@@ -18,7 +17,7 @@ overflow_mul-start c =
     omega arith
 
 pub loop-x-init : goal.loop-x-init
-loop-x-init c = (omega arith, c.requires.3, λ i h. absurd (omega arith))
+loop-x-init c = (c.requires.3, λ i h. absurd (omega arith))
 
 pub overflow_add-start : goal.overflow_add-start
 overflow_add-start c =
@@ -36,7 +35,7 @@ pub loop-x-preserved : goal.loop-x-preserved
 loop-x-preserved c =
     let a = c.args in
     let l = c.loop-x in
-    (omega arith, length-set l.flags l.x c.larger.result ∙ l.invariant.1, flagged_next (block_at a.kinds.now a.bw) a.y l.x c.larger.result l.flags (omega (arith, l.invariant.1)) c.larger.ensures l.invariant.2)
+    (length-set l.flags l.x c.larger.result ∙ l.invariant.0, flagged_next (block_at a.kinds.now a.bw) a.y l.x c.larger.result l.flags (omega (arith, l.invariant.0)) c.larger.ensures l.invariant.1)
 
 pub returns : goal.returns
-returns c = λ i h. c.loop-x.invariant.2 i (omega arith)
+returns c = λ i h. c.loop-x.invariant.1 i (omega arith)

@@ -1,8 +1,7 @@
-use Prim.Native.Nat.{ℕ, ◌-◌}
+use Prim.Native.Nat.{ℕ}
 use lib.ListN.{get_or}
 use native.Mathlib.Omega.{arith}
-use borrow.Author.Rules.{rules}
-use Rattle.lent_check.specs.laws.Listing.{Listing, list_start, list_step, list_end}
+use Rattle.lent_check.specs.laws.Listing.{list_start, list_step, list_end}
 use Rattle.lent_check.proofs.rows.list_row.Goals as goal
 
 pub loop-x-init : goal.loop-x-init
@@ -14,7 +13,7 @@ bounds-list-n c = let i = c.loop-x.invariant.0 in omega arith
 pub overflow_add-n : goal.overflow_add-n
 overflow_add-n c =
     let f = c.requires.2 c.loop-x.x (omega arith) in
-    let t = c.to_usize-n.ensures in
+    let t = c.from-n.ensures in
     let i = c.loop-x.invariant.0 in
     omega arith
 
@@ -23,7 +22,7 @@ loop-x-preserved c =
     let a = c.args in
     let p = c.requires in
     let l = c.loop-x in
-    list_step (λ (x : ℕ). get_or a.flags.now x 0) a.bw l.n l.x c.to_usize-n.result l.list (omega arith) p.0 (p.2 l.x (omega arith)) c.to_usize-n.ensures l.invariant
+    list_step (λ (x : ℕ). get_or a.flags.now x 0) a.bw l.n l.x c.from-n.result l.list (omega arith) p.0 (p.2 l.x (omega arith)) c.from-n.ensures l.invariant
 
 pub returns : goal.returns
 returns c =

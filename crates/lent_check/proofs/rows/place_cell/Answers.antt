@@ -1,13 +1,14 @@
-use mathlib.Core.Path.{◌≡◌, ◌∙◌, ap, sym}
+use mathlib.Core.Path.{◌≡◌, ◌∙◌, ap, sym, refl}
 use Prim.Native.Nat.{ℕ}
-use borrow.Author.Tests.{not-true, not-false}
 use native.Mathlib.Omega.{arith}
 use borrow.Author.Rules.{rules}
 use Rattle.dct_select.specs.declared.Sides.{Sides}
+use Rattle.dct_select.specs.Transforms.{TRANSFORMS}
 use Rattle.dct_select.specs.LookUp.{sides}
 use Rattle.layout.specs.Kinds.{wide_of, high_of}
 use Rattle.layout.specs.Valid.{Fits}
 use Rattle.layout.proofs.laws.CheckLaws.{fitting_fits}
+use Rattle.lent_sides.specs.laws.Sizes.{WIDES, HIGHS, size_by}
 use Rattle.lent_check.specs.laws.Corners.{size_corner}
 use Rattle.lent_cells.specs.laws.Cells.{larger_of}
 use Rattle.lent_check.specs.laws.Steps.{place_plain, place_free, place_unfit, place_fit}
@@ -16,10 +17,11 @@ use Rattle.lent_check.proofs.rows.place_cell.Goals.{After-claim-arg-1, After-siz
 use Rattle.lent_check.proofs.rows.place_cell.Goals as goal
 
 sized : (c : After-size_of-size) → let k = c.args.kind in c.size_of-size.result ≡ sides (wide_of k) (high_of k)
+unfolding size_by WIDES HIGHS TRANSFORMS
 sized c =
     let a = c.args in
-    let p = c.requires in
-    c.size_of-size.ensures ∙ size_corner a.wides.now a.highs.now a.kind p.0 p.1 (omega arith)
+    let e : c.size_of-size.result ≡ size_by WIDES HIGHS a.kind = search rules in
+    e ∙ size_corner WIDES HIGHS a.kind refl refl (omega arith)
 
 -- the kind is one that is looked at
 looked : (c : Else-larger-eq0) → let k = c.args.kind in larger_of k ≡ 0 → ⊥

@@ -1,12 +1,10 @@
-use mathlib.Core.Path.{◌≡◌, refl, ◌∙◌, sym}
-use mathlib.Core.List.{List}
-use Prim.Native.Nat.{ℕ, ◌+◌, ◌*◌, ◌-◌, ◌≤◌, ◌<◌}
+use mathlib.Core.Path.{refl, ◌∙◌, sym}
+use Prim.Native.Nat.{◌+◌, ◌*◌, ◌<◌}
 use lib.Arith.{digits_lt}
-use lib.ListN.{length, length-set}
-use Rattle.layout.specs.Grid.{block_at, grid_of}
+use lib.ListN.{length-set}
 use Rattle.lent_cut.proofs.laws.CutSteps.{copy_start}
 use Rattle.layout.proofs.laws.Fill.{write}
-use Rattle.layout.proofs.laws.Loops.{rows_left, cells_left, loop_enter, loop_next, loop_leave, loop_finish}
+use Rattle.layout.proofs.laws.Loops.{loop_enter, loop_next, loop_leave, loop_finish}
 use borrow.Author.Rules.{rules}
 use native.Mathlib.Omega.{arith}
 use Rattle.lent_cut.proofs.cut.copy_cells.Invariants.{from}
@@ -27,7 +25,7 @@ loop-y-init c =
     let a = c.args in
     let k = from a.kinds.now a.bw a.first_x a.first_y in
     let m = from a.hf_mul.now a.bw a.first_x a.first_y in
-    (omega arith, omega arith, omega arith, copy_start k a.group_bw a.group_bh a.out_kinds.now (omega arith), copy_start m a.group_bw a.group_bh a.out_hf_mul.now (omega arith))
+    (omega arith, omega arith, copy_start k a.group_bw a.group_bh a.out_kinds.now (omega arith), copy_start m a.group_bw a.group_bh a.out_hf_mul.now (omega arith))
 
 pub loop-x-init : goal.loop-x-init
 loop-x-init c =
@@ -35,7 +33,7 @@ loop-x-init c =
     let o = c.loop-y in
     let k = from a.kinds.now a.bw a.first_x a.first_y in
     let m = from a.hf_mul.now a.bw a.first_x a.first_y in
-    (omega arith, o.invariant.1, o.invariant.2, o.invariant.3 ∙ loop_enter (write k a.group_bw a.group_bh) a.group_bw a.group_bh o.y o.out_kinds (omega arith), o.invariant.4 ∙ loop_enter (write m a.group_bw a.group_bh) a.group_bw a.group_bh o.y o.out_hf_mul (omega arith))
+    (o.invariant.0, o.invariant.1, o.invariant.2 ∙ loop_enter (write k a.group_bw a.group_bh) a.group_bw a.group_bh o.y o.out_kinds (omega arith), o.invariant.3 ∙ loop_enter (write m a.group_bw a.group_bh) a.group_bw a.group_bh o.y o.out_hf_mul (omega arith))
 
 pub overflow_mul-i : goal.overflow_mul-i
 overflow_mul-i c = omega (arith, inside (goal.at.overflow_mul-i c).In-loop-x)
@@ -77,11 +75,10 @@ loop-x-preserved c =
     let l = c.loop-x in
     let k = from a.kinds.now a.bw a.first_x a.first_y in
     let m = from a.hf_mul.now a.bw a.first_x a.first_y in (
-      omega arith,
-      length-set l.out_kinds (o.y * a.group_bw + l.x) (k l.x o.y) ∙ l.invariant.1,
-      length-set l.out_hf_mul (o.y * a.group_bw + l.x) (m l.x o.y) ∙ l.invariant.2,
-      l.invariant.3 ∙ loop_next (write k a.group_bw a.group_bh) a.group_bw a.group_bh o.y l.x l.out_kinds _ (omega arith) refl,
-      l.invariant.4 ∙ loop_next (write m a.group_bw a.group_bh) a.group_bw a.group_bh o.y l.x l.out_hf_mul _ (omega arith) refl,
+      length-set l.out_kinds (o.y * a.group_bw + l.x) (k l.x o.y) ∙ l.invariant.0,
+      length-set l.out_hf_mul (o.y * a.group_bw + l.x) (m l.x o.y) ∙ l.invariant.1,
+      l.invariant.2 ∙ loop_next (write k a.group_bw a.group_bh) a.group_bw a.group_bh o.y l.x l.out_kinds _ (omega arith) refl,
+      l.invariant.3 ∙ loop_next (write m a.group_bw a.group_bh) a.group_bw a.group_bh o.y l.x l.out_hf_mul _ (omega arith) refl,
     )
 
 pub loop-y-preserved : goal.loop-y-preserved
@@ -91,7 +88,7 @@ loop-y-preserved c =
     let l = c.loop-x in
     let k = from a.kinds.now a.bw a.first_x a.first_y in
     let m = from a.hf_mul.now a.bw a.first_x a.first_y in
-    (omega arith, l.invariant.1, l.invariant.2, l.invariant.3 ∙ loop_leave (write k a.group_bw a.group_bh) a.group_bw a.group_bh o.y l.x l.out_kinds (omega arith), l.invariant.4 ∙ loop_leave (write m a.group_bw a.group_bh) a.group_bw a.group_bh o.y l.x l.out_hf_mul (omega arith))
+    (l.invariant.0, l.invariant.1, l.invariant.2 ∙ loop_leave (write k a.group_bw a.group_bh) a.group_bw a.group_bh o.y l.x l.out_kinds (omega arith), l.invariant.3 ∙ loop_leave (write m a.group_bw a.group_bh) a.group_bw a.group_bh o.y l.x l.out_hf_mul (omega arith))
 
 pub returns : goal.returns
 returns c =
@@ -99,4 +96,4 @@ returns c =
     let o = c.loop-y in
     let k = from a.kinds.now a.bw a.first_x a.first_y in
     let m = from a.hf_mul.now a.bw a.first_x a.first_y in
-    (sym (o.invariant.3 ∙ loop_finish (write k a.group_bw a.group_bh) a.group_bw a.group_bh o.y o.out_kinds (omega arith)), sym (o.invariant.4 ∙ loop_finish (write m a.group_bw a.group_bh) a.group_bw a.group_bh o.y o.out_hf_mul (omega arith)))
+    (sym (o.invariant.2 ∙ loop_finish (write k a.group_bw a.group_bh) a.group_bw a.group_bh o.y o.out_kinds (omega arith)), sym (o.invariant.3 ∙ loop_finish (write m a.group_bw a.group_bh) a.group_bw a.group_bh o.y o.out_hf_mul (omega arith)))

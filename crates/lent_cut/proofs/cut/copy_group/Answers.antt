@@ -2,7 +2,6 @@ use mathlib.Core.Path.{◌∙◌}
 use Rattle.layout.proofs.laws.CutLaws.{starts_x}
 use Rattle.lent_sides.specs.laws.Limits.{in_limits_lem}
 use Rattle.lent_cut.proofs.laws.CutSteps.{Ready, ready, copied}
-use borrow.Author.Rules.{rules}
 use native.Mathlib.Omega.{arith}
 use Rattle.lent_cut.proofs.cut.copy_group.Goals.{After-sides_of-group}
 use Rattle.lent_cut.proofs.cut.copy_group.Goals as goal

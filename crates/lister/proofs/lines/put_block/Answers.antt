@@ -38,4 +38,4 @@ bounds-hf_mul-i c =
 pub returns : goal.returns
 returns c =
     let a = c.args in
-    rw (le-leb 2 (block_at a.kinds.now a.bw a.x a.y) c.if-kind-lt2.false) (rw c.number_of.ensures at c.put_varblock.ensures)
+    rw (le-leb 2 (block_at a.kinds.now a.bw a.x a.y) c.if-kind-lt2.false) (rw c.from.ensures at c.put_varblock.ensures)

@@ -9,13 +9,13 @@ use lib.ListN.{length, get_or}
 use Rattle.recorded_lists.proofs.frame.next.Goals.{Else-not-has_room}
 use Rattle.recorded_lists.proofs.frame.next.Goals as goal
 
-pub returns-then-at-words : goal.returns-then-at-words
+pub returns-then-at-words-clause-value : goal.returns-then-at-words-clause-value
 unfolding frame_of
-returns-then-at-words c = let a = c.args in rw (eq-eqb a.at (length a.words.now) c.if-at-words.true)
+returns-then-at-words-clause-value c = let a = c.args in rw (eq-eqb a.at (length a.words.now) c.if-at-words.true)
 
-pub returns-then-not-has_room : goal.returns-then-not-has_room
+pub returns-then-not-has_room-clause-value : goal.returns-then-not-has_room-clause-value
 unfolding frame_of
-returns-then-not-has_room c =
+returns-then-not-has_room-clause-value c =
     let a = c.args in
     let w = a.words.now in
     let f = c.has_room in
@@ -43,17 +43,16 @@ offset_bounds-words-at c =
 pub bounds-words-at : goal.bounds-words-at
 bounds-words-at c = omega (arith, ends (goal.at.bounds-words-at c).Else-not-has_room)
 
-pub overflow_add-result : goal.overflow_add-result
-overflow_add-result c = omega (arith, ends (goal.at.overflow_add-result c).Else-not-has_room, c.to_usize.ensures.0, c.second-size.ensures)
+pub overflow_add-end : goal.overflow_add-end
+overflow_add-end c = omega (arith, ends (goal.at.overflow_add-end c).Else-not-has_room, c.second-size.ensures)
 
-pub returns : goal.returns
+pub returns-clause-value : goal.returns-clause-value
 unfolding frame_of
-returns c =
+returns-clause-value c =
     let a = c.args in
     let w = a.words.now in
     rw (
-      c.to_usize.ensures.0,
       c.second-size.ensures,
       ne_eqb a.at (length w) c.if-at-words.false,
-      le-leb (a.at + 2 + get_or w (a.at + 1) 0) (length w) (ends (goal.at.returns c).Else-not-has_room),
+      le-leb (a.at + 2 + get_or w (a.at + 1) 0) (length w) (ends (goal.at.returns-clause-value c).Else-not-has_room),
     )

@@ -28,10 +28,10 @@ pub overflow_add-result : goal.overflow_add-result
 overflow_add-result c = omega (arith, ends c)
 
 pub overflow_add-result-2 : goal.overflow_add-result-2
-overflow_add-result-2 c = omega (arith, ends (goal.at.overflow_add-result-2 c).Else-not-has_room, c.to_usize.ensures.0, c.number-size.ensures)
+overflow_add-result-2 c = omega (arith, ends (goal.at.overflow_add-result-2 c).Else-not-has_room, c.number-size.ensures)
 
 pub returns : goal.returns
 returns c =
     let a = c.args in
     let w = a.words.now in
-    rw (c.to_usize.ensures.0, c.number-size.ensures, le-leb (a.at + 2 + get_or w a.at 0) (length w) (ends (goal.at.returns c).Else-not-has_room))
+    rw (c.number-size.ensures, le-leb (a.at + 2 + get_or w a.at 0) (length w) (ends (goal.at.returns c).Else-not-has_room))

@@ -36,7 +36,7 @@ pub returns-then-bytes-start : goal.returns-then-bytes-start
 returns-then-bytes-start c =
     let a = c.args in
     let n = get_or a.words.now (a.at + 1) 0 in
-    record { value = rw (lt-leb (4 * (a.at + 2) + n) a.bytes (omega (arith, head (goal.at.returns-then-bytes-start c).Else-not-has_room, c.to_usize-count.ensures.0, c.second.ensures))); start_le_end = (omega arith, omega arith) }
+    record { value = rw (lt-leb (4 * (a.at + 2) + n) a.bytes (omega (arith, head (goal.at.returns-then-bytes-start c).Else-not-has_room, c.second-count.ensures))); start_le_end = (omega arith, omega arith) }
 
 pub overflow_add-result : goal.overflow_add-result
 overflow_add-result c = omega (arith, head (goal.at.overflow_add-result c).Else-not-has_room)
@@ -45,4 +45,4 @@ pub returns : goal.returns
 returns c =
     let a = c.args in
     let n = get_or a.words.now (a.at + 1) 0 in
-    record { value = rw (c.to_usize-count.ensures.0, c.second.ensures, le-leb (4 * (a.at + 2) + n) a.bytes (omega (arith, head (goal.at.returns c).Else-not-has_room, c.to_usize-count.ensures.0, c.second.ensures))); start_le_end = (omega arith, omega (arith, head (goal.at.returns c).Else-not-has_room)) }
+    record { value = rw (c.second-count.ensures, le-leb (4 * (a.at + 2) + n) a.bytes (omega (arith, head (goal.at.returns c).Else-not-has_room, c.second-count.ensures))); start_le_end = (omega arith, omega (arith, head (goal.at.returns c).Else-not-has_room)) }

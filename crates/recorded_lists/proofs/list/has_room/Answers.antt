@@ -6,10 +6,8 @@ use Rattle.recorded_lists.proofs.list.has_room.Goals as goal
 
 pub returns-then-most-size : goal.returns-then-most-size
 returns-then-most-size c =
-    let a = c.args in rw (lt-leb (a.at + 2 + a.n) a.most (omega (arith, c.to_usize-size.ensures.0)))
+    let a = c.args in rw (lt-leb (a.at + 2 + a.n) a.most (omega arith))
 
 pub returns : goal.returns
 returns c =
-    let a = c.args in
-    let w = c.to_usize-size.ensures.0 in
-    rw w (room a.at a.n a.most (omega (arith, w)))
+    let a = c.args in room a.at a.n a.most (omega arith)

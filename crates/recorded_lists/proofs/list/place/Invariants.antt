@@ -1,10 +1,7 @@
+-- The lists that are left lead to the place behind all.
+use Rattle.std.proofs.Common.{◌≡◌, ◌-◌}
 use Rattle.recorded_lists.specs.Lists.{place_of}
-use mathlib.Core.Path.{◌≡◌}
-use Prim.Native.Nat.{◌≤◌, ◌-◌}
 use Rattle.recorded_lists.proofs.list.place.Given as goal
 
-abbrev pub invariant-loop-i : goal.invariant-loop-i
-invariant-loop-i l = (l.i ≤ l.k) × (place_of l.words l.at (l.k - l.i) ≡ place_of l.words l.from l.k)
-
-abbrev pub decreases-loop-i : goal.decreases-loop-i
-decreases-loop-i l = l.k - l.i
+abbrev pub invariant-loop : goal.invariant-loop
+invariant-loop l = place_of l.words l.at (l.k - l.counter) ≡ place_of l.words l.from l.k

@@ -28,10 +28,10 @@ pub overflow_add-start : goal.overflow_add-start
 overflow_add-start c = omega (arith, ends c)
 
 pub overflow_add-result : goal.overflow_add-result
-overflow_add-result c = omega (arith, ends (goal.at.overflow_add-result c).Else-not-has_room, c.to_usize.ensures.0, c.second-count.ensures)
+overflow_add-result c = omega (arith, ends (goal.at.overflow_add-result c).Else-not-has_room, c.second-count.ensures)
 
 pub returns : goal.returns
 returns c =
     let a = c.args in
     let w = a.words.now in
-    record { value = rw (c.to_usize.ensures.0, c.second-count.ensures, le-leb (a.at + 2 + get_or w (a.at + 1) 0) (length w) (ends (goal.at.returns c).Else-not-has_room)); start_le_end = (omega arith, omega (arith, ends (goal.at.returns c).Else-not-has_room, c.to_usize.ensures.0, c.second-count.ensures)) }
+    record { value = rw (c.second-count.ensures, le-leb (a.at + 2 + get_or w (a.at + 1) 0) (length w) (ends (goal.at.returns c).Else-not-has_room)); start_le_end = (omega arith, omega (arith, ends (goal.at.returns c).Else-not-has_room, c.second-count.ensures)) }

@@ -1,5 +1,0 @@
-use borrow.Author.Rules.{rules}
-use Rattle.dct_select.proofs.TransformType.dct_select_size.Goals as goal
-
-pub returns : goal.returns
-returns c = rw c.carried-c.ensures

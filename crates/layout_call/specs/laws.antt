@@ -1,2 +1,0 @@
--- what is proved from the definitions
-pub mod CallSteps

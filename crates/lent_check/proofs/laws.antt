@@ -1,0 +1,3 @@
+-- what proofs share
+pub mod Clear
+pub mod Most
