@@ -8,26 +8,34 @@ pub struct Function<'a> {
     pub public: bool,
     /// Exported to C.
     pub exported: bool,
+    /// What the impl says of it by a ghost member, where it does.
+    given: Option<&'a str>,
     /// Its heading's lines.
     head: Vec<&'a str>,
 }
 
-/// The functions of a source, those of an `impl` too.
+/// The functions of a source, those of an `impl` too. One of a trait of the library, whose promise the
+/// impl gives, is public.
 pub fn functions(source: &str) -> Vec<Function<'_>> {
     let mut found = Vec::new();
+    let mut last = None;
     let mut lines = source.lines().map(str::trim);
     while let Some(line) = lines.next() {
+        last = gives(line).or(last);
         let Some((name, public)) = begins(line) else {
             continue;
         };
+        let given = last.take().filter(|(of, _)| *of == name);
+        let given = given.map(|(_, promise)| promise);
         let mut head = vec![line];
         while !opens_body(head[head.len() - 1]) {
             head.extend(lines.next());
         }
         found.push(Function {
             name,
-            public,
+            public: public || given.is_some(),
             exported: line.starts_with("pub extern "),
+            given,
             head,
         });
     }
@@ -48,16 +56,15 @@ impl<'a> Function<'a> {
             .flat_map(|line| line.split(['(', ',', '<']));
         let parameters = parameters.filter_map(|part| part.split_once(':'));
         let mut taken: BTreeSet<_> = parameters.map(|(name, _)| name.trim()).collect();
-        let clauses: Vec<_> = self.head[start..]
-            .iter()
-            .flat_map(|line| words(unnamed(line)))
-            .collect();
+        let promises = self.head[start..].iter().map(|line| unnamed(line));
+        let clauses: Vec<_> = promises.chain(self.given).flat_map(words).collect();
         taken.extend(bound(&clauses));
         cited(&clauses, &taken)
     }
 }
 
-/// What is wrong with the public functions of a source: each has an `ensures`, none a `requires`.
+/// What is wrong with the public functions of a source: each has an `ensures` or is given one, none has
+/// a `requires`.
 pub fn faults(source: &str) -> Vec<String> {
     let mut faults = Vec::new();
     for function in functions(source).iter().filter(|function| function.public) {
@@ -65,7 +72,7 @@ pub fn faults(source: &str) -> Vec<String> {
         if function.has("requires") {
             faults.push(format!("{name} is public and has a `requires`"));
         }
-        if !function.has("ensures") {
+        if !function.has("ensures") && function.given.is_none() {
             faults.push(format!("{name} is public and has no `ensures`"));
         }
     }
@@ -79,6 +86,13 @@ pub fn begins(line: &str) -> Option<(&str, bool)> {
     let rest = rest.strip_prefix("extern \"C\" ").unwrap_or(rest);
     let name = rest.strip_prefix("fn ")?.split(['(', '<']).next()?;
     Some((name, public.is_some()))
+}
+
+/// The function of which an impl says here by a ghost member what it promises, and the promise:
+/// `ghost try_from_gives = { .. };`.
+pub fn gives(line: &str) -> Option<(&str, &str)> {
+    let (member, promise) = line.strip_prefix("ghost ")?.split_once(" = ")?;
+    Some((member.strip_suffix("_gives")?, promise))
 }
 
 /// A line of a contract from its clause's bracket on: a clause may have a name, `ensures NAME { .. }`.
@@ -110,6 +124,22 @@ mod tests {
         let kept = "pub(crate) fn f()\n    requires { A }\n{\n}\nfn g() {\n}\n";
         assert!(faults(kept).is_empty());
         assert!(faults("pub fn h()\n    ensures { A }\n{\n}\n").is_empty());
+    }
+
+    #[test]
+    fn an_impl_gives_a_promise() {
+        let source = "impl TryFrom<u32> for T {\n    ghost try_from_gives = { λ n found. answered found ≡ look_up n };\n\n    \
+                      fn try_from(n: u32) -> Result<Self, R> {\n        g(n)\n    }\n\n    fn other() {\n    }\n}\n";
+        let found = functions(source);
+        let told: Vec<_> = found
+            .iter()
+            .map(|found| (found.name, found.public))
+            .collect();
+        assert_eq!(told, [("try_from", true), ("other", false)]);
+        assert_eq!(found[0].cites(), ["answered", "≡", "look_up"]);
+        assert!(faults(source).is_empty());
+        let silent = source.replace("try_from_gives", "gives_nothing");
+        assert!(!functions(&silent)[0].public);
     }
 
     #[test]

@@ -3,7 +3,7 @@
 
 use std::collections::{BTreeMap, BTreeSet};
 
-use crate::contracts::begins;
+use crate::contracts::{begins, gives};
 use crate::definitions::{of_code, part_of_name};
 
 /// The files of a crate, by their place in it.
@@ -85,14 +85,17 @@ fn items(files: &Files) -> Vec<Item<'_>> {
     let mut items: Vec<Item> = Vec::new();
     let code = files.iter().filter(|(file, _)| file.starts_with("src/"));
     for (file, source) in code {
+        let mut given = None;
         for line in source.lines() {
+            given = gives(line.trim()).map(|(of, _)| of).or(given);
             let function = begins(line.trim());
             let declared = of_code(line).first().copied();
             if let Some(name) = declared {
+                let promised = given.take() == Some(name);
                 items.push(Item {
                     file,
                     name,
-                    public: function.is_some_and(|(_, public)| public),
+                    public: function.is_some_and(|(_, public)| public || promised),
                     text: String::new(),
                 });
             }

@@ -25,7 +25,8 @@ pub struct ContextResult {
     pub contexts: HfBlockContext,
 }
 
-// The bits read, and the record but for the lists and the map.
+// The bits read, and the record but for the lists and the map, which are lent in fixed places, without a heap; the lists' lengths
+// stand here.
 #[derive(Clone, Copy)]
 pub struct ContextParts {
     pub bits_read: usize,

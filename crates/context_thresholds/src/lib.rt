@@ -23,9 +23,11 @@ pub trait Threshold {
 }
 
 // Of the LF lists: a signed number, as its bit pattern.
+#[derive(Clone, Copy)]
 pub struct Lf;
 
 // Of the qf list.
+#[derive(Clone, Copy)]
 pub struct Qf;
 
 // How many values a list has, the place behind it, and the values in fixed places, without a heap;

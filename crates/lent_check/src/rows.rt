@@ -19,13 +19,13 @@ fn claim_four(depth: &mut [u8; 259], x: usize, n: usize, v: u8) -> bool
     requires { x < 256 }
     ensures { cond result (claimed depth.new (x + 4) (n - 4) v) Fault ≡ claimed depth.old x n v }
 {
-    let mut clear = true;
+    let mut found = 0;
     for i in 0..4 {
         let old = depth[x + i];
-        clear &= (n <= i) | (old == 0);
+        found = found.max(select_unpredictable(i < n, old, 0));
         depth[x + i] = select_unpredictable(i < n, v, old);
     }
-    clear
+    found == 0
 }
 
 // The n numbers from x on, which must be clear, now have depth v.

@@ -23,10 +23,21 @@ fn put_decimal(out: &mut [u8], at: usize, n: u64) -> usize
     put_bytes(out, at, &digits[..k])
 }
 
+// Puts one byte, with no call of a copy: a page has one behind each number.
+fn put_byte(out: &mut [u8], at: usize, byte: u8) -> usize
+    ensures { Puts out.old at (byte ∷ []) out.new result }
+{
+    if out.len() <= at {
+        return out.len();
+    }
+    out[at] = byte;
+    at + 1
+}
+
 // A number and a byte behind it.
 pub fn put_number(out: &mut [u8], at: usize, n: u64, behind: u8) -> usize
     ensures { Puts out.old at (decimal n ++ (behind ∷ [])) out.new result }
 {
     let to = put_decimal(out, at, n);
-    put_bytes(out, to, &[behind])
+    put_byte(out, to, behind)
 }

@@ -1,5 +1,5 @@
 -- The layout call as the code goes: one law for each way out.
-use Rattle.std.specs.Prelude.{◌≡◌, true, false, List, ℕ, ◌≤◌, Result}
+use Rattle.std.specs.Prelude.{◌≡◌, refl, true, false, List, ℕ, ◌≤◌, Result, Ok, Err}
 use Rattle.std.proofs.Common.{ap, ◌∙◌, arith}
 use borrow.Author.Tests.{le-leb}
 use Rattle.refusal.specs.declared.Refusal.{Refusal}
@@ -13,6 +13,15 @@ use Rattle.layout_placing.specs.Reading.{Job, job_by}
 use Rattle.refusal.specs.laws.Answer.{answered_by_lem}
 use Rattle.layout_reading.specs.laws.Outcome.{Told, handed, read_checks, read_of}
 use Rattle.layout_call.specs.Call.{leaves, Inputs, refuse, layout_of}
+
+-- what a reading answers is the call's answer
+abbrev pub answer_by : Result ℕ Stop → Result ℕ Refusal
+answer_by (Ok used) = Ok used
+answer_by (Err stop) = Err stop.why
+
+pub hands_on : (s : Result ℕ Stop) (k m g : List ℕ) → leaves (answer_by s) k m g ≡ (handed s k m g).outcome
+hands_on (Ok used) k m g = refl
+hands_on (Err stop) k m g = refl
 
 module _ (i : Inputs) (k m g : List ℕ) where
   pub call_size : size_fits i.width i.height ≡ false → refuse i k m g (said_at 2 0 0) ≡ layout_of i k m g
@@ -36,11 +45,12 @@ module _ (i : Inputs) (k m g : List ℕ) where
           answered_by_lem (λ (z : Told). z.outcome) (read_checks (job_in bw bh) k m g i.filter i.scale) _ _ ∙ rw (a, b, le-leb bw 256 w, le-leb bh 256 h) (rw (p, q))
 
       pub call_reads : (blocks : Blocks) → blocks ≡ blocks_of i.width i.height i.modes
-          → (r : Result ℕ Refusal) (s : Result ℕ Stop) (k' m' g' : List ℕ) → leaves r k' m' g' ≡ (handed s k' m' g').outcome
+          → (r : Result ℕ Refusal) (s : Result ℕ Stop) (k' m' g' : List ℕ) → r ≡ answer_by s
           → handed s k' m' g' ≡ read_of (job_in blocks.bw blocks.bh) k m g i.filter i.scale
           → leaves r k' m' g' ≡ layout_of i k m g
       call_reads blocks p r s k' m' g' e h =
           let w : blocks.bw ≡ bw_in i.width i.modes = ap (λ (z : Blocks). z.bw) p in
           let v : blocks.bh ≡ bh_in i.height i.modes = ap (λ (z : Blocks). z.bh) p in
-          e ∙ ap (λ (z : Told). z.outcome) h
-          ∙ reads blocks.bw blocks.bh (omega (arith, bw_most i.width i.height a i.modes)) (omega (arith, bh_most i.width i.height a i.modes)) w v
+          rw e
+          (hands_on s k' m' g' ∙ ap (λ (z : Told). z.outcome) h
+          ∙ reads blocks.bw blocks.bh (omega (arith, bw_most i.width i.height a i.modes)) (omega (arith, bh_most i.width i.height a i.modes)) w v)

@@ -1,7 +1,6 @@
-use Rattle.std.proofs.Common.{ℕ, ◌+◌, ◌-◌, ◌&&◌, ◌||◌, cond, leb, eqb, get_or, set, ap, sym, ◌∙◌}
-use Rattle.layout.specs.Check.{Fault}
-use Rattle.lent_check.specs.laws.Claims.{claimed, first_start}
-use Rattle.lent_check.proofs.laws.Clear.{clear_next}
+use Rattle.std.proofs.Common.{◌≡◌, ℕ, ◌+◌, cond, max, ltb, get_or, set, ap, sym, ◌∙◌}
+use Rattle.lent_check.specs.laws.Claims.{claiming, first_start, first_next}
+use Rattle.lent_check.proofs.laws.Most.{most}
 use Rattle.lent_check.proofs.rows.claim_four.Goals as goal
 
 pub loop-i-init : goal.loop-i-init
@@ -11,6 +10,9 @@ pub loop-i-preserved : goal.loop-i-preserved
 loop-i-preserved c =
     let a = c.args in
     let l = c.loop-i in
-    let clear = l.clear && (leb a.n l.i || eqb (get_or l.depth (a.x + l.i) 0) 0) in
-    l.invariant ∙ clear_next a.x a.n a.v l.i l.depth l.clear
-    ∙ ap (λ (k : ℕ). cond clear (claimed (set l.depth (a.x + l.i) k) (a.x + (l.i + 1)) (a.n - (l.i + 1)) a.v) Fault) (sym c.select_unpredictable.ensures)
+    let old = get_or l.depth (a.x + l.i) 0 in
+    let b = ltb l.i a.n in
+    let m : max l.found (cond b old 0) ≡ c.max-found.result = sym (c.max-found.ensures ∙ most l.found _ ∙ ap (max l.found) c.select_unpredictable.ensures) in
+    l.invariant ∙ first_next a.x a.n a.v l.found l.i l.depth
+    ∙ ap (λ (k : ℕ). claiming a.x a.n a.v k (l.i + 1) (set l.depth (a.x + l.i) (cond b a.v old))) m
+    ∙ ap (λ (k : ℕ). claiming a.x a.n a.v c.max-found.result (l.i + 1) (set l.depth (a.x + l.i) k)) (sym c.select_unpredictable-in-loop-i.ensures)
