@@ -1,5 +1,5 @@
 -- The test of sameness passes exactly equal lists; and its loop.
-use Rattle.std.specs.Prelude.{◌≡◌, refl, Bool, false, ◌&&◌, ◌↔◌, List, [], ◌∷◌, ℕ}
+use Rattle.std.specs.Prelude.{◌≡◌, refl, Bool, false, ◌&&◌, ◌↔◌, List, [], ◌∷◌, ℕ, suc}
 use Rattle.std.proofs.Math.Path.{ap}
 use Rattle.std.proofs.Common.{eqb-true, eq-eqb}
 use Rattle.std.proofs.Math.Bool.{true}
@@ -39,3 +39,15 @@ pointwise_same eq [] [] = refl
 pointwise_same eq [] (y ∷ m) = refl
 pointwise_same eq (x ∷ l) [] = refl
 pointwise_same eq (x ∷ l) (y ∷ m) = ap (λ (t : Bool). eq x y && t) (pointwise_same eq l m)
+
+no_more : (t b : Bool) → false ≡ b → false ≡ t && b
+no_more true b e = e
+no_more false b e = refl
+
+-- lists of two lengths are not the same
+pub other_lengths : {A : Type 0} (eq : A → A → Bool) (a b : List A) → (length a ≡ length b → ⊥) → false ≡ same_by eq a b
+unfolding same_by
+other_lengths eq [] [] n = absurd (n refl)
+other_lengths eq [] (y ∷ m) n = refl
+other_lengths eq (x ∷ l) [] n = refl
+other_lengths eq (x ∷ l) (y ∷ m) n = no_more (eq x y) (same_by eq l m) (other_lengths eq l m (λ e. n (ap suc e)))
