@@ -45,12 +45,11 @@ module _ (i : Inputs) (k m g : List ℕ) where
           answered_by_lem (λ (z : Told). z.outcome) (read_checks (job_in bw bh) k m g i.filter i.scale) _ _ ∙ rw (a, b, le-leb bw 256 w, le-leb bh 256 h) (rw (p, q))
 
       pub call_reads : (blocks : Blocks) → blocks ≡ blocks_of i.width i.height i.modes
-          → (r : Result ℕ Refusal) (s : Result ℕ Stop) (k' m' g' : List ℕ) → r ≡ answer_by s
+          → (r : Result ℕ Refusal) (s : Result ℕ Stop) (k' m' g' : List ℕ) → leaves r k' m' g' ≡ (handed s k' m' g').outcome
           → handed s k' m' g' ≡ read_of (job_in blocks.bw blocks.bh) k m g i.filter i.scale
           → leaves r k' m' g' ≡ layout_of i k m g
       call_reads blocks p r s k' m' g' e h =
           let w : blocks.bw ≡ bw_in i.width i.modes = ap (λ (z : Blocks). z.bw) p in
           let v : blocks.bh ≡ bh_in i.height i.modes = ap (λ (z : Blocks). z.bh) p in
-          rw e
-          (hands_on s k' m' g' ∙ ap (λ (z : Told). z.outcome) h
-          ∙ reads blocks.bw blocks.bh (omega (arith, bw_most i.width i.height a i.modes)) (omega (arith, bh_most i.width i.height a i.modes)) w v)
+          e ∙ ap (λ (z : Told). z.outcome) h
+          ∙ reads blocks.bw blocks.bh (omega (arith, bw_most i.width i.height a i.modes)) (omega (arith, bh_most i.width i.height a i.modes)) w v

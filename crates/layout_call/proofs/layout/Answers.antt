@@ -1,6 +1,7 @@
 use Rattle.std.proofs.Common.{rules, ◌≡◌, ◌∙◌, sym}
-use Rattle.layout_call.specs.Call.{Inputs, inputs}
-use Rattle.layout_call.proofs.laws.CallSteps.{answer_by, call_size, call_modes, call_reads}
+use Rattle.layout_call.specs.Call.{Inputs, leaves, inputs}
+use Rattle.layout_call.proofs.laws.CallSteps.{answer_by, hands_on, call_size, call_modes, call_reads}
+use Rattle.layout_reading.specs.laws.Outcome.{handed}
 use Rattle.layout_call.proofs.layout.Goals.{Start}
 use Rattle.layout_call.proofs.layout.Goals as goal
 
@@ -22,7 +23,8 @@ returns-then-not-modes_fit c =
 pub returns : goal.returns
 returns c =
     let a = c.args in
-    let e : c.map_err.result ≡ answer_by c.read.result = search rules in
+    let m : c.map_err.result ≡ answer_by c.read.result = search rules in
+    let e : leaves c.map_err.result c.read.new.kinds c.read.new.hf_mul c.read.new.sigma ≡ (handed c.read.result c.read.new.kinds c.read.new.hf_mul c.read.new.sigma).outcome = rw m (hands_on c.read.result c.read.new.kinds c.read.new.hf_mul c.read.new.sigma) in
     call_reads (lent (goal.at.returns c).Start) a.kinds.now a.hf_mul.now a.sigma.now
     (sym c.size_fits.ensures ∙ c.if-not-size_fits.false) (sym c.modes_fit.ensures ∙ c.if-not-modes_fit.false)
     c.blocks_of-blocks.result c.blocks_of-blocks.ensures _ c.read.result c.read.new.kinds c.read.new.hf_mul c.read.new.sigma e c.read.ensures
